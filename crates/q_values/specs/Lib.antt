@@ -1,0 +1,12 @@
+pub mod Atom
+pub mod Bytes
+pub mod Column
+pub mod Contents
+pub mod Limits
+pub mod Lists
+pub mod Order
+pub mod Refusal
+pub mod Sym
+pub mod Symbols
+pub mod Table
+pub mod Tree

@@ -1,0 +1,48 @@
+use std::alloc::{AllocError, AllocFailed};
+use thiserror::Error;
+
+#[derive(Clone, Copy, Debug, PartialEq, Eq, Error)]
+#[error("out of memory")]
+pub struct NoMemory;
+
+impl From<AllocError> for NoMemory {
+    fn from(_e: AllocError) -> NoMemory {
+        NoMemory
+    }
+}
+
+impl<T: Drop> From<AllocFailed<T>> for NoMemory {
+    fn from(_e: AllocFailed<T>) -> NoMemory {
+        NoMemory
+    }
+}
+
+#[derive(Clone, Copy, Debug, PartialEq, Eq, Error)]
+pub enum VectorRefusal {
+    #[error("another kind")]
+    KindMismatch,
+    #[error("out of memory")]
+    NoMemory,
+}
+
+impl From<AllocError> for VectorRefusal {
+    ghost use Rattle.std.specs.Prelude.{◌≡◌};
+    ghost use Rattle.q_values.specs.declared.refusal.VectorRefusal.TheVariants as r;
+
+    ghost from_gives = { λ _ e. e ≡ r.NoMemory };
+
+    fn from(_e: AllocError) -> VectorRefusal {
+        VectorRefusal::NoMemory
+    }
+}
+
+impl<T: Drop> From<AllocFailed<T>> for VectorRefusal {
+    ghost use Rattle.std.specs.Prelude.{◌≡◌};
+    ghost use Rattle.q_values.specs.declared.refusal.VectorRefusal.TheVariants as r;
+
+    ghost from_gives = { λ _ e. e ≡ r.NoMemory };
+
+    fn from(_e: AllocFailed<T>) -> VectorRefusal {
+        VectorRefusal::NoMemory
+    }
+}

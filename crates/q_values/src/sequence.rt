@@ -1,0 +1,68 @@
+ghost use Rattle.std.specs.Prelude.{◌≡◌, ◌<◌, [], ◌∷◌, ◌++◌, length, Some, slice_get, OnOk, OnErr};
+
+use crate::refusal::NoMemory;
+use std::alloc::Global;
+use std::marker::Model;
+
+/// A list of items, seen by contracts as that list.
+#[derive(Drop)]
+pub struct Sequence<T> {
+    items: Vec<T>,
+}
+
+impl<T> Model for Sequence<T> {
+    ghost use Rattle.std.specs.Prelude.{List};
+
+    ghost Value = { List T };
+
+    ghost view = { λ s. s.items.items };
+}
+
+impl<T: Drop> Sequence<T> {
+    /// An empty list, which takes no memory.
+    pub fn new(alloc: Global) -> Sequence<T>
+        ensures { result ≡ [] }
+    {
+        Sequence {
+            items: Vec::new(alloc),
+        }
+    }
+
+    /// A list of these items, which are not copied.
+    pub fn of(items: Vec<T>) -> Sequence<T>
+        ensures { result ≡ items.items }
+    {
+        Sequence { items }
+    }
+
+    /// The number of items.
+    pub fn len(&self) -> usize
+        ensures { result ≡ length self.now }
+    {
+        self.items.len()
+    }
+
+    /// Puts the item at the end. A refused call changes nothing.
+    pub fn push(&mut self, item: T) -> Result<(), NoMemory>
+        ensures ok { OnOk result (self.new ≡ self.old ++ item ∷ []) }
+        ensures err { OnErr result (self.new ≡ self.old) }
+    {
+        self.items.push(item)?;
+        Ok(())
+    }
+
+    /// Lends the item at a place.
+    pub fn at(&self, i: usize) -> &T
+        requires { i < length self.now }
+        ensures { slice_get self.now i ≡ Some result.now }
+    {
+        &self.items[i]
+    }
+
+    /// Lends the items.
+    pub fn as_slice(&self) -> &[T]
+        ensures { result.now ≡ self.now }
+    {
+        self.items.as_slice()
+    }
+}

@@ -1,0 +1,120 @@
+//! Values: what a message or an answer holds.
+ghost use Rattle.std.specs.Prelude.{◌≡◌, ◌<◌, [], ◌∷◌, ◌++◌, length, map, Some, slice_get, OnOk, OnErr};
+ghost use Rattle.q_values.specs.Table.{IsTable, rows_of};
+
+use crate::atom::Atom;
+use crate::refusal::NoMemory;
+use crate::sequence::Sequence;
+use crate::sym::Sym;
+use crate::vector::Vector;
+use std::alloc::Global;
+
+/// The bytes of a text.
+pub type Text = Sequence<u8>;
+
+/// Names, as those of a table's columns.
+pub type Names = Sequence<Sym>;
+
+/// Vectors, as the columns of a table.
+pub type Columns = Sequence<Vector>;
+
+/// Places in a list, counted from 0.
+pub type Places = Sequence<usize>;
+
+/// A table: at least one column, a name for each, and columns of one length.
+#[derive(Drop)]
+pub struct TableValue {
+    pub names: Names,
+    pub columns: Columns,
+    pub ghost in_shape: { IsTable names columns },
+}
+
+/// A keyed table: the key columns and the others, of one length.
+#[derive(Drop)]
+pub struct KeyedValue {
+    pub keys: TableValue,
+    pub values: TableValue,
+    pub ghost of_one_length: { rows_of keys.columns ≡ rows_of values.columns },
+}
+
+/// A list of values, each of any kind.
+#[cycle(value)]
+#[derive(Drop)]
+pub struct Values {
+    items: Vec<Value>,
+}
+
+/// The two sides of a dictionary.
+#[cycle(value)]
+#[derive(Drop)]
+pub struct Pair {
+    pub keys: Value,
+    pub values: Value,
+}
+
+/// A kdb+ value.
+#[cycle(value)]
+#[derive(Drop)]
+pub enum Value {
+    Atom(Atom),
+    Vector(Vector),
+    List(Values),
+    Dict(Box<Pair>),
+    Table(TableValue),
+    Keyed(Box<KeyedValue>),
+    /// The identity `(::)`, which also answers what has no value.
+    Identity,
+    /// An error, with its text.
+    Wrong(Text),
+}
+
+impl Values {
+    ghost use Rattle.q_values.specs.Tree.{tree, trees};
+
+    /// An empty list, which takes no memory.
+    pub fn new(alloc: Global) -> Values
+        ensures { trees result ≡ [] }
+    {
+        Values {
+            items: Vec::new(alloc),
+        }
+    }
+
+    /// A list of these items, which are not copied.
+    pub fn of(items: Vec<Value>) -> Values
+        ensures { trees result ≡ map tree items.items }
+    {
+        Values { items }
+    }
+
+    /// The number of items.
+    pub fn len(&self) -> usize
+        ensures { result ≡ length (trees self.now) }
+    {
+        self.items.len()
+    }
+
+    /// Puts the item at the end. A refused call changes nothing.
+    pub fn push(&mut self, item: Value) -> Result<(), NoMemory>
+        ensures ok { OnOk result (trees self.new ≡ trees self.old ++ tree item ∷ []) }
+        ensures err { OnErr result (trees self.new ≡ trees self.old) }
+    {
+        self.items.push(item)?;
+        Ok(())
+    }
+
+    /// Lends the item at a place.
+    pub fn at(&self, i: usize) -> &Value
+        requires { i < length (trees self.now) }
+        ensures { slice_get (trees self.now) i ≡ Some (tree result.now) }
+    {
+        &self.items[i]
+    }
+
+    /// Lends the items.
+    pub fn as_slice(&self) -> &[Value]
+        ensures { map tree result.now ≡ trees self.now }
+    {
+        self.items.as_slice()
+    }
+}
