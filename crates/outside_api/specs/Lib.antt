@@ -1,0 +1,5 @@
+pub mod Counts
+pub mod Link
+pub mod Outside
+pub mod Told
+pub use Rattle.q_values.specs.Limits
