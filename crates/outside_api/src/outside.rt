@@ -19,7 +19,7 @@ pub trait Outside {
 
     type Link: Link;
 
-    type Gate: Gate;
+    type Gate: Gate + Drop;
 
     type Recorder: Recorder;
 

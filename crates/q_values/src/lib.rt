@@ -12,6 +12,8 @@ mod refusal;
 mod sequence;
 mod sym;
 mod symbols;
+#[cfg(test)]
+mod tests;
 mod turn;
 mod value;
 mod vector;

@@ -26,11 +26,13 @@ pub struct Limits {
 }
 
 impl Limits {
-    ghost use Rattle.q_values.specs.Limits.{AreLimits};
+    ghost use Rattle.std.specs.Prelude.{◌≡◌};
+    ghost use Rattle.q_values.specs.Limits.{AreLimits, standard_limits};
 
     /// The limits that a plant has unless others are given.
     pub fn standard() -> Limits
-        ensures { AreLimits result }
+        ensures these { result ≡ standard_limits }
+        ensures limits { AreLimits result }
     {
         Limits {
             message: 16_777_216,

@@ -1,6 +1,9 @@
+//! Why a call on values is refused.
+
 use std::alloc::{AllocError, AllocFailed};
 use thiserror::Error;
 
+/// Memory was wanting. What the call was to change is as before.
 #[derive(Clone, Copy, Debug, PartialEq, Eq, Error)]
 #[error("out of memory")]
 pub struct NoMemory;
@@ -17,10 +20,13 @@ impl<T: Drop> From<AllocFailed<T>> for NoMemory {
     }
 }
 
+/// Why a vector takes no more atoms. It is as before.
 #[derive(Clone, Copy, Debug, PartialEq, Eq, Error)]
 pub enum VectorRefusal {
+    /// What was to be added has another kind than the vector.
     #[error("another kind")]
     KindMismatch,
+    /// Memory was wanting.
     #[error("out of memory")]
     NoMemory,
 }

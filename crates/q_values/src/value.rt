@@ -52,15 +52,21 @@ pub struct Pair {
     pub values: Value,
 }
 
-/// A kdb+ value.
+/// A kdb+ value (KX, IPC reference).
 #[cycle(value)]
 #[derive(Drop)]
 pub enum Value {
+    /// One value.
     Atom(Atom),
+    /// Atoms of one kind.
     Vector(Vector),
+    /// Values of any kinds.
     List(Values),
+    /// Keys, and a value for each.
     Dict(Box<Pair>),
+    /// Named columns of one length.
     Table(TableValue),
+    /// A table of keys, and one of the other columns.
     Keyed(Box<KeyedValue>),
     /// The identity `(::)`, which also answers what has no value.
     Identity,
@@ -109,6 +115,13 @@ impl Values {
         ensures { slice_get (trees self.now) i ≡ Some (tree result.now) }
     {
         &self.items[i]
+    }
+
+    /// The items, which are not copied.
+    pub fn into_vec(self) -> Vec<Value>
+        ensures { map tree result.items ≡ trees self }
+    {
+        self.items
     }
 
     /// Lends the items.

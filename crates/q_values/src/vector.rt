@@ -1,3 +1,4 @@
+//! Vectors: atoms of one kind.
 ghost use Rattle.std.specs.Prelude.{◌≡◌, ◌≢◌, ◌<◌, ◌+◌, ◌≤◌, [], ◌∷◌, ◌++◌, length, map, take, drop, Some, slice_get, OnOk, OnErr, IfOk, IfErr, IfSome, IfNone, All};
 ghost use Rattle.q_values.specs.Atom.{kind_of};
 ghost use Rattle.q_values.specs.Lists.{gathered};
@@ -12,7 +13,7 @@ use crate::value::Places;
 use std::alloc::Global;
 use std::marker::Model;
 
-// Atoms of one kind, in typed storage.
+/// Atoms of one kind, in typed storage (KX, IPC reference). Contracts see its kind and the list of its atoms.
 #[derive(Drop)]
 pub struct Vector {
     column: Column,
@@ -31,6 +32,7 @@ impl Model for Vector {
 impl Vector {
     ghost use Rattle.q_values.specs.Column.{contents};
 
+    /// An empty vector of the kind, which takes no memory.
     pub fn new(alloc: Global, kind: Kind) -> Vector
         ensures { result ≡ record { kind = kind; atoms = [] } }
     {
@@ -39,18 +41,21 @@ impl Vector {
         }
     }
 
+    /// The kind of its atoms.
     pub fn kind(&self) -> Kind
         ensures { result ≡ self.now.kind }
     {
         self.column.kind()
     }
 
+    /// The number of atoms.
     pub fn len(&self) -> usize
         ensures { result ≡ length self.now.atoms }
     {
         self.column.len()
     }
 
+    /// The atom at the place `i`.
     pub fn at(&self, alloc: Global, i: usize) -> Result<Atom, NoMemory>
         requires { i < length self.now.atoms }
         ensures { IfOk result (λ atom. slice_get self.now.atoms i ≡ Some atom) }
@@ -58,6 +63,7 @@ impl Vector {
         self.column.at(alloc, i)
     }
 
+    /// Puts the atom at the end. An atom of another kind is refused, and a refused call changes nothing.
     pub fn push(&mut self, atom: Atom) -> Result<(), VectorRefusal>
         ensures ok { OnOk result (self.new ≡ record self.old { atoms = self.old.atoms ++ atom ∷ [] }) }
         ensures kind { OnOk result (kind_of atom ≡ self.old.kind) }
@@ -67,6 +73,7 @@ impl Vector {
         self.column.push(atom)
     }
 
+    /// A copy of the `n` atoms from the place `from` on.
     pub fn take(&self, alloc: Global, from: usize, n: usize) -> Result<Vector, NoMemory>
         requires { from + n ≤ length self.now.atoms }
         ensures { IfOk result
@@ -77,6 +84,7 @@ impl Vector {
         })
     }
 
+    /// A copy of the atoms at the places, in the order of the places.
     pub fn gather(&self, alloc: Global, places: &[usize]) -> Result<Vector, NoMemory>
         requires { All (λ i. i < length self.now.atoms) places.now }
         ensures { IfOk result
@@ -87,6 +95,7 @@ impl Vector {
         })
     }
 
+    /// Puts the atoms of the other vector behind its own. Another kind is refused, and a refused call changes nothing.
     pub fn append(&mut self, other: &Vector) -> Result<(), VectorRefusal>
         ensures ok { OnOk result
             (self.new ≡ record self.old { atoms = self.old.atoms ++ other.now.atoms }) }
@@ -97,7 +106,8 @@ impl Vector {
         self.column.append(&other.column)
     }
 
-    /// The places of the atoms in ascending order, ties by place.
+    /// The places of the atoms in ascending order, ties by place: symbols and characters by bytes, all others by
+    /// number, so that a null comes first.
     pub fn order(&self, alloc: Global) -> Result<Places, NoMemory>
         ensures { IfOk result (λ places. IsOrder atom_cmp self.now.atoms places) }
     {
@@ -116,40 +126,5 @@ impl Vector {
         ensures { contents result.now ≡ self.now }
     {
         &self.column
-    }
-}
-
-#[cfg(test)]
-mod tests {
-    use super::*;
-    use crate::sym::Sym;
-    use std::test::Fail;
-
-    #[test]
-    fn pushes_and_orders(rt: HostRuntime) -> Result<(), Fail> {
-        let mut v = Vector::new(rt.alloc(), Kind::Long);
-        for x in [5, -3, i64::MIN, 5, 7] {
-            v.push(Atom::Long(x))?;
-        }
-        assert_eq!(rt; v.push(Atom::Date(1)), Err(VectorRefusal::KindMismatch));
-        assert_eq!(rt; v.len(), 5);
-        let places = v.order(rt.alloc())?;
-        assert_eq!(rt; places.as_slice(), [2, 1, 0, 3, 4].as_slice());
-        Ok(())
-    }
-
-    #[test]
-    fn orders_symbols(rt: HostRuntime) -> Result<(), Fail> {
-        let mut v = Vector::new(rt.alloc(), Kind::Symbol);
-        v.push(Atom::Symbol(Sym::of(rt.alloc(), b"msft")?))?;
-        v.push(Atom::Symbol(Sym::of(rt.alloc(), b"aapl")?))?;
-        v.push(Atom::Symbol(Sym::of(rt.alloc(), b"")?))?;
-        v.push(Atom::Symbol(Sym::of(rt.alloc(), b"aapl")?))?;
-        let mut w = v.take(rt.alloc(), 0, v.len())?;
-        w.append(&v)?;
-        assert_eq!(rt; w.len(), 8);
-        let places = w.order(rt.alloc())?;
-        assert_eq!(rt; places.as_slice(), [2, 6, 1, 3, 5, 7, 0, 4].as_slice());
-        Ok(())
     }
 }

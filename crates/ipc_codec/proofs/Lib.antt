@@ -1,0 +1,12 @@
+pub mod ReadingLemmas
+pub mod ExtentLemmas
+pub mod WritingLemmas
+pub mod ItemsLemmas
+pub mod TreeLemmas
+pub mod CellsLemmas
+pub mod FrontLemmas
+pub mod SpellsLemmas
+pub mod SpelledLemmas
+pub mod LawLemmas
+pub mod WrittenLemmas
+pub mod PlainLemmas

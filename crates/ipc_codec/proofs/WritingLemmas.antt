@@ -1,0 +1,86 @@
+use Rattle.std.proofs.Common.{◌≡◌, ℕ, ℤ, zero, suc, ◌+◌, ◌-◌, ◌<◌, ◌≤◌, Bool, true, false, List, [], ◌∷◌, ◌++◌, length, get_or, take, drop, map, Result, Ok, Err, refl, sym, ap, ◌∙◌, append_assoc, arith}
+use Rattle.std.specs.List.{flat_map}
+use Rattle.std.specs.Int.{w16, w32, w64, cast_unsigned}
+use Rattle.std.proofs.lemmas.List.{take_all, take-append-le, length-append, take-take}
+use Rattle.std.specs.Prelude.{if◌then◌else◌, slice_get, Some, OnOk}
+use Rattle.std.proofs.lemmas.List.{append-nil}
+use Rattle.byteorder.specs.Endian.{little_bytes}
+use Rattle.q_values.specs.Column.{byte_atom, integer_atom, long_atom}
+use Rattle.q_values.specs.declared.atom.Atom.{Atom}
+use Rattle.q_values.specs.declared.atom.Atom.TheVariants as a
+use Rattle.q_values.specs.declared.kind.ByteKind.{ByteKind}
+use Rattle.q_values.specs.declared.kind.ByteKind.TheVariants as b
+use Rattle.q_values.specs.declared.kind.IntegerKind.{IntegerKind}
+use Rattle.q_values.specs.declared.kind.IntegerKind.TheVariants as i
+use Rattle.q_values.specs.declared.kind.LongKind.{LongKind}
+use Rattle.q_values.specs.declared.kind.LongKind.TheVariants as l
+use Rattle.ipc_codec.specs.Appends.{Begins}
+use Rattle.ipc_codec.specs.Written.{element_bytes, text_bytes}
+
+pub Begins-same : (old new : List ℕ) → new ≡ old → Begins old new
+Begins-same old new e = record { kept = rw e (take_all (length old) old (omega arith)) }
+
+pub Begins-append : (old more new : List ℕ) → new ≡ old ++ more → Begins old new
+Begins-append old more new e = record { kept = rw e (take-append-le (length old) old more (omega arith) ∙ take_all (length old) old (omega arith)) }
+
+pub Begins-then : (old more new : List ℕ) → Begins (old ++ more) new → Begins old new
+Begins-then old more new h =
+    let short : length old ≤ length (old ++ more) = omega (arith, length-append old more) in
+    let one : take (length old) (take (length (old ++ more)) new) ≡ take (length old) new = take-take (length old) (length (old ++ more)) new short in
+    record { kept = sym one ∙ ap (take (length old)) h.kept ∙ take-append-le (length old) old more (omega arith) ∙ take_all (length old) old (omega arith) }
+
+pub ruleset begins = (Begins-same, Begins-append, Begins-then, append_assoc)
+
+-- ---- elements
+
+flat_map-map : {X : Type 0} (f : X → Atom) (xs : List X) → flat_map element_bytes (map f xs) ≡ flat_map (λ x. element_bytes (f x)) xs
+flat_map-map f [] = refl
+flat_map-map f (x ∷ xs) = ap (λ r. element_bytes (f x) ++ r) (flat_map-map f xs)
+
+pub bytes_of_booleans : (xs : List Bool) → flat_map element_bytes (map (λ x. a.Boolean x) xs) ≡ map (λ x. if x then 1 else 0) xs
+bytes_of_booleans [] = refl
+bytes_of_booleans (x ∷ xs) = ap (λ r. (if x then 1 else 0) ∷ r) (bytes_of_booleans xs)
+
+pub bytes_of_bytes : (kind : ByteKind) (xs : List ℕ) → flat_map element_bytes (map (byte_atom kind) xs) ≡ xs
+bytes_of_bytes b.Byte [] = refl
+bytes_of_bytes b.Byte (x ∷ xs) = ap (λ r. x ∷ r) (bytes_of_bytes b.Byte xs)
+bytes_of_bytes b.Character [] = refl
+bytes_of_bytes b.Character (x ∷ xs) = ap (λ r. x ∷ r) (bytes_of_bytes b.Character xs)
+
+pub bytes_of_shorts : (xs : List ℤ) → flat_map element_bytes (map (λ x. a.Short x) xs) ≡ flat_map (λ x. little_bytes 2 (cast_unsigned w16 x)) xs
+bytes_of_shorts xs = flat_map-map (λ x. a.Short x) xs
+
+pub bytes_of_integers : (kind : IntegerKind) (xs : List ℤ) → flat_map element_bytes (map (integer_atom kind) xs) ≡ flat_map (λ x. little_bytes 4 (cast_unsigned w32 x)) xs
+bytes_of_integers i.Integer xs = flat_map-map (integer_atom i.Integer) xs
+bytes_of_integers i.Month xs = flat_map-map (integer_atom i.Month) xs
+bytes_of_integers i.Date xs = flat_map-map (integer_atom i.Date) xs
+bytes_of_integers i.Minute xs = flat_map-map (integer_atom i.Minute) xs
+bytes_of_integers i.Second xs = flat_map-map (integer_atom i.Second) xs
+bytes_of_integers i.Time xs = flat_map-map (integer_atom i.Time) xs
+
+pub bytes_of_longs : (kind : LongKind) (xs : List ℤ) → flat_map element_bytes (map (long_atom kind) xs) ≡ flat_map (λ x. little_bytes 8 (cast_unsigned w64 x)) xs
+bytes_of_longs l.Long xs = flat_map-map (long_atom l.Long) xs
+bytes_of_longs l.Timestamp xs = flat_map-map (long_atom l.Timestamp) xs
+bytes_of_longs l.Timespan xs = flat_map-map (long_atom l.Timespan) xs
+
+pub bytes_of_symbols : (xs : List (List ℕ)) → flat_map element_bytes (map (λ x. a.Symbol x) xs) ≡ flat_map text_bytes xs
+bytes_of_symbols xs = flat_map-map (λ x. a.Symbol x) xs
+
+pub ruleset elements = (begins, bytes_of_booleans, bytes_of_bytes, bytes_of_shorts, bytes_of_integers, bytes_of_longs, bytes_of_symbols)
+
+-- one more of a list that is written in turn
+pub flat_map-more : {X : Type 0} (f : X → List ℕ) (xs : List X) (i : ℕ) (x : X) → slice_get xs i ≡ Some x → flat_map f (take (i + 1) xs) ≡ flat_map f (take i xs) ++ f x
+flat_map-more f [] zero x e = absurd cc
+flat_map-more f [] (suc i) x e = absurd cc
+flat_map-more f (y ∷ xs) zero x e =
+    let same : y ≡ x = cc in
+    rw same (append-nil (f x))
+flat_map-more f (y ∷ xs) (suc i) x e =
+    let n : suc i + 1 ≡ suc (i + 1) = omega arith in
+    let rest = flat_map-more f xs i x e in
+    rw (n, rest) (sym (append_assoc (f y) (flat_map f (take i xs)) (f x)))
+
+-- what holds on Ok, by what held on Ok
+pub ok_then : {A E P Q : Type 0} (r : Result A E) → (P → Q) → OnOk r P → OnOk r Q
+ok_then (Ok x) step h = step h
+ok_then (Err e) step h = tt

@@ -1,0 +1,9 @@
+pub mod Types
+pub mod Numbers
+pub mod Reading
+pub mod Extent
+pub mod Written
+pub mod Appends
+pub mod Spells
+pub mod Laws
+pub mod Decoded

@@ -1,0 +1,78 @@
+// What objects begin with, or hold between other parts.
+ghost use Rattle.std.specs.Prelude.{◌≡◌, ◌<◌, ◌^◌, ◌≤◌, length, IfOk, position, IfNone, ◌==◌};
+ghost use Rattle.q_values.specs.Bytes.{HasNoNul};
+ghost use Rattle.ipc_codec.specs.Numbers.{number};
+ghost use Rattle.ipc_codec.specs.Reading.{Finds, count_at, text_at, part_at};
+
+use crate::fault::Fault;
+use crate::order::Order;
+use byteorder::{BigEndian, ByteOrder, LittleEndian};
+
+fn number_of(bytes: &[u8], order: Order) -> u32
+    requires { 4 ≤ length bytes.now }
+    ensures { result ≡ number order 4 bytes.now }
+{
+    match order {
+        Order::Little => LittleEndian::read_u32(bytes),
+        Order::Big => BigEndian::read_u32(bytes),
+    }
+}
+
+// An attribute byte and a count.
+#[tactic(auto, unfolding(crate::specs::Reading::count_at))]
+pub fn count_of(bytes: &[u8], order: Order) -> Result<(usize, &[u8]), Fault>
+    ensures found { Finds (λ x. (x.0, x.1.now)) result (count_at order bytes.now) }
+    ensures within { IfOk result (λ x. x.0 < 2 ^ 31) }
+{
+    match bytes {
+        [] => Err(Fault::Truncated),
+        [_, rest @ ..] => {
+            if rest.len() < 4 {
+                return Err(Fault::Truncated);
+            }
+            let count = number_of(rest, order);
+            if count > 2_147_483_647 {
+                return Err(Fault::BadShape(rest.len()));
+            }
+            Ok((count as usize, &rest[4..]))
+        }
+    }
+}
+
+// Where the first 0 stands.
+fn first_nul(bytes: &[u8]) -> Option<usize>
+    ensures first { result ≡ position (λ b. b == 0) bytes.now }
+    ensures none { IfNone result (HasNoNul bytes.now) }
+{
+    bytes.iter().position(|b| *b == 0)
+}
+
+// A text that a 0 ends.
+pub fn text_of(bytes: &[u8]) -> Result<(&[u8], &[u8]), Fault>
+    ensures found { Finds (λ x. (x.0.now, x.1.now)) result (text_at bytes.now) }
+    ensures no_nul { IfOk result (λ x. HasNoNul x.0.now) }
+{
+    match first_nul(bytes) {
+        None => Err(Fault::Truncated),
+        Some(end) => Ok((&bytes[..end], &bytes[end + 1..])),
+    }
+}
+
+// The bytes behind a type byte that has to be this one or that one.
+#[tactic(auto, unfolding(crate::specs::Reading::part_at))]
+pub fn part_of(bytes: &[u8], room: u32, this: u8, that: u8) -> Result<&[u8], Fault>
+    ensures { Finds (λ x. x.now) result (part_at room this that bytes.now) }
+{
+    match bytes {
+        [] => Err(Fault::Truncated),
+        [first, rest @ ..] => {
+            if room == 0 {
+                Err(Fault::TooDeep(bytes.len()))
+            } else if *first == this || *first == that {
+                Ok(rest)
+            } else {
+                Err(Fault::BadShape(bytes.len()))
+            }
+        }
+    }
+}

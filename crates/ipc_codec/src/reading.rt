@@ -1,0 +1,397 @@
+// The values of bytes.
+ghost use Rattle.std.specs.Prelude.{◌≡◌, ◌<◌, ◌^◌, ◌≤◌, ℕ, length, take, map, nat_eq, Ok, IfOk, IfErr};
+ghost use Rattle.q_values.specs.Bytes.{HasNoNul};
+ghost use Rattle.q_values.specs.Column.{contents};
+ghost use Rattle.q_values.specs.Table.{rows_of};
+ghost use Rattle.q_values.specs.Tree.{Tree, tree, trees, items_of, keyed, identity};
+ghost use Rattle.ipc_codec.specs.Reading.{Gives, Finds, list_at, shaped, checked, identity_at, texts_at, elements_at, vector_at, atom_at, column_at, columns_at, is_even, names_at, list_of_columns_at, grid_at, extent, joined, items_at, dictionary_at, object_by, object_at, object_of, RefusesObject};
+ghost use Rattle.ipc_codec.specs.Spells.{Spells};
+ghost use Rattle.ipc_codec.specs.Decoded.{Reads};
+ghost use Rattle.ipc_codec.specs.Written.{IsPlain, AtomsFit};
+
+use crate::elements::{column_of, element_of};
+use crate::fault::{Fault, Stop};
+use crate::form::{Form, form_of_byte, kind_of_type, width_of};
+use crate::heads::{count_of, part_of, text_of};
+use crate::order::Order;
+use crate::refusal::DecodeRefusal;
+use q_values::{
+    Atom, Column, KeyedValue, Kind, Pair, Sequence, Sym, Symbols, TableValue, Text, Value, Values,
+    Vector,
+};
+use std::alloc::Global;
+
+fn symbols_of(alloc: Global, bytes: &[u8], count: usize) -> Result<(Symbols, &[u8]), Stop>
+    ensures { Gives (λ x. (x.0, x.1.now)) result (texts_at count bytes.now) }
+{
+    let mut symbols = Symbols::new(alloc);
+    let mut rest = bytes;
+    for _ in 0..count {
+        let (text, after) = text_of(rest)?;
+        symbols.push(text)?;
+        rest = after;
+    }
+    Ok((symbols, rest))
+}
+
+#[tactic(auto, unfolding(crate::specs::Reading::elements_at, crate::specs::Reading::cells_at, crate::specs::Reading::symbols_at))]
+fn elements_of(
+    alloc: Global,
+    bytes: &[u8],
+    order: Order,
+    kind: Kind,
+    count: usize,
+) -> Result<(Column, &[u8]), Stop>
+    requires { count < 2 ^ 31 }
+    ensures found { Gives (λ x. ((contents x.0).atoms, x.1.now)) result (elements_at order kind count bytes.now) }
+    ensures kind { IfOk result (λ x. (contents x.0).kind ≡ kind) }
+{
+    if kind == Kind::Symbol {
+        let (symbols, rest) = symbols_of(alloc, bytes, count)?;
+        return Ok((Column::Symbols(symbols), rest));
+    }
+    let size = count * width_of(kind);
+    if bytes.len() < size {
+        return Err(Stop::At(Fault::Truncated));
+    }
+    Ok((column_of(alloc, bytes, order, kind, count)?, &bytes[size..]))
+}
+
+#[tactic(auto, unfolding(crate::specs::Reading::vector_at))]
+fn vector_of(alloc: Global, bytes: &[u8], order: Order, kind: Kind) -> Result<(Vector, &[u8]), Stop>
+    ensures { Gives (λ x. (x.0, x.1.now)) result (vector_at order kind bytes.now) }
+{
+    let (count, rest) = count_of(bytes, order)?;
+    let (column, rest) = elements_of(alloc, rest, order, kind, count)?;
+    Ok((Vector::of(column), rest))
+}
+
+#[tactic(auto, unfolding(crate::specs::Reading::atom_at))]
+fn atom_of(alloc: Global, bytes: &[u8], order: Order, kind: Kind) -> Result<(Atom, &[u8]), Stop>
+    ensures { Gives (λ x. (x.0, x.1.now)) result (atom_at order kind bytes.now) }
+{
+    if kind == Kind::Symbol {
+        let (text, rest) = text_of(bytes)?;
+        return Ok((Atom::Symbol(Sym::copied(alloc, text)?), rest));
+    }
+    let size = width_of(kind);
+    if bytes.len() < size {
+        return Err(Stop::At(Fault::Truncated));
+    }
+    Ok((element_of(bytes, order, kind), &bytes[size..]))
+}
+
+#[tactic(auto, unfolding(crate::specs::Reading::column_at))]
+fn column_in_table(
+    alloc: Global,
+    bytes: &[u8],
+    order: Order,
+    room: u32,
+) -> Result<(Vector, &[u8]), Stop>
+    ensures { Gives (λ x. (x.0, x.1.now)) result (column_at room order bytes.now) }
+{
+    match bytes {
+        [] => Err(Stop::At(Fault::Truncated)),
+        [first, rest @ ..] => {
+            if room == 0 {
+                return Err(Stop::At(Fault::TooDeep(bytes.len())));
+            }
+            match kind_of_type(u16::from(*first)) {
+                None => Err(Stop::At(Fault::NotBuilt(bytes.len()))),
+                Some(kind) => vector_of(alloc, rest, order, kind),
+            }
+        }
+    }
+}
+
+fn columns_of(
+    alloc: Global,
+    bytes: &[u8],
+    order: Order,
+    room: u32,
+    count: usize,
+) -> Result<(Vec<Vector>, &[u8]), Stop>
+    ensures { Gives (λ x. (x.0.items, x.1.now)) result (columns_at room order count bytes.now) }
+{
+    let mut columns = Vec::new(alloc);
+    let mut rest = bytes;
+    for _ in 0..count {
+        let (column, after) = column_in_table(alloc, rest, order, room)?;
+        columns.push(column)?;
+        rest = after;
+    }
+    Ok((columns, rest))
+}
+
+fn syms_of(alloc: Global, bytes: &[u8], count: usize) -> Result<(Vec<Sym>, &[u8]), Stop>
+    ensures { Gives (λ x. (x.0.items, x.1.now)) result (texts_at count bytes.now) }
+{
+    let mut names = Vec::new(alloc);
+    let mut rest = bytes;
+    for _ in 0..count {
+        let (text, after) = text_of(rest)?;
+        let name = Sym::copied(alloc, text)?;
+        names.push(name)?;
+        rest = after;
+    }
+    Ok((names, rest))
+}
+
+#[tactic(auto, unfolding(crate::specs::Reading::names_at))]
+fn names_of(alloc: Global, bytes: &[u8], order: Order, room: u32) -> Result<(Vec<Sym>, &[u8]), Stop>
+    ensures { Gives (λ x. (x.0.items, x.1.now)) result (names_at room order bytes.now) }
+{
+    let inner = part_of(bytes, room, 11, 11)?;
+    let (count, rest) = count_of(inner, order)?;
+    syms_of(alloc, rest, count)
+}
+
+#[tactic(auto, unfolding(crate::specs::Reading::list_of_columns_at))]
+fn list_of_columns_of(
+    alloc: Global,
+    bytes: &[u8],
+    order: Order,
+    room: u32,
+) -> Result<(Vec<Vector>, &[u8]), Stop>
+    ensures { Gives (λ x. (x.0.items, x.1.now)) result (list_of_columns_at room order bytes.now) }
+{
+    let inner = part_of(bytes, room, 0, 0)?;
+    let (count, rest) = count_of(inner, order)?;
+    columns_of(alloc, rest, order, room.saturating_sub(1), count)
+}
+
+// The number of rows of these columns: that of the first.
+fn rows_in(columns: &[Vector]) -> usize
+    ensures { result ≡ rows_of columns.now }
+{
+    match columns {
+        [] => 0,
+        [first, ..] => first.len(),
+    }
+}
+
+// Whether columns all have this number of rows.
+fn are_even(columns: &[Vector], rows: usize) -> bool
+    ensures { result ≡ is_even rows columns.now }
+{
+    columns.iter().all(|column| column.len() == rows)
+}
+
+// A table behind its type byte, from which on this many bytes are left.
+#[tactic(auto, unfolding(crate::specs::Reading::grid_at))]
+fn table_of(
+    alloc: Global,
+    bytes: &[u8],
+    order: Order,
+    room: u32,
+    left: usize,
+) -> Result<(TableValue, &[u8]), Stop>
+    ensures { Gives (λ x. (record { names = x.0.names; columns = x.0.columns }, x.1.now)) result (grid_at left room order bytes.now) }
+{
+    match bytes {
+        [] => Err(Stop::At(Fault::Truncated)),
+        [_, rest @ ..] => {
+            let inner = part_of(rest, room, 99, 127)?;
+            let room = room.saturating_sub(1);
+            let (names, rest) = names_of(alloc, inner, order, room)?;
+            let (columns, rest) = list_of_columns_of(alloc, rest, order, room)?;
+            Ok((table_from(names, columns, left)?, rest))
+        }
+    }
+}
+
+fn table_from(names: Vec<Sym>, columns: Vec<Vector>, left: usize) -> Result<TableValue, Fault>
+    ensures { Finds (λ x. record { names = x.names; columns = x.columns }) result (shaped left names.items columns.items) }
+{
+    let rows = rows_in(&columns);
+    if columns.is_empty() || names.len() != columns.len() || !are_even(&columns, rows) {
+        return Err(Fault::BadShape(left));
+    }
+    Ok(TableValue {
+        names: Sequence::of(names),
+        columns: Sequence::of(columns),
+    })
+}
+
+// The number of items that a value counts as.
+fn extent_of(value: &Value) -> usize
+    ensures { result ≡ extent (tree value.now) }
+{
+    match value {
+        Value::Atom(_) => 1,
+        Value::Vector(vector) => vector.len(),
+        Value::List(items) => items.len(),
+        Value::Dict(pair) => extent_of(&pair.keys),
+        Value::Table(table) => rows_in(table.columns.as_slice()),
+        Value::Keyed(pair) => rows_in(pair.keys.columns.as_slice()),
+        Value::Identity => 1,
+        Value::Wrong(_) => 1,
+    }
+}
+
+fn dictionary_from(alloc: Global, keys: Value, values: Value, left: usize) -> Result<Value, Stop>
+    ensures { Gives tree result (joined left (tree keys) (tree values)) }
+{
+    match (keys, values) {
+        (Value::Table(keys), Value::Table(values)) => keyed_from(alloc, keys, values, left),
+        (keys, values) => {
+            if extent_of(&keys) != extent_of(&values) {
+                return Err(Stop::At(Fault::BadShape(left)));
+            }
+            Ok(Value::Dict(Box::new(alloc, Pair { keys, values })?))
+        }
+    }
+}
+
+fn keyed_from(
+    alloc: Global,
+    keys: TableValue,
+    values: TableValue,
+    left: usize,
+) -> Result<Value, Stop>
+    ensures { Gives tree result (checked (nat_eq (rows_of keys.columns) (rows_of values.columns)) left
+        (keyed (record { names = keys.names; columns = keys.columns }) (record { names = values.names; columns = values.columns }))) }
+{
+    if rows_in(keys.columns.as_slice()) != rows_in(values.columns.as_slice()) {
+        return Err(Stop::At(Fault::BadShape(left)));
+    }
+    Ok(Value::Keyed(Box::new(alloc, KeyedValue { keys, values })?))
+}
+
+#[tactic(auto, unfolding(crate::specs::Reading::identity_at))]
+fn identity_of(bytes: &[u8], left: usize) -> Result<&[u8], Fault>
+    ensures { Finds (λ x. (identity, x.now)) result (identity_at left bytes.now) }
+{
+    match bytes {
+        [] => Err(Fault::Truncated),
+        [0, rest @ ..] => Ok(rest),
+        [_, ..] => Err(Fault::NotBuilt(left)),
+    }
+}
+
+#[cycle(objects)]
+fn items_in(
+    alloc: Global,
+    bytes: &[u8],
+    order: Order,
+    room: u32,
+    count: usize,
+) -> Result<(Values, &[u8]), Stop>
+    ensures { Gives (λ x. (items_of (trees x.0), x.1.now)) result (items_at (object_at room order) count bytes.now) }
+{
+    let mut items = Values::new(alloc);
+    let mut rest = bytes;
+    for _ in 0..count {
+        let (item, after) = object_in(alloc, rest, order, room)?;
+        items.push(item)?;
+        rest = after;
+    }
+    Ok((items, rest))
+}
+
+#[cycle(objects)]
+#[tactic(auto, unfolding(crate::specs::Reading::list_at))]
+fn list_in(alloc: Global, bytes: &[u8], order: Order, room: u32) -> Result<(Value, &[u8]), Stop>
+    ensures { Gives (λ x. (tree x.0, x.1.now)) result (list_at (object_at room order) order bytes.now) }
+{
+    let (count, rest) = count_of(bytes, order)?;
+    let (items, rest) = items_in(alloc, rest, order, room, count)?;
+    Ok((Value::List(items), rest))
+}
+
+#[cycle(objects)]
+#[tactic(auto, unfolding(crate::specs::Reading::dictionary_at))]
+fn dictionary_in(
+    alloc: Global,
+    bytes: &[u8],
+    order: Order,
+    room: u32,
+    left: usize,
+) -> Result<(Value, &[u8]), Stop>
+    ensures { Gives (λ x. (tree x.0, x.1.now)) result (dictionary_at (object_at room order) left bytes.now) }
+{
+    let (keys, rest) = object_in(alloc, bytes, order, room)?;
+    let (values, rest) = object_in(alloc, rest, order, room)?;
+    Ok((dictionary_from(alloc, keys, values, left)?, rest))
+}
+
+// An object behind its type byte, from which on this many bytes are left.
+#[cycle(objects)]
+#[tactic(auto, unfolding(crate::specs::Reading::object_by))]
+fn form_in(
+    alloc: Global,
+    bytes: &[u8],
+    order: Order,
+    room: u32,
+    form: Form,
+    left: usize,
+) -> Result<(Value, &[u8]), Stop>
+    ensures { Gives (λ x. (tree x.0, x.1.now)) result (object_by (object_at room order) room order form left bytes.now) }
+{
+    match form {
+        Form::Atom(kind) => {
+            let (x, rest) = atom_of(alloc, bytes, order, kind)?;
+            Ok((Value::Atom(x), rest))
+        }
+        Form::Vector(kind) => {
+            let (x, rest) = vector_of(alloc, bytes, order, kind)?;
+            Ok((Value::Vector(x), rest))
+        }
+        Form::List => list_in(alloc, bytes, order, room),
+        Form::Dictionary => dictionary_in(alloc, bytes, order, room, left),
+        Form::Table => {
+            let (x, rest) = table_of(alloc, bytes, order, room, left)?;
+            Ok((Value::Table(x), rest))
+        }
+        Form::Identity => Ok((Value::Identity, identity_of(bytes, left)?)),
+        Form::Wrong => {
+            let (text, rest) = text_of(bytes)?;
+            Ok((Value::Wrong(Text::of(Vec::from_slice(alloc, text)?)), rest))
+        }
+        Form::Unbuilt => Err(Stop::At(Fault::NotBuilt(left))),
+        Form::Unknown => Err(Stop::At(Fault::BadType(left))),
+    }
+}
+
+#[cycle(objects)]
+#[tactic(auto, unfolding(crate::specs::Reading::object_at))]
+fn object_in(alloc: Global, bytes: &[u8], order: Order, room: u32) -> Result<(Value, &[u8]), Stop>
+    ensures { Gives (λ x. (tree x.0, x.1.now)) result (object_at room order bytes.now) }
+{
+    match bytes {
+        [] => Err(Stop::At(Fault::Truncated)),
+        [first, rest @ ..] => {
+            if room == 0 {
+                return Err(Stop::At(Fault::TooDeep(bytes.len())));
+            }
+            form_in(
+                alloc,
+                rest,
+                order,
+                room - 1,
+                form_of_byte(*first),
+                bytes.len(),
+            )
+        }
+    }
+}
+
+/// Reads the object at the front of the bytes, with the number of its bytes (KX, IPC reference). The first refusal from
+/// left to right comes, with its place.
+pub fn decode(alloc: Global, bytes: &[u8], order: Order) -> Result<(Value, usize), DecodeRefusal>
+    ensures found { IfOk result (λ x. object_of order bytes.now ≡ Ok (tree x.0, x.1)) }
+    ensures refused { IfErr result (RefusesObject (object_of order bytes.now)) }
+    // The bytes that were read spell the value.
+    ensures spelled { IfOk result (λ x. Spells order (take x.1 bytes.now) (tree x.0)) }
+    // A value that was read can be written.
+    ensures plain { IfOk result (λ x. IsPlain (tree x.0)) }
+    ensures fit { IfOk result (λ x. AtomsFit (tree x.0)) }
+    // What the bytes spell is read, unless memory runs out.
+    ensures only { (t : Tree) (n : ℕ) → n ≤ length bytes.now → Spells order (take n bytes.now) t → Reads t n result }
+{
+    match object_in(alloc, bytes, order, 64) {
+        Ok((value, rest)) => Ok((value, bytes.len().saturating_sub(rest.len()))),
+        Err(Stop::At(fault)) => Err(fault.placed_in(bytes.len())),
+        Err(Stop::Memory) => Err(DecodeRefusal::NoMemory),
+    }
+}

@@ -1,0 +1,267 @@
+// The bytes of a value.
+ghost use Rattle.std.specs.Prelude.{◌≡◌, ◌++◌, ◌∷◌, ◌≤◌, ◌<◌, ◌^◌, [], length, map, if◌then◌else◌, OnOk, OnErr, All};
+ghost use Rattle.std.specs.Int.{w16, w32, w64, cast_unsigned};
+ghost use Rattle.std.specs.List.{flat_map};
+ghost use Rattle.byteorder.specs.Endian.{little_bytes};
+ghost use Rattle.q_values.specs.Column.{contents};
+ghost use Rattle.q_values.specs.Tree.{tree, trees, items_of};
+ghost use Rattle.ipc_codec.specs.Appends.{Begins};
+ghost use Rattle.ipc_codec.specs.Written.{head, text_bytes, element_bytes, vector_bytes, grid_bytes, written, written_items, Fits, AllFit, GridFits, IsPlain};
+
+use crate::form::type_of_kind;
+use byteorder::{ByteOrder, LittleEndian};
+use q_values::{Atom, Column, NoMemory, Sym, Symbols, TableValue, Value, Values, Vector};
+
+// A type byte, the attribute byte and a count.
+fn put_head(out: &mut Vec<u8>, code: u8, count: usize) -> Result<(), NoMemory>
+    requires { count ≤ 2147483647 }
+    ensures ok { OnOk result (out.new.items ≡ out.old.items ++ head code count) }
+    ensures err { OnErr result (out.new.items ≡ out.old.items) }
+{
+    let n = (count as u32).to_le_bytes();
+    out.extend_from_slice(&[code, 0, n[0], n[1], n[2], n[3]])?;
+    Ok(())
+}
+
+fn put_shorts(out: &mut Vec<u8>, items: &[i16]) -> Result<(), NoMemory>
+    requires { length items.now ≤ 2147483647 }
+    ensures ok { OnOk result (out.new.items ≡ out.old.items ++ flat_map (λ x. little_bytes 2 (cast_unsigned w16 x)) items.now) }
+    ensures err { OnErr result (out.new.items ≡ out.old.items) }
+{
+    let start = out.len();
+    out.resize(start + 2 * items.len(), 0)?;
+    LittleEndian::write_i16_into(items, &mut out[start..]);
+    Ok(())
+}
+
+fn put_integers(out: &mut Vec<u8>, items: &[i32]) -> Result<(), NoMemory>
+    requires { length items.now ≤ 2147483647 }
+    ensures ok { OnOk result (out.new.items ≡ out.old.items ++ flat_map (λ x. little_bytes 4 (cast_unsigned w32 x)) items.now) }
+    ensures err { OnErr result (out.new.items ≡ out.old.items) }
+{
+    let start = out.len();
+    out.resize(start + 4 * items.len(), 0)?;
+    LittleEndian::write_i32_into(items, &mut out[start..]);
+    Ok(())
+}
+
+fn put_longs(out: &mut Vec<u8>, items: &[i64]) -> Result<(), NoMemory>
+    requires { length items.now ≤ 2147483647 }
+    ensures ok { OnOk result (out.new.items ≡ out.old.items ++ flat_map (λ x. little_bytes 8 (cast_unsigned w64 x)) items.now) }
+    ensures err { OnErr result (out.new.items ≡ out.old.items) }
+{
+    let start = out.len();
+    out.resize(start + 8 * items.len(), 0)?;
+    LittleEndian::write_i64_into(items, &mut out[start..]);
+    Ok(())
+}
+
+// 1 for true, 0 for false.
+fn byte_of(x: bool) -> u8
+    ensures { result ≡ (if x then 1 else 0) }
+{
+    if x { 1 } else { 0 }
+}
+
+fn put_booleans(out: &mut Vec<u8>, items: &[bool]) -> Result<(), NoMemory>
+    ensures ok { OnOk result (out.new.items ≡ out.old.items ++ map (λ x. if x then 1 else 0) items.now) }
+    ensures err { OnErr result (out.new.items ≡ out.old.items) }
+{
+    out.reserve(items.len())?;
+    for x in items {
+        out.push_reserved(byte_of(*x));
+    }
+    Ok(())
+}
+
+// A text and the 0 that ends it.
+#[tactic(auto, using(crate::proofs::WritingLemmas::begins))]
+fn put_text(out: &mut Vec<u8>, text: &[u8]) -> Result<(), NoMemory>
+    ensures ok { OnOk result (out.new.items ≡ out.old.items ++ text_bytes text.now) }
+    ensures err { OnErr result (Begins out.old.items out.new.items) }
+{
+    out.extend_from_slice(text)?;
+    out.push(0)?;
+    Ok(())
+}
+
+#[tactic(auto, using(crate::proofs::WritingLemmas::begins))]
+fn put_symbols(out: &mut Vec<u8>, symbols: &Symbols) -> Result<(), NoMemory>
+    ensures ok { OnOk result (out.new.items ≡ out.old.items ++ flat_map text_bytes symbols.now) }
+    ensures err { OnErr result (Begins out.old.items out.new.items) }
+{
+    for i in 0..symbols.len() {
+        put_text(out, symbols.at(i))?;
+    }
+    Ok(())
+}
+
+#[tactic(auto, using(crate::proofs::WritingLemmas::elements))]
+fn put_elements(out: &mut Vec<u8>, column: &Column) -> Result<(), NoMemory>
+    requires { length (contents column.now).atoms ≤ 2147483647 }
+    ensures ok { OnOk result (out.new.items ≡ out.old.items ++ flat_map element_bytes (contents column.now).atoms) }
+    ensures err { OnErr result (Begins out.old.items out.new.items) }
+{
+    match column {
+        Column::Booleans(items) => put_booleans(out, items),
+        Column::Bytes(_, items) => Ok(out.extend_from_slice(items)?),
+        Column::Shorts(items) => put_shorts(out, items),
+        Column::Integers(_, items) => put_integers(out, items),
+        Column::Longs(_, items) => put_longs(out, items),
+        Column::Symbols(symbols) => put_symbols(out, symbols),
+    }
+}
+
+#[tactic(auto, using(crate::proofs::WritingLemmas::begins), unfolding(crate::specs::Written::vector_bytes))]
+fn put_vector(out: &mut Vec<u8>, vector: &Vector) -> Result<(), NoMemory>
+    requires { length vector.now.atoms ≤ 2147483647 }
+    ensures ok { OnOk result (out.new.items ≡ out.old.items ++ vector_bytes vector.now) }
+    ensures err { OnErr result (Begins out.old.items out.new.items) }
+{
+    put_head(out, type_of_kind(vector.kind()), vector.len())?;
+    put_elements(out, vector.column())
+}
+
+#[tactic(auto, using(crate::proofs::WritingLemmas::begins))]
+fn put_names(out: &mut Vec<u8>, names: &[Sym]) -> Result<(), NoMemory>
+    ensures ok { OnOk result (out.new.items ≡ out.old.items ++ flat_map text_bytes names.now) }
+    ensures err { OnErr result (Begins out.old.items out.new.items) }
+{
+    for name in names {
+        put_text(out, name.bytes())?;
+    }
+    Ok(())
+}
+
+#[tactic(auto, using(crate::proofs::WritingLemmas::begins))]
+fn put_columns(out: &mut Vec<u8>, columns: &[Vector]) -> Result<(), NoMemory>
+    requires { All (λ column. length column.atoms ≤ 2147483647) columns.now }
+    ensures ok { OnOk result (out.new.items ≡ out.old.items ++ flat_map vector_bytes columns.now) }
+    ensures err { OnErr result (Begins out.old.items out.new.items) }
+{
+    for column in columns {
+        put_vector(out, column)?;
+    }
+    Ok(())
+}
+
+#[tactic(auto, using(crate::proofs::WritingLemmas::begins), unfolding(crate::specs::Written::grid_bytes))]
+fn put_table(out: &mut Vec<u8>, table: &TableValue) -> Result<(), NoMemory>
+    requires { GridFits (record { names = table.now.names; columns = table.now.columns }) }
+    ensures ok { OnOk result (out.new.items ≡ out.old.items ++ grid_bytes (record { names = table.now.names; columns = table.now.columns })) }
+    ensures err { OnErr result (Begins out.old.items out.new.items) }
+{
+    out.extend_from_slice(&[98, 0, 99])?;
+    put_head(out, 11, table.names.len())?;
+    put_names(out, table.names.as_slice())?;
+    put_head(out, 0, table.columns.len())?;
+    put_columns(out, table.columns.as_slice())
+}
+
+// The element of an atom.
+#[tactic(auto, using(crate::proofs::WritingLemmas::begins))]
+fn put_element(out: &mut Vec<u8>, x: &Atom) -> Result<(), NoMemory>
+    ensures ok { OnOk result (out.new.items ≡ out.old.items ++ element_bytes x.now) }
+    ensures err { OnErr result (Begins out.old.items out.new.items) }
+{
+    match x {
+        Atom::Boolean(x) => Ok(out.push(byte_of(*x))?),
+        Atom::Byte(x) => Ok(out.push(*x)?),
+        Atom::Short(x) => put_short(out, x),
+        Atom::Integer(x) => put_integer(out, x),
+        Atom::Long(x) => put_long(out, x),
+        Atom::Character(x) => Ok(out.push(*x)?),
+        Atom::Symbol(x) => put_text(out, x.bytes()),
+        Atom::Timestamp(x) => put_long(out, x),
+        Atom::Month(x) => put_integer(out, x),
+        Atom::Date(x) => put_integer(out, x),
+        Atom::Timespan(x) => put_long(out, x),
+        Atom::Minute(x) => put_integer(out, x),
+        Atom::Second(x) => put_integer(out, x),
+        Atom::Time(x) => put_integer(out, x),
+    }
+}
+
+fn put_short(out: &mut Vec<u8>, x: &i16) -> Result<(), NoMemory>
+    ensures ok { OnOk result (out.new.items ≡ out.old.items ++ little_bytes 2 (cast_unsigned w16 x.now)) }
+    ensures err { OnErr result (out.new.items ≡ out.old.items) }
+{
+    Ok(out.extend_from_slice(&x.to_le_bytes())?)
+}
+
+fn put_integer(out: &mut Vec<u8>, x: &i32) -> Result<(), NoMemory>
+    ensures ok { OnOk result (out.new.items ≡ out.old.items ++ little_bytes 4 (cast_unsigned w32 x.now)) }
+    ensures err { OnErr result (out.new.items ≡ out.old.items) }
+{
+    Ok(out.extend_from_slice(&x.to_le_bytes())?)
+}
+
+fn put_long(out: &mut Vec<u8>, x: &i64) -> Result<(), NoMemory>
+    ensures ok { OnOk result (out.new.items ≡ out.old.items ++ little_bytes 8 (cast_unsigned w64 x.now)) }
+    ensures err { OnErr result (out.new.items ≡ out.old.items) }
+{
+    Ok(out.extend_from_slice(&x.to_le_bytes())?)
+}
+
+#[cycle(values)]
+fn put_items(out: &mut Vec<u8>, items: &Values) -> Result<(), NoMemory>
+    requires { AllFit (items_of (trees items.now)) }
+    ensures ok { OnOk result (out.new.items ≡ out.old.items ++ written_items (items_of (trees items.now))) }
+    ensures err { OnErr result (Begins out.old.items out.new.items) }
+{
+    for i in 0..items.len() {
+        put_value(out, items.at(i))?;
+    }
+    Ok(())
+}
+
+#[cycle(values)]
+#[tactic(auto, using(crate::proofs::WritingLemmas::begins, crate::proofs::ItemsLemmas::items), unfolding(crate::specs::Written::written))]
+fn put_value(out: &mut Vec<u8>, value: &Value) -> Result<(), NoMemory>
+    requires { Fits (tree value.now) }
+    ensures ok { OnOk result (out.new.items ≡ out.old.items ++ written (tree value.now)) }
+    ensures err { OnErr result (Begins out.old.items out.new.items) }
+{
+    match value {
+        Value::Atom(x) => {
+            out.push((256 - u16::from(type_of_kind(x.kind()))) as u8)?;
+            put_element(out, x)
+        }
+        Value::Vector(vector) => put_vector(out, vector),
+        Value::List(items) => {
+            put_head(out, 0, items.len())?;
+            put_items(out, items)
+        }
+        Value::Dict(pair) => {
+            out.push(99)?;
+            put_value(out, &pair.keys)?;
+            put_value(out, &pair.values)
+        }
+        Value::Table(table) => put_table(out, table),
+        Value::Keyed(pair) => {
+            out.push(99)?;
+            put_table(out, &pair.keys)?;
+            put_table(out, &pair.values)
+        }
+        Value::Identity => Ok(out.extend_from_slice(&[101, 0])?),
+        Value::Wrong(text) => {
+            out.push(128)?;
+            put_text(out, text.as_slice())
+        }
+    }
+}
+
+/// Appends the one written spelling of a value: little-endian, with attributes 0, booleans 0 or 1 and 99 for each
+/// dictionary (KX, IPC reference). A refused call changes nothing.
+pub fn encode(out: &mut Vec<u8>, value: &Value) -> Result<(), NoMemory>
+    requires { IsPlain (tree value.now) }
+    ensures ok { OnOk result (out.new.items ≡ out.old.items ++ written (tree value.now)) }
+    ensures err { OnErr result (out.new.items ≡ out.old.items) }
+{
+    let start = out.len();
+    let done = put_value(out, value);
+    if done.is_err() {
+        out.truncate(start);
+    }
+    done
+}

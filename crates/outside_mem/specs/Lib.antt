@@ -1,0 +1,6 @@
+pub mod Clock
+pub mod History
+pub mod Link
+pub mod Outside
+pub mod Pieces
+pub mod Recorder

@@ -1,0 +1,164 @@
+use crate::{
+    Handed, MemClock, MemLink, MemOutside, MemRecorder, Moments, NoGate, Piece, Pieces,
+    SteadyClock, Taking, Takings,
+};
+use outside_api::{Clock, Gate, Got, Link, LinkFault, MakeFault, Outside, Point, Recorder};
+use q_values::{NoMemory, Text, Turn};
+use std::alloc::Global;
+use std::test::Fail;
+
+fn piece(alloc: Global, bytes: &[u8]) -> Result<Piece, NoMemory> {
+    Ok(Piece::Bytes(Text::of(Vec::from_slice(alloc, bytes)?)))
+}
+
+fn read_two<L: Link>(link: &mut L) -> (Got, [u8; 2]) {
+    let mut buf = [0u8; 2];
+    let got = link.read(&mut buf);
+    (got, buf)
+}
+
+fn write_to<L: Link>(link: &mut L, bytes: &[u8]) -> Result<(), LinkFault> {
+    link.write(bytes)
+}
+
+fn moments_of<C: Clock>(clock: &mut C) -> [i64; 3] {
+    [clock.now(), clock.now(), clock.now()]
+}
+
+fn note_lengths<N: Recorder>(recorder: &mut N, lengths: &[u64]) {
+    for length in lengths {
+        recorder.note(Turn::Answered { length: *length });
+    }
+}
+
+fn pause_at<G: Gate>(gate: &mut G, point: Point) {
+    gate.pause(point);
+}
+
+fn use_once<O: Outside>(outside: &mut O) -> Result<(), MakeFault> {
+    let mut link = outside.standard()?;
+    let mut recorder = outside.recorder();
+    let mut gate = outside.gate();
+    pause_at(&mut gate, Point::Rolled);
+    let _written = write_to(&mut link, b"\x03");
+    note_lengths(&mut recorder, &[1]);
+    outside.warn(b"plant: idle");
+    outside.back(Some(link), Some(recorder));
+    Ok(())
+}
+
+fn pieces(alloc: Global) -> Result<Pieces, NoMemory> {
+    let mut pieces = Pieces::new(alloc);
+    pieces.push(piece(alloc, b"abc")?)?;
+    pieces.push(Piece::Fault)?;
+    pieces.push(piece(alloc, b"")?)?;
+    pieces.push(Piece::Idle)?;
+    pieces.push(piece(alloc, b"d")?)?;
+    Ok(pieces)
+}
+
+fn takings(alloc: Global) -> Result<Takings, NoMemory> {
+    let mut takings = Takings::new(alloc);
+    takings.push(Taking::Front(0))?;
+    takings.push(Taking::All)?;
+    takings.push(Taking::Front(1))?;
+    Ok(takings)
+}
+
+fn scripted(alloc: Global) -> Result<MemLink, NoMemory> {
+    let pieces = pieces(alloc)?;
+    let takings = takings(alloc)?;
+    Ok(MemLink::script(alloc, pieces, takings))
+}
+
+fn five_reads<L: Link>(link: &mut L) -> [(Got, [u8; 2]); 5] {
+    [
+        read_two(link),
+        read_two(link),
+        read_two(link),
+        read_two(link),
+        read_two(link),
+    ]
+}
+
+#[test]
+fn idle_and_link_faults(rt: HostRuntime) -> Result<(), Fail> {
+    let mut link = scripted(rt.alloc())?;
+    let wanted = [
+        (Got::Bytes(2), *b"ab"),
+        (Got::Bytes(1), *b"c\0"),
+        (Got::Failed, [0, 0]),
+        (Got::Idle, [0, 0]),
+        (Got::Bytes(1), *b"d\0"),
+    ];
+    assert_eq!(rt; five_reads(&mut link), wanted);
+    assert_eq!(rt; five_reads(&mut link), [(Got::End, [0, 0]); 5]);
+    Ok(())
+}
+
+#[test]
+fn first_write_fails(rt: HostRuntime) -> Result<(), Fail> {
+    let mut link = scripted(rt.alloc())?;
+    assert!(rt; write_to(&mut link, b"xy").is_err());
+    assert_eq!(rt; link.taken().len(), 0);
+    assert!(rt; write_to(&mut link, b"xy").is_ok());
+    assert!(rt; write_to(&mut link, b"xy").is_err());
+    assert_eq!(rt; link.taken(), b"xyx".as_slice());
+    Ok(())
+}
+
+#[test]
+fn ample_memory_calls(rt: HostRuntime) -> Result<(), Fail> {
+    let mut recorder = MemRecorder::with_room(rt.alloc(), 2)?;
+    note_lengths(&mut recorder, &[7, 8]);
+    assert!(rt; !recorder.is_full());
+    note_lengths(&mut recorder, &[9]);
+    assert!(rt; recorder.is_full());
+    let wanted = [Turn::Answered { length: 7 }, Turn::Answered { length: 8 }];
+    assert_eq!(rt; recorder.turns(), wanted.as_slice());
+    Ok(())
+}
+
+#[test]
+fn last_reading_is_repeated(rt: HostRuntime) -> Result<(), Fail> {
+    let mut moments = Moments::new(rt.alloc());
+    moments.push(5)?;
+    moments.push(-7)?;
+    assert_eq!(rt; moments_of(&mut MemClock::new(moments)), [5, -7, -7]);
+    assert_eq!(rt; moments_of(&mut SteadyClock::new(9)), [9, 9, 9]);
+    Ok(())
+}
+
+fn first_line(outside: &MemOutside) -> Option<&[u8]> {
+    Some(outside.warned()?.first()?.as_slice())
+}
+
+fn first_taken(outside: &MemOutside) -> Option<&[u8]> {
+    Some(outside.backs()?.first()?.link.as_ref()?.taken())
+}
+
+fn first_turns(outside: &MemOutside) -> Option<&[Turn]> {
+    Some(outside.backs()?.first()?.recorder.as_ref()?.turns())
+}
+
+fn is_kept(outside: &MemOutside) -> bool {
+    first_line(outside) == Some(b"plant: idle".as_slice())
+        && first_taken(outside) == Some(b"\x03".as_slice())
+        && first_turns(outside) == Some([Turn::Answered { length: 1 }].as_slice())
+}
+
+fn outside_of(alloc: Global) -> Result<MemOutside, NoMemory> {
+    let link = MemLink::of(alloc, b"")?;
+    let recorder = MemRecorder::with_room(alloc, 4)?;
+    Ok(MemOutside::new(alloc, Some(link), recorder))
+}
+
+#[test]
+fn outside_keeps_what_it_is_told(rt: HostRuntime) -> Result<(), Fail> {
+    let mut outside = outside_of(rt.alloc())?;
+    assert!(rt; use_once(&mut outside).is_ok());
+    assert!(rt; use_once(&mut outside).is_err());
+    assert_eq!(rt; outside.make_faults(), 1);
+    assert!(rt; is_kept(&outside));
+    Ok(())
+}

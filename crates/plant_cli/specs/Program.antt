@@ -1,0 +1,107 @@
+-- What the program does of its words, over an outside.
+use Rattle.std.specs.Prelude.{◌≡◌, ◌⊎◌, ℕ, ℤ, pos, true, List, [], ◌∷◌, ◌++◌, All, Option, Some, None, codes}
+use Rattle.std.specs.Fmt.{decimal}
+use Rattle.outside_api.specs.Counts.{counted}
+use Rattle.outside_api.specs.Link.{LinkView}
+use Rattle.outside_api.specs.Outside.{OutsideView, IsFresh, warned_of, handed_back}
+use Rattle.outside_api.specs.Told.{HasToldNothing}
+use Rattle.plant_edge.specs.Words.{asked}
+use Rattle.q_values.specs.Limits.{standard_limits}
+use Rattle.q_values.specs.declared.turn.Turn.{Turn}
+use Rattle.session.specs.Access.{AccessView}
+use Rattle.session.specs.Run.{World}
+use Rattle.session.specs.Session.{IsSession}
+use Rattle.session.specs.Verdict.{date_of}
+use Rattle.session.specs.declared.end.Bad.{Bad}
+use Rattle.session.specs.declared.end.Bad.TheVariants as b
+use Rattle.session.specs.declared.end.End.{End}
+use Rattle.session.specs.declared.end.End.TheVariants.{Closed, Truncated, BadMessage, ReadFault, WriteFault, Idle, NoMemory}
+
+-- the number that tells what is wrong with a message
+abbrev pub number_of : Bad → ℕ
+number_of b.Order = 1
+number_of b.Kind = 2
+number_of b.Compressed = 3
+number_of b.Length = 4
+number_of b.TooLong = 5
+number_of b.Object = 6
+number_of b.Greeting = 7
+
+-- the status of each end of a session
+abbrev pub status_of : End → ℕ
+status_of Closed = 0
+status_of Truncated = 2
+status_of (BadMessage code at) = 3
+status_of ReadFault = 4
+status_of WriteFault = 4
+status_of Idle = 5
+status_of NoMemory = 7
+
+abbrev pub bad_message : ℕ → ℕ → List ℕ
+bad_message number at = codes "plant: bad message " ++ decimal number ++ codes " at " ++ decimal at
+
+-- its line on standard error
+abbrev pub line_of : End → Option (List ℕ)
+line_of Closed = None
+line_of Truncated = Some (codes "plant: input ends within a message")
+line_of (BadMessage code at) = Some (bad_message (number_of code) at)
+line_of ReadFault = Some (codes "plant: link fault")
+line_of WriteFault = Some (codes "plant: link fault")
+line_of Idle = Some (codes "plant: idle")
+line_of NoMemory = Some (codes "plant: wsfull")
+
+-- an outside that printed the line, if there is one
+abbrev pub printed : OutsideView → Option (List ℕ) → OutsideView
+printed seen None = seen
+printed seen (Some line) = warned_of seen line
+
+-- only the line of a bad message takes memory
+abbrev pub TakesMemory : End → Type 0
+TakesMemory end = (code : Bad) × (at : ℕ) × (end ≡ BadMessage code at)
+
+-- the program ends with the status and the line of the session's end, or, for want of memory for that line, as at such want
+abbrev pub Concludes : End → OutsideView → OutsideView → ℕ → Type 0
+Concludes end old new status =
+    ((status ≡ status_of end) × (new ≡ printed old (line_of end)))
+    ⊎ (TakesMemory end × (status ≡ status_of NoMemory) × (new ≡ printed old (line_of NoMemory)))
+
+-- a plant that has logged nothing, held by one session alone
+abbrev pub new_plant : ℤ → AccessView
+new_plant date = record { by = 1; date = date; alone = true; seen = []; mine = []; snapshots = 0 }
+
+-- a session over a new plant, open at the date of the clock's first reading, which all readings are
+pub record Sits (moment : ℤ) (link_old link_new : LinkView) (notes_old notes_new : Option (List Turn)) (end : End) : Type 0 where
+  pub plant : AccessView
+  pub readings : List ℤ
+  pub steady : All (λ reading. reading ≡ moment) readings
+  pub session : IsSession standard_limits
+      (record { link = link_old; clock = Some (moment ∷ []); notes = notes_old; access = new_plant (date_of moment) })
+      (record { link = link_new; clock = Some readings; notes = notes_new; access = plant })
+      end
+
+-- the link of standard input and output is made, served, and handed back with what was noted
+pub record Serves (moment : ℤ) (old new : OutsideView) (status : ℕ) : Type 0 where
+  pub link_old : LinkView
+  pub link_new : LinkView
+  pub notes_old : Option (List Turn)
+  pub notes_new : Option (List Turn)
+  pub end : End
+  pub fresh : IsFresh link_old
+  pub unnoted : HasToldNothing notes_old
+  pub session : Sits moment link_old link_new notes_old notes_new end
+  pub concluded : Concludes end (handed_back old (Some link_new) (Some notes_new)) new status
+
+-- without that link the program can't start, and that count rose
+abbrev pub CannotStart : OutsideView → OutsideView → ℕ → Type 0
+CannotStart old new status = (status ≡ 6) × (new ≡ warned_of (record old { make_faults = counted old.make_faults 1 }) (codes "plant: cannot start"))
+
+abbrev pub RunsOnce : ℤ → OutsideView → OutsideView → ℕ → Type 0
+RunsOnce moment old new status = CannotStart old new status ⊎ Serves moment old new status
+
+-- what the program does where its words ask for a session with a clock at this moment, and where they don't
+abbrev pub RunsFor : Option ℤ → OutsideView → OutsideView → ℕ → Type 0
+RunsFor None old new status = (status ≡ 1) × (new ≡ warned_of old (codes "plant: usage"))
+RunsFor (Some moment) old new status = RunsOnce moment old new status
+
+abbrev pub Runs : List (List ℕ) → OutsideView → OutsideView → ℕ → Type 0
+Runs words old new status = RunsFor (asked words) old new status

@@ -1,0 +1,120 @@
+//! What the program does.
+ghost use Rattle.std.specs.Prelude.{◌≡◌, IfOk, map, string_bytes};
+ghost use Rattle.plant_cli.specs.Program.{Runs, RunsOnce, Sits, Concludes, number_of, bad_message};
+ghost use Rattle.session.specs.Verdict.{date_of};
+ghost use Rattle.outside_api.specs.Outside.{warned_of};
+
+use outside_api::{Clock, Gate, Link, Outside, Recorder};
+use plant_edge::{SteadyClock, clock_of};
+use q_values::Limits;
+use session::{Bad, End, Solo, serve_session};
+use std::alloc::{AllocError, Global};
+use std::sync::Wait;
+
+/// Nanoseconds of a day.
+const DAY: i64 = 86_400_000_000_000;
+
+/// Does all that the program does, and gives its status. The words are those behind the program's own name:
+/// `once --clock 2024.01.02Dhh:mm:ss.nnnnnnnnn` serves one session over standard input and output, with a plant that is
+/// open at the date of the clock. Each status but 0 comes with its line on standard error.
+pub fn run<O: Outside, R: Wait>(rt: &R, alloc: Global, words: &[String], outside: &mut O) -> u8
+    ensures { Runs (map string_bytes words.now) (O.seen outside.old) (O.seen outside.new) result }
+{
+    match clock_of(words) {
+        Some(moment) => once(rt, alloc, moment, outside),
+        None => {
+            outside.warn(b"plant: usage");
+            1
+        }
+    }
+}
+
+/// Serves one session, and hands its link and its recorder back.
+fn once<O: Outside, R: Wait>(rt: &R, alloc: Global, moment: i64, outside: &mut O) -> u8
+    ensures { RunsOnce moment (O.seen outside.old) (O.seen outside.new) result }
+{
+    let Ok(mut link) = outside.standard() else {
+        outside.warn(b"plant: cannot start");
+        return 6;
+    };
+    let mut gate = outside.gate();
+    let mut turns = outside.recorder();
+    let end = sit(rt, alloc, moment, &mut link, &mut gate, &mut turns);
+    outside.back(Some(link), Some(turns));
+    conclude(alloc, end, outside)
+}
+
+/// A session with a plant of its own, which is open at the date that the clock reads at first.
+fn sit<L: Link, G: Gate, N: Recorder, R: Wait>(
+    rt: &R,
+    alloc: Global,
+    moment: i64,
+    link: &mut L,
+    gate: &mut G,
+    turns: &mut N,
+) -> End
+    ensures { Sits moment (L.shown link.old) (L.shown link.new) (N.noted turns.old) (N.noted turns.new) result }
+{
+    let mut clock = SteadyClock::new(moment);
+    let first = clock.now();
+    match Solo::new(alloc, open_date(first)) {
+        Ok(mut plant) => {
+            let report = serve_session(rt, alloc, &mut plant, link, &mut clock, gate, turns, &Limits::standard());
+            let _steady = clock.moment();
+            report.end
+        }
+        Err(_) => End::NoMemory,
+    }
+}
+
+/// The date of a moment, in days since 2000.01.01.
+fn open_date(moment: i64) -> i32
+    ensures { result ≡ date_of moment }
+{
+    moment.div_euclid(DAY) as i32
+}
+
+/// Prints the line of the session's end, if it has one, and gives its status.
+fn conclude<O: Outside>(alloc: Global, end: End, outside: &mut O) -> u8
+    ensures { Concludes end (O.seen outside.old) (O.seen outside.new) result }
+{
+    match end {
+        End::Closed => 0,
+        End::Truncated => warned(outside, b"plant: input ends within a message", 2),
+        End::BadMessage { code, at } => match bad_message(alloc, number_of(code), at) {
+            Ok(line) => warned(outside, line.as_bytes(), 3),
+            Err(_) => warned(outside, b"plant: wsfull", 7),
+        },
+        End::ReadFault => warned(outside, b"plant: link fault", 4),
+        End::WriteFault => warned(outside, b"plant: link fault", 4),
+        End::Idle => warned(outside, b"plant: idle", 5),
+        End::NoMemory => warned(outside, b"plant: wsfull", 7),
+    }
+}
+
+/// The number that tells what is wrong with a message.
+fn number_of(code: Bad) -> u8
+    ensures { result ≡ number_of code }
+{
+    code as u8
+}
+
+/// The line that tells of a bad message.
+fn bad_message(alloc: Global, number: u8, at: u64) -> Result<String, AllocError>
+    ensures { IfOk result (λ line. string_bytes line ≡ bad_message number at) }
+{
+    let mut line = String::from_str(alloc, "plant: bad message ")?;
+    line.push_str(number.to_string(alloc)?.as_str())?;
+    line.push_str(" at ")?;
+    line.push_str(at.to_string(alloc)?.as_str())?;
+    Ok(line)
+}
+
+/// Prints a line, and gives the status that it goes with.
+fn warned<O: Outside>(outside: &mut O, line: &[u8], status: u8) -> u8
+    ensures seen { O.seen outside.new ≡ warned_of (O.seen outside.old) line.now }
+    ensures status { result ≡ status }
+{
+    outside.warn(line);
+    status
+}

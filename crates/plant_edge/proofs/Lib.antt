@@ -1,0 +1,2 @@
+pub mod TimestampLemmas
+pub mod WordsLemmas

@@ -1,0 +1,4 @@
+pub mod Link
+pub mod Outside
+pub mod Timestamp
+pub mod Words

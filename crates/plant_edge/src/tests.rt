@@ -1,0 +1,127 @@
+use crate::{StandardLink, StandardOutside, clock_of};
+use outside_api::{Got, Link, LinkFault, Outside, Recorder};
+use q_values::{NoMemory, Turn};
+use std::alloc::Global;
+use std::io;
+use std::io::{ErrorKind, Read, Write};
+use std::test::Fail;
+
+// Gives an interruption, a fault, one byte and the end, in this order.
+#[derive(Drop)]
+struct FaultyReader {
+    reads: u32,
+}
+
+impl Read for FaultyReader {
+    fn read(&mut self, buf: &mut [u8]) -> io::Result<usize> {
+        self.reads = self.reads.saturating_add(1);
+        match (self.reads, buf) {
+            (1, _) => Err(io::Error::from(ErrorKind::Interrupted)),
+            (2, _) => Err(io::Error::from(ErrorKind::BrokenPipe)),
+            (3, [first, ..]) => {
+                *first = 7;
+                Ok(1)
+            }
+            _ => Ok(0),
+        }
+    }
+}
+
+// Takes no byte.
+#[derive(Drop)]
+struct FullWriter;
+
+impl Write for FullWriter {
+    fn write(&mut self, _buf: &[u8]) -> io::Result<usize> {
+        Err(io::Error::from(ErrorKind::BrokenPipe))
+    }
+
+    fn flush(&mut self) -> io::Result<()> {
+        Ok(())
+    }
+}
+
+fn read_one<L: Link>(link: &mut L) -> (Got, u8) {
+    let mut buf = [0u8];
+    let got = link.read(&mut buf);
+    (got, buf[0])
+}
+
+fn write_one<L: Link>(link: &mut L) -> Result<(), LinkFault> {
+    link.write(&[3])
+}
+
+#[test]
+fn idle_and_link_faults(rt: HostRuntime) {
+    let mut link = StandardLink::new(FaultyReader { reads: 0 }, FullWriter);
+    let wanted = [
+        (Got::Idle, 0),
+        (Got::Failed, 0),
+        (Got::Bytes(1), 7),
+        (Got::End, 0),
+        (Got::End, 0),
+    ];
+    for (got, byte) in wanted {
+        assert_eq!(rt; read_one(&mut link), (got, byte));
+    }
+    assert!(rt; write_one(&mut link).is_err());
+}
+
+fn use_once<O: Outside>(outside: &mut O) -> bool {
+    let Ok(mut link) = outside.standard() else {
+        return false;
+    };
+    let mut recorder = outside.recorder();
+    recorder.note(Turn::Passed);
+    let _gate = outside.gate();
+    let written = write_one(&mut link).is_ok();
+    outside.warn(b"plant: idle");
+    outside.back(Some(link), Some(recorder));
+    written
+}
+
+#[test]
+fn standard_output_takes_bytes(rt: HostRuntime) {
+    let mut outside = StandardOutside {
+        rt: &rt,
+        errors: FullWriter,
+    };
+    assert!(rt; use_once(&mut outside));
+}
+
+fn words(alloc: Global, text: &str) -> Result<Vec<String>, NoMemory> {
+    let mut words = Vec::new(alloc);
+    for word in text.split(' ') {
+        words.push(String::from_str(alloc, word)?)?;
+    }
+    Ok(words)
+}
+
+#[test]
+fn first_update_answered(rt: HostRuntime) -> Result<(), Fail> {
+    let cases = [
+        (
+            "once --clock 2024.01.02D09:30:00.000000000",
+            Some(757_503_000_000_000_000),
+        ),
+        (
+            "once --clock 2024.01.02D23:59:59.999999999",
+            Some(757_555_199_999_999_999),
+        ),
+        ("once --clock 2024.01.02D24:00:00.000000000", None),
+        ("once --clock 2024.01.02D09:60:00.000000000", None),
+        ("once --clock 2024.01.02D09:30:60.000000000", None),
+        ("once --clock 2024.01.02D09:30:00.00000000", None),
+        ("once --clock 2024.01.03D09:30:00.000000000", None),
+        ("once --clock 2024.01.02D09:30:00.000000000 ", None),
+        ("once --time 2024.01.02D09:30:00.000000000", None),
+        ("serve --clock 2024.01.02D09:30:00.000000000", None),
+        ("once --clock", None),
+        ("once", None),
+    ];
+    for (text, moment) in cases {
+        let words = words(rt.alloc(), text)?;
+        assert_eq!(rt; clock_of(&words), moment, "{text}");
+    }
+    Ok(())
+}

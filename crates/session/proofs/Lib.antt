@@ -1,0 +1,15 @@
+pub mod AccessLemmas
+pub mod AdvanceLemmas
+pub mod BodyLemmas
+pub mod FillLemmas
+pub mod GoingLemmas
+pub mod GreetingLemmas
+pub mod IncomingLemmas
+pub mod JoinLemmas
+pub mod ReplyLemmas
+pub mod RequestLemmas
+pub mod ServeLemmas
+pub mod ServedLemmas
+pub mod SessionLemmas
+pub mod StreamLemmas
+pub mod TicksLemmas

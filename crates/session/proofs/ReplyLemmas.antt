@@ -1,0 +1,41 @@
+-- The responses that take no memory.
+use Rattle.std.proofs.Common.{◌≡◌, ◌<◌, ◌+◌, ◌++◌, ℕ, List, [], ◌∷◌, length, refl, codes, true, ltb, arith}
+use Rattle.std.proofs.lemmas.Bool.{lt-ltb}
+use Rattle.std.proofs.lemmas.List.{length-append}
+use Rattle.ipc_codec.specs.Written.{written}
+use Rattle.q_values.specs.Tree.{Tree, identity, wrong}
+use Rattle.q_values.specs.declared.limits.Limits.{Limits}
+use Rattle.session.specs.Replies.{fixed_reply}
+use Rattle.session.specs.Reply.{response, reply}
+
+pub response-done : response identity ≡ 1 ∷ 2 ∷ 0 ∷ 0 ∷ 10 ∷ 0 ∷ 0 ∷ 0 ∷ 101 ∷ 0 ∷ []
+unfolding written
+response-done = refl
+
+pub response-nyi : response (wrong (codes "nyi")) ≡ 1 ∷ 2 ∷ 0 ∷ 0 ∷ 13 ∷ 0 ∷ 0 ∷ 0 ∷ 128 ∷ 110 ∷ 121 ∷ 105 ∷ 0 ∷ []
+unfolding written
+response-nyi = refl
+
+pub response-limit : response (wrong (codes "limit")) ≡ 1 ∷ 2 ∷ 0 ∷ 0 ∷ 15 ∷ 0 ∷ 0 ∷ 0 ∷ 128 ∷ 108 ∷ 105 ∷ 109 ∷ 105 ∷ 116 ∷ 0 ∷ []
+unfolding written
+response-limit = refl
+
+pub response-wsfull : response (wrong (codes "wsfull")) ≡ 1 ∷ 2 ∷ 0 ∷ 0 ∷ 16 ∷ 0 ∷ 0 ∷ 0 ∷ 128 ∷ 119 ∷ 115 ∷ 102 ∷ 117 ∷ 108 ∷ 108 ∷ 0 ∷ []
+unfolding written
+response-wsfull = refl
+
+pub done_is : (limits : Limits) (made : List ℕ) → made ≡ fixed_reply limits (1 ∷ 2 ∷ 0 ∷ 0 ∷ 10 ∷ 0 ∷ 0 ∷ 0 ∷ 101 ∷ 0 ∷ []) → made ≡ reply limits identity
+unfolding written
+done_is limits made e = e
+
+pub nyi_is : (limits : Limits) (made : List ℕ) → made ≡ fixed_reply limits (1 ∷ 2 ∷ 0 ∷ 0 ∷ 13 ∷ 0 ∷ 0 ∷ 0 ∷ 128 ∷ 110 ∷ 121 ∷ 105 ∷ 0 ∷ []) → made ≡ reply limits (wrong (codes "nyi"))
+unfolding written
+nyi_is limits made e = e
+
+-- a response that is longer than the limit
+pub too_long : (limits : Limits) (t : Tree) (bytes : List ℕ) (front : List ℕ) → bytes ≡ front ++ written t → length front ≡ 8 → limits.reply < length bytes → 1 ∷ 2 ∷ 0 ∷ 0 ∷ 15 ∷ 0 ∷ 0 ∷ 0 ∷ 128 ∷ 108 ∷ 105 ∷ 109 ∷ 105 ∷ 116 ∷ 0 ∷ [] ≡ reply limits t
+too_long limits t bytes front e size long =
+    let whole : length bytes ≡ length front + length (written t) = rw (e, length-append) refl in
+    let all : length (response t) ≡ 8 + length (written t) = rw length-append refl in
+    let longer : ltb limits.reply (length (response t)) ≡ true = lt-ltb _ _ (omega arith) in
+    rw (longer, response-limit) refl

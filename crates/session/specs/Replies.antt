@@ -1,0 +1,25 @@
+use Rattle.std.specs.Prelude.{◌≡◌, ℕ, nat_lt, if◌then◌else◌, List, length, codes}
+use Rattle.q_values.specs.Tree.{wrong}
+use Rattle.q_values.specs.declared.limits.Limits.{Limits}
+use Rattle.session.specs.Reply.{response, reply}
+use Rattle.session.specs.declared.refusal.UpdRefusal.{UpdRefusal}
+use Rattle.session.specs.declared.refusal.UpdRefusal.TheVariants as r
+use Rattle.session.specs.declared.reply.Reply.{Reply}
+use Rattle.session.specs.declared.reply.Reply.TheVariants.{Fixed, Made}
+
+-- the bytes of a response, wherever they lie
+abbrev pub reply_bytes : Reply → List ℕ
+reply_bytes (Fixed bytes) = bytes.now
+reply_bytes (Made bytes) = bytes.items
+
+-- these bytes, or the error `limit` where they are longer than the limit
+abbrev pub fixed_reply : Limits → List ℕ → List ℕ
+fixed_reply limits bytes = if nat_lt limits.reply (length bytes) then response (wrong (codes "limit")) else bytes
+
+-- the response is a refusal's text; want of memory has none
+abbrev pub Refuses : Limits → UpdRefusal → Reply → Type 0
+Refuses limits (r.NoTable name) made = reply_bytes made ≡ reply limits (wrong name)
+Refuses limits r.Length made = reply_bytes made ≡ reply limits (wrong (codes "length"))
+Refuses limits (r.WrongType column) made = reply_bytes made ≡ reply limits (wrong (codes "type"))
+Refuses limits r.MoreThanOneDay made = reply_bytes made ≡ reply limits (wrong (codes "more than one day?"))
+Refuses limits r.NoMemory made = ⊥

@@ -1,0 +1,24 @@
+-- The bytes that answer a message.
+use Rattle.std.specs.Prelude.{ℕ, ◌+◌, nat_lt, if◌then◌else◌, List, [], ◌∷◌, ◌++◌, length, codes}
+use Rattle.std.specs.Int.{w32, to_le_bytes}
+use Rattle.ipc_codec.specs.Written.{written}
+use Rattle.q_values.specs.Tree.{Tree, wrong}
+use Rattle.q_values.specs.declared.limits.Limits.{Limits}
+use Rattle.session.specs.declared.refusal.UpdRefusal.{UpdRefusal}
+use Rattle.session.specs.declared.refusal.UpdRefusal.TheVariants as r
+
+-- the response with a value
+abbrev pub response : Tree → List ℕ
+response value = (1 ∷ 2 ∷ 0 ∷ 0 ∷ to_le_bytes w32 (8 + length (written value))) ++ written value
+
+-- the response, or the error `limit` where it would be longer than the limit
+abbrev pub reply : Limits → Tree → List ℕ
+reply limits value = if nat_lt limits.reply (length (response value)) then response (wrong (codes "limit")) else response value
+
+-- a refusal's text, as kdb+ users know it
+abbrev pub refusal_text : UpdRefusal → List ℕ
+refusal_text (r.NoTable name) = name
+refusal_text r.Length = codes "length"
+refusal_text (r.WrongType column) = codes "type"
+refusal_text r.MoreThanOneDay = codes "more than one day?"
+refusal_text r.NoMemory = codes "wsfull"

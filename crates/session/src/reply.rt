@@ -1,0 +1,118 @@
+//! The bytes that answer a message.
+ghost use Rattle.std.specs.Prelude.{◌≡◌, ◌∷◌, [], IfOk, IfErr, codes};
+ghost use Rattle.ipc_codec.specs.Written.{IsPlain};
+ghost use Rattle.q_values.specs.Limits.{AreLimits};
+ghost use Rattle.q_values.specs.Tree.{tree, identity, wrong};
+ghost use Rattle.session.specs.Reply.{response, reply, refusal_text};
+ghost use Rattle.q_values.specs.Bytes.{HasNoNul};
+ghost use Rattle.session.specs.Replies.{reply_bytes, fixed_reply, Refuses};
+
+use crate::refusal::UpdRefusal;
+use ipc_codec::encode;
+use q_values::{Limits, NoMemory, Text, Value};
+use std::alloc::Global;
+
+/// A response's bytes.
+#[derive(Drop)]
+pub enum Reply {
+    /// Bytes that take no memory.
+    Fixed(&'static [u8]),
+    /// Bytes that were made for this response.
+    Made(Vec<u8>),
+}
+
+/// The response `(::)`.
+static DONE: [u8; 10] = [1, 2, 0, 0, 10, 0, 0, 0, 0x65, 0];
+
+/// The response of the error `nyi`.
+static NYI: [u8; 13] = *b"\x01\x02\x00\x00\x0d\x00\x00\x00\x80nyi\x00";
+
+/// The response of the error `limit`.
+static LIMIT: [u8; 15] = *b"\x01\x02\x00\x00\x0f\x00\x00\x00\x80limit\x00";
+
+/// The response of the error `wsfull`.
+static WSFULL: [u8; 16] = *b"\x01\x02\x00\x00\x10\x00\x00\x00\x80wsfull\x00";
+
+impl Reply {
+    /// The bytes.
+    pub fn as_slice(&self) -> &[u8]
+        ensures { result.now ≡ reply_bytes self.now }
+    {
+        match self {
+            Reply::Fixed(bytes) => bytes,
+            Reply::Made(bytes) => bytes.as_slice(),
+        }
+    }
+}
+
+/// The bytes, or the error `limit` where they are longer than the limit.
+fn fixed(limits: &Limits, bytes: &'static [u8]) -> Reply
+    ensures { reply_bytes result ≡ fixed_reply limits.now bytes.now }
+{
+    if bytes.len() > limits.reply as usize {
+        Reply::Fixed(&LIMIT)
+    } else {
+        Reply::Fixed(bytes)
+    }
+}
+
+/// The response `(::)` to an update that was logged.
+pub fn done(limits: &Limits) -> Reply
+    ensures { reply_bytes result ≡ reply limits.now identity }
+{
+    fixed(limits, &DONE)
+}
+
+/// The error `nyi`, for what isn't served.
+pub fn nyi(limits: &Limits) -> Reply
+    ensures { reply_bytes result ≡ reply limits.now (wrong (codes "nyi")) }
+{
+    fixed(limits, &NYI)
+}
+
+/// The error `wsfull`, for want of memory.
+pub fn wsfull() -> Reply
+    ensures { reply_bytes result ≡ response (wrong (codes "wsfull")) }
+{
+    Reply::Fixed(&WSFULL)
+}
+
+/// The response with a value, or the error `limit` where it would be longer than the limit.
+pub fn respond(alloc: Global, value: &Value, limits: &Limits) -> Result<Reply, NoMemory>
+    requires plain { IsPlain (tree value.now) }
+    requires limits { AreLimits limits.now }
+    ensures { IfOk result (λ r. reply_bytes r ≡ reply limits.now (tree value.now)) }
+{
+    let mut bytes = vec![in alloc; 1, 2, 0, 0, 0, 0, 0, 0]?;
+    encode(&mut bytes, value)?;
+    if bytes.len() > limits.reply as usize {
+        return Ok(Reply::Fixed(&LIMIT));
+    }
+    let length = (bytes.len() as u32).to_le_bytes();
+    bytes.as_mut_slice()[4..8].copy_from_slice(&length);
+    Ok(Reply::Made(bytes))
+}
+
+/// The error with a refusal's text. There is none for want of memory.
+pub fn refuse(alloc: Global, why: UpdRefusal, limits: &Limits) -> Result<Reply, NoMemory>
+    requires { AreLimits limits.now }
+    ensures { IfOk result (Refuses limits.now why) }
+{
+    match why {
+        UpdRefusal::NoTable(name) => respond_wrong(alloc, name.bytes(), limits),
+        UpdRefusal::Length => respond_wrong(alloc, b"length", limits),
+        UpdRefusal::WrongType { .. } => respond_wrong(alloc, b"type", limits),
+        UpdRefusal::MoreThanOneDay => respond_wrong(alloc, b"more than one day?", limits),
+        UpdRefusal::NoMemory => Err(NoMemory),
+    }
+}
+
+/// The error with this text.
+fn respond_wrong(alloc: Global, text: &[u8], limits: &Limits) -> Result<Reply, NoMemory>
+    requires no_nul { HasNoNul text.now }
+    requires limits { AreLimits limits.now }
+    ensures { IfOk result (λ r. reply_bytes r ≡ reply limits.now (wrong text.now)) }
+{
+    let text = Text::of(Vec::from_slice(alloc, text)?);
+    respond(alloc, &Value::Wrong(text), limits)
+}
