@@ -240,7 +240,8 @@ fn after_form_of(
     form: Form,
     left: usize,
 ) -> Result<(Outline, &[u8]), Fault>
-    ensures { Finds (λ x. (x.0, x.1.now)) result (after_form (after_object room order) room order form left bytes.now) }
+    ensures { Finds (λ x. (x.0, x.1.now)) result
+        (after_form (after_object room order) room order form left bytes.now) }
 {
     let (is_table, count, rest) = match form {
         Form::Atom(kind) => (false, 1, after_atom_of(bytes, kind)?),

@@ -186,7 +186,8 @@ fn table_of(
     room: u32,
     left: usize,
 ) -> Result<(TableValue, &[u8]), Stop>
-    ensures { Gives (λ x. (record { names = x.0.names; columns = x.0.columns }, x.1.now)) result (grid_at left room order bytes.now) }
+    ensures { Gives (λ x. (record { names = x.0.names; columns = x.0.columns }, x.1.now)) result
+        (grid_at left room order bytes.now) }
 {
     match bytes {
         [] => Err(Stop::At(Fault::Truncated)),
@@ -201,7 +202,8 @@ fn table_of(
 }
 
 fn table_from(names: Vec<Sym>, columns: Vec<Vector>, left: usize) -> Result<TableValue, Fault>
-    ensures { Finds (λ x. record { names = x.names; columns = x.columns }) result (shaped left names.items columns.items) }
+    ensures { Finds (λ x. record { names = x.names; columns = x.columns }) result
+        (shaped left names.items columns.items) }
 {
     let rows = rows_in(&columns);
     if columns.is_empty() || names.len() != columns.len() || !are_even(&columns, rows) {
@@ -326,7 +328,8 @@ fn form_in(
     form: Form,
     left: usize,
 ) -> Result<(Value, &[u8]), Stop>
-    ensures { Gives (λ x. (tree x.0, x.1.now)) result (object_by (object_at room order) room order form left bytes.now) }
+    ensures { Gives (λ x. (tree x.0, x.1.now)) result
+        (object_by (object_at room order) room order form left bytes.now) }
 {
     match form {
         Form::Atom(kind) => {
@@ -387,7 +390,8 @@ pub fn decode(alloc: Global, bytes: &[u8], order: Order) -> Result<(Value, usize
     ensures plain { IfOk result (λ x. IsPlain (tree x.0)) }
     ensures fit { IfOk result (λ x. AtomsFit (tree x.0)) }
     // What the bytes spell is read, unless memory runs out.
-    ensures only { (t : Tree) (n : ℕ) → n ≤ length bytes.now → Spells order (take n bytes.now) t → Reads t n result }
+    ensures only { (t : Tree) (n : ℕ) → n ≤ length bytes.now → Spells order (take n bytes.now) t
+        → Reads t n result }
 {
     match object_in(alloc, bytes, order, 64) {
         Ok((value, rest)) => Ok((value, bytes.len().saturating_sub(rest.len()))),

@@ -25,7 +25,8 @@ fn put_head(out: &mut Vec<u8>, code: u8, count: usize) -> Result<(), NoMemory>
 
 fn put_shorts(out: &mut Vec<u8>, items: &[i16]) -> Result<(), NoMemory>
     requires { length items.now ≤ 2147483647 }
-    ensures ok { OnOk result (out.new.items ≡ out.old.items ++ flat_map (λ x. little_bytes 2 (cast_unsigned w16 x)) items.now) }
+    ensures ok { OnOk result (out.new.items
+        ≡ out.old.items ++ flat_map (λ x. little_bytes 2 (cast_unsigned w16 x)) items.now) }
     ensures err { OnErr result (out.new.items ≡ out.old.items) }
 {
     let start = out.len();
@@ -36,7 +37,8 @@ fn put_shorts(out: &mut Vec<u8>, items: &[i16]) -> Result<(), NoMemory>
 
 fn put_integers(out: &mut Vec<u8>, items: &[i32]) -> Result<(), NoMemory>
     requires { length items.now ≤ 2147483647 }
-    ensures ok { OnOk result (out.new.items ≡ out.old.items ++ flat_map (λ x. little_bytes 4 (cast_unsigned w32 x)) items.now) }
+    ensures ok { OnOk result (out.new.items
+        ≡ out.old.items ++ flat_map (λ x. little_bytes 4 (cast_unsigned w32 x)) items.now) }
     ensures err { OnErr result (out.new.items ≡ out.old.items) }
 {
     let start = out.len();
@@ -47,7 +49,8 @@ fn put_integers(out: &mut Vec<u8>, items: &[i32]) -> Result<(), NoMemory>
 
 fn put_longs(out: &mut Vec<u8>, items: &[i64]) -> Result<(), NoMemory>
     requires { length items.now ≤ 2147483647 }
-    ensures ok { OnOk result (out.new.items ≡ out.old.items ++ flat_map (λ x. little_bytes 8 (cast_unsigned w64 x)) items.now) }
+    ensures ok { OnOk result (out.new.items
+        ≡ out.old.items ++ flat_map (λ x. little_bytes 8 (cast_unsigned w64 x)) items.now) }
     ensures err { OnErr result (out.new.items ≡ out.old.items) }
 {
     let start = out.len();
@@ -148,7 +151,8 @@ fn put_columns(out: &mut Vec<u8>, columns: &[Vector]) -> Result<(), NoMemory>
 #[tactic(auto, using(crate::proofs::WritingLemmas::begins), unfolding(crate::specs::Written::grid_bytes))]
 fn put_table(out: &mut Vec<u8>, table: &TableValue) -> Result<(), NoMemory>
     requires { GridFits (record { names = table.now.names; columns = table.now.columns }) }
-    ensures ok { OnOk result (out.new.items ≡ out.old.items ++ grid_bytes (record { names = table.now.names; columns = table.now.columns })) }
+    ensures ok { OnOk result (out.new.items
+        ≡ out.old.items ++ grid_bytes (record { names = table.now.names; columns = table.now.columns })) }
     ensures err { OnErr result (Begins out.old.items out.new.items) }
 {
     out.extend_from_slice(&[98, 0, 99])?;

@@ -17,20 +17,20 @@ use Rattle.session.specs.declared.end.End.TheVariants as e
 -- readings that are all one are the first of them
 pub steady_first : (m k : ℤ) (all more : List ℤ) → all ≡ (m ∷ []) ++ more → All (λ r. r ≡ k) all → All (λ r. r ≡ m) all
 steady_first m k all more a s =
-  let h : m ≡ k = All-head (λ r. r ≡ k) m more (subst (λ v. All (λ r. r ≡ k) v) a s)
-  in subst (λ v. All (λ r. r ≡ v) all) (sym h) s
+    let h : m ≡ k = All-head (λ r. r ≡ k) m more (subst (λ v. All (λ r. r ≡ k) v) a s)
+    in subst (λ v. All (λ r. r ≡ v) all) (sym h) s
 
 -- a session that served, whose clock was read once before
 pub sits : (m : ℤ) (k : ℤ) (limits : Limits) (l l' : LinkView) (first all more : List ℤ) (n n' : Option (List Turn)) (a a' : AccessView) (end : End)
-  → limits ≡ standard_limits → first ≡ m ∷ [] → a ≡ new_plant (date_of m)
-  → IsSession limits (record { link = l; clock = Some first; notes = n; access = a }) (record { link = l'; clock = Some all; notes = n'; access = a' }) end
-  → all ≡ first ++ more → All (λ r. r ≡ k) all
-  → Sits m l l' n n' end
+    → limits ≡ standard_limits → first ≡ m ∷ [] → a ≡ new_plant (date_of m)
+    → IsSession limits (record { link = l; clock = Some first; notes = n; access = a }) (record { link = l'; clock = Some all; notes = n'; access = a' }) end
+    → all ≡ first ++ more → All (λ r. r ≡ k) all
+    → Sits m l l' n n' end
 sits m k limits l l' first all more n n' a a' end x y z session grows steady =
-  let s1 = subst (λ v. IsSession v (record { link = l; clock = Some first; notes = n; access = a }) (record { link = l'; clock = Some all; notes = n'; access = a' }) end) x session
-  in let s2 = subst (λ v. IsSession standard_limits (record { link = l; clock = Some v; notes = n; access = a }) (record { link = l'; clock = Some all; notes = n'; access = a' }) end) y s1
-  in let s3 = subst (λ v. IsSession standard_limits (record { link = l; clock = Some (m ∷ []); notes = n; access = v }) (record { link = l'; clock = Some all; notes = n'; access = a' }) end) z s2
-  in record { plant = a'; readings = all; steady = steady_first m k all more (subst (λ f. all ≡ f ++ more) y grows) steady; session = s3 }
+    let s1 = subst (λ v. IsSession v (record { link = l; clock = Some first; notes = n; access = a }) (record { link = l'; clock = Some all; notes = n'; access = a' }) end) x session
+    in let s2 = subst (λ v. IsSession standard_limits (record { link = l; clock = Some v; notes = n; access = a }) (record { link = l'; clock = Some all; notes = n'; access = a' }) end) y s1
+    in let s3 = subst (λ v. IsSession standard_limits (record { link = l; clock = Some (m ∷ []); notes = n; access = v }) (record { link = l'; clock = Some all; notes = n'; access = a' }) end) z s2
+    in record { plant = a'; readings = all; steady = steady_first m k all more (subst (λ f. all ≡ f ++ more) y grows) steady; session = s3 }
 
 -- a session that could not begin
 pub sits_not : (m : ℤ) (l : LinkView) (n : Option (List Turn)) → Sits m l l n n e.NoMemory

@@ -2,7 +2,6 @@
 #![tactic(auto)]
 
 pub mod run;
-
 #[cfg(test)]
 mod tests;
 

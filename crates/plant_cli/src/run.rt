@@ -59,7 +59,16 @@ fn sit<L: Link, G: Gate, N: Recorder, R: Wait>(
     let first = clock.now();
     match Solo::new(alloc, open_date(first)) {
         Ok(mut plant) => {
-            let report = serve_session(rt, alloc, &mut plant, link, &mut clock, gate, turns, &Limits::standard());
+            let report = serve_session(
+                rt,
+                alloc,
+                &mut plant,
+                link,
+                &mut clock,
+                gate,
+                turns,
+                &Limits::standard(),
+            );
             let _steady = clock.moment();
             report.end
         }

@@ -43,7 +43,12 @@ fn is_line(outside: &MemOutside, wanted: Option<&[u8]>) -> bool {
     }
 }
 
-fn run_words<R: Wait>(rt: &R, alloc: Global, text: &str, link: Option<MemLink>) -> Result<Ran, NoMemory> {
+fn run_words<R: Wait>(
+    rt: &R,
+    alloc: Global,
+    text: &str,
+    link: Option<MemLink>,
+) -> Result<Ran, NoMemory> {
     let words = words_of(alloc, text)?;
     let mut outside = outside_of(alloc, link)?;
     let status = run(rt, alloc, &words, &mut outside);
@@ -63,9 +68,21 @@ fn statuses_of_streams(rt: HostRuntime) -> Result<(), Fail> {
     let rows: [(&[u8], u8, Option<&[u8]>); 5] = [
         (b"", 0, None),
         (b"\x01", 2, Some(b"plant: input ends within a message")),
-        (b"\x01\x01\x00\x00\x07\x00\x00\x00", 3, Some(b"plant: bad message 4 at 9")),
-        (b"\x01\x01\x01\x00\x1f\x00\x00\x00", 3, Some(b"plant: bad message 3 at 7")),
-        (b"\x02\x01\x00\x00\x1f\x00\x00\x00", 3, Some(b"plant: bad message 1 at 5")),
+        (
+            b"\x01\x01\x00\x00\x07\x00\x00\x00",
+            3,
+            Some(b"plant: bad message 4 at 9"),
+        ),
+        (
+            b"\x01\x01\x01\x00\x1f\x00\x00\x00",
+            3,
+            Some(b"plant: bad message 3 at 7"),
+        ),
+        (
+            b"\x02\x01\x00\x00\x1f\x00\x00\x00",
+            3,
+            Some(b"plant: bad message 1 at 5"),
+        ),
     ];
     for (bytes, status, line) in rows {
         let ran = run_words(&rt, alloc, CLOCK, behind_greeting(alloc, bytes)?)?;
@@ -79,11 +96,17 @@ fn statuses_of_streams(rt: HostRuntime) -> Result<(), Fail> {
 fn is_handed_back(outside: &MemOutside) -> bool {
     match outside.backs() {
         Some([handed]) => match (&handed.link, &handed.recorder) {
-            (Some(link), Some(recorder)) => link.taken() == b"\x03" && recorder.turns() == [Turn::Greeted { capability: 3 }],
+            (Some(link), Some(recorder)) => {
+                link.taken() == b"\x03".as_slice() && has_greeted(recorder.turns())
+            }
             _ => false,
         },
         _ => false,
     }
+}
+
+fn has_greeted(turns: &[Turn]) -> bool {
+    turns == [Turn::Greeted { capability: 3 }].as_slice()
 }
 
 // A link whose first read is this.

@@ -9,10 +9,16 @@ use std::sync::Wait;
 use std::test::Fail;
 
 const GREETED_TURN: Turn = Turn::Greeted { capability: 3 };
+
 const LOGGED_TURN: Turn = Turn::Logged { place: 0, now: NOW };
 
 // A session over this input whose writes go so; three idles end it.
-fn served<R: Wait>(rt: &R, alloc: Global, input: Pieces, takings: Takings) -> Result<Sitting, NoMemory> {
+fn served<R: Wait>(
+    rt: &R,
+    alloc: Global,
+    input: Pieces,
+    takings: Takings,
+) -> Result<Sitting, NoMemory> {
     let mut limits = Limits::standard();
     limits.idle = 3;
     sit(rt, alloc, &limits, MemLink::script(alloc, input, takings))
@@ -24,12 +30,20 @@ fn idle_and_link_faults(rt: HostRuntime) -> Result<(), Fail> {
     let idle = input_of(alloc, [Piece::Idle, Piece::Idle, Piece::Idle])?;
     let sitting = served(&rt, alloc, idle, Takings::new(alloc))?;
     assert!(rt; sitting.is(End::Idle, &[], &[]));
-    let third = input_of(alloc, [piece(alloc, b"u")?, piece(alloc, b":")?, Piece::Fault])?;
+    let third = input_of(
+        alloc,
+        [piece(alloc, b"u")?, piece(alloc, b":")?, Piece::Fault],
+    )?;
     let sitting = served(&rt, alloc, third, Takings::new(alloc))?;
     assert!(rt; sitting.is(End::ReadFault, &[], &[]));
     let mut takings = Takings::new(alloc);
     takings.push(Taking::Front(0))?;
-    let sitting = served(&rt, alloc, input_of(alloc, [piece(alloc, GREETING)?])?, takings)?;
+    let sitting = served(
+        &rt,
+        alloc,
+        input_of(alloc, [piece(alloc, GREETING)?])?,
+        takings,
+    )?;
     assert!(rt; sitting.is(End::WriteFault, &[], &[GREETED_TURN]));
     Ok(())
 }
@@ -38,10 +52,26 @@ fn idle_and_link_faults(rt: HostRuntime) -> Result<(), Fail> {
 #[test]
 fn faults_behind_messages(rt: HostRuntime) -> Result<(), Fail> {
     let alloc = rt.alloc();
-    let input = input_of(alloc, [piece(alloc, GREETING)?, piece(alloc, UPDATE)?, Piece::Fault])?;
+    let input = input_of(
+        alloc,
+        [piece(alloc, GREETING)?, piece(alloc, UPDATE)?, Piece::Fault],
+    )?;
     let sitting = served(&rt, alloc, input, Takings::new(alloc))?;
-    assert!(rt; sitting.is(End::ReadFault, &[GREETED, DONE], &[GREETED_TURN, LOGGED_TURN]));
-    let input = input_of(alloc, [piece(alloc, GREETING)?, piece(alloc, UPDATE)?, piece(alloc, QUERY)?])?;
+    assert!(rt;
+        sitting.is(
+            End::ReadFault,
+            &[GREETED, DONE],
+            &[GREETED_TURN, LOGGED_TURN]
+        )
+    );
+    let input = input_of(
+        alloc,
+        [
+            piece(alloc, GREETING)?,
+            piece(alloc, UPDATE)?,
+            piece(alloc, QUERY)?,
+        ],
+    )?;
     let mut takings = Takings::new(alloc);
     takings.push(Taking::All)?;
     takings.push(Taking::All)?;
@@ -56,13 +86,27 @@ fn faults_behind_messages(rt: HostRuntime) -> Result<(), Fail> {
 #[test]
 fn idles_between_bytes(rt: HostRuntime) -> Result<(), Fail> {
     let alloc = rt.alloc();
-    let input = input_of(alloc, [Piece::Idle, piece(alloc, GREETING)?, Piece::Idle, piece(alloc, QUERY)?])?;
+    let input = input_of(
+        alloc,
+        [
+            Piece::Idle,
+            piece(alloc, GREETING)?,
+            Piece::Idle,
+            piece(alloc, QUERY)?,
+        ],
+    )?;
     let sitting = served(&rt, alloc, input, Takings::new(alloc))?;
     let turns = [GREETED_TURN, Turn::Answered { length: 0 }];
     assert!(rt; sitting.is(End::Closed, &[GREETED, NO_ROW], &turns));
     let input = input_of(
         alloc,
-        [Piece::Idle, piece(alloc, GREETING)?, Piece::Idle, piece(alloc, &QUERY[..9])?, Piece::Idle],
+        [
+            Piece::Idle,
+            piece(alloc, GREETING)?,
+            Piece::Idle,
+            piece(alloc, &QUERY[..9])?,
+            Piece::Idle,
+        ],
     )?;
     let sitting = served(&rt, alloc, input, Takings::new(alloc))?;
     assert!(rt; sitting.is(End::Idle, &[GREETED], &[GREETED_TURN]));

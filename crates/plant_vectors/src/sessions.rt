@@ -7,6 +7,7 @@ use session::{Bad, End};
 use std::test::Fail;
 
 const GREETED_TURN: Turn = Turn::Greeted { capability: 3 };
+
 const LOGGED_TURN: Turn = Turn::Logged { place: 0, now: NOW };
 
 #[test]
@@ -45,7 +46,13 @@ fn truncated_and_empty_input(rt: HostRuntime) -> Result<(), Fail> {
     let alloc = rt.alloc();
     let cut = &QUERY[..QUERY.len() - 1];
     let sitting = greeted(&rt, alloc, &[UPDATE, cut])?;
-    assert!(rt; sitting.is(End::Truncated, &[GREETED, DONE], &[GREETED_TURN, LOGGED_TURN]));
+    assert!(rt;
+        sitting.is(
+            End::Truncated,
+            &[GREETED, DONE],
+            &[GREETED_TURN, LOGGED_TURN]
+        )
+    );
     let sitting = sit(&rt, alloc, &Limits::standard(), MemLink::of(alloc, b"")?)?;
     assert!(rt; sitting.is(End::Closed, &[], &[]));
     let sitting = sit(&rt, alloc, &Limits::standard(), MemLink::of(alloc, b"u:p")?)?;
@@ -65,19 +72,45 @@ fn float_not_built(rt: HostRuntime) -> Result<(), Fail> {
 #[test]
 fn refused_updates(rt: HostRuntime) -> Result<(), Fail> {
     let alloc = rt.alloc();
-    let refused = Turn::Refused { length: 0, now: NOW };
+    let refused = Turn::Refused {
+        length: 0,
+        now: NOW,
+    };
     let front = UPDATE.len() - 9;
     let messages = [
         (
-            joined(alloc, &[b"\x01\x01\x00\x00\x42\x00\x00\x00", &UPDATE[8..22], b"\xf5quote\0", &UPDATE[29..]])?,
+            joined(
+                alloc,
+                &[
+                    b"\x01\x01\x00\x00\x42\x00\x00\x00",
+                    &UPDATE[8..22],
+                    b"\xf5quote\0",
+                    &UPDATE[29..],
+                ],
+            )?,
             b"\x01\x02\x00\x00\x0f\x00\x00\x00\x80quote\0".as_slice(),
         ),
         (
-            joined(alloc, &[b"\x01\x01\x00\x00\x39\x00\x00\x00", &UPDATE[8..29], b"\0\0\x03\0\0\0", &UPDATE[35..front]])?,
+            joined(
+                alloc,
+                &[
+                    b"\x01\x01\x00\x00\x39\x00\x00\x00",
+                    &UPDATE[8..29],
+                    b"\0\0\x03\0\0\0",
+                    &UPDATE[35..front],
+                ],
+            )?,
             b"\x01\x02\x00\x00\x10\x00\x00\x00\x80length\0".as_slice(),
         ),
         (
-            joined(alloc, &[b"\x01\x01\x00\x00\x3e\x00\x00\x00", &UPDATE[8..front], b"\xfa\xc8\0\0\0"])?,
+            joined(
+                alloc,
+                &[
+                    b"\x01\x01\x00\x00\x3e\x00\x00\x00",
+                    &UPDATE[8..front],
+                    b"\xfa\xc8\0\0\0",
+                ],
+            )?,
             b"\x01\x02\x00\x00\x0e\x00\x00\x00\x80type\0".as_slice(),
         ),
     ];
@@ -95,7 +128,10 @@ fn greeting_past_its_limit(rt: HostRuntime) -> Result<(), Fail> {
     let mut limits = Limits::standard();
     limits.greeting = 3;
     let sitting = sit(&rt, alloc, &limits, MemLink::of(alloc, GREETING)?)?;
-    let end = End::BadMessage { code: Bad::Greeting, at: 3 };
+    let end = End::BadMessage {
+        code: Bad::Greeting,
+        at: 3,
+    };
     assert!(rt; sitting.is(end, &[], &[]));
     Ok(())
 }

@@ -40,13 +40,27 @@ fn are_joined(bytes: &[u8], parts: &[&[u8]]) -> bool {
 }
 
 /// Serves the link, with a plant that is open today.
-pub fn sit<R: Wait>(rt: &R, alloc: Global, limits: &Limits, link: MemLink) -> Result<Sitting, NoMemory> {
+pub fn sit<R: Wait>(
+    rt: &R,
+    alloc: Global,
+    limits: &Limits,
+    link: MemLink,
+) -> Result<Sitting, NoMemory> {
     let mut link = link;
     let mut recorder = MemRecorder::with_room(alloc, 16)?;
     let mut plant = Solo::new(alloc, TODAY)?;
     let mut clock = SteadyClock::new(NOW);
     let mut gate = NoGate;
-    let report = serve_session(rt, alloc, &mut plant, &mut link, &mut clock, &mut gate, &mut recorder, limits);
+    let report = serve_session(
+        rt,
+        alloc,
+        &mut plant,
+        &mut link,
+        &mut clock,
+        &mut gate,
+        &mut recorder,
+        limits,
+    );
     Ok(Sitting {
         end: report.end,
         link,

@@ -43,6 +43,13 @@ impl<T: Drop> Sequence<T> {
         self.items.len()
     }
 
+    /// The items, which are not copied.
+    pub fn into_vec(self) -> Vec<T>
+        ensures { result.items ≡ self }
+    {
+        self.items
+    }
+
     /// Puts the item at the end. A refused call changes nothing.
     pub fn push(&mut self, item: T) -> Result<(), NoMemory>
         ensures ok { OnOk result (self.new ≡ self.old ++ item ∷ []) }

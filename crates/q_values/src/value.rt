@@ -24,7 +24,9 @@ pub type Places = Sequence<usize>;
 /// A table: at least one column, a name for each, and columns of one length.
 #[derive(Drop)]
 pub struct TableValue {
+    /// The names of the columns.
     pub names: Names,
+    /// The columns, of one length.
     pub columns: Columns,
     pub ghost in_shape: { IsTable names columns },
 }
@@ -32,7 +34,9 @@ pub struct TableValue {
 /// A keyed table: the key columns and the others, of one length.
 #[derive(Drop)]
 pub struct KeyedValue {
+    /// The key columns.
     pub keys: TableValue,
+    /// The other columns.
     pub values: TableValue,
     pub ghost of_one_length: { rows_of keys.columns ≡ rows_of values.columns },
 }
@@ -48,7 +52,9 @@ pub struct Values {
 #[cycle(value)]
 #[derive(Drop)]
 pub struct Pair {
+    /// The keys.
     pub keys: Value,
+    /// A value for each key.
     pub values: Value,
 }
 

@@ -1,8 +1,8 @@
 -- What the one pass of a plant shows.
-use Rattle.std.proofs.Common.{◌≡◌, ℕ, ℤ, ◌++◌, List, [], ◌∷◌, length, true, refl, ap, sym, ◌∙◌}
+use Rattle.std.proofs.Common.{◌≡◌, ℕ, ℤ, ◌++◌, List, [], ◌∷◌, length, true, refl}
 use Rattle.std.proofs.lemmas.List.{append-nil, map_push, length-map}
 use Rattle.q_values.specs.Tree.{Tree}
-use Rattle.session.specs.Access.{AccessView, SeesMore, Logs, Looks}
+use Rattle.session.specs.Access.{AccessView, Logs, Looks}
 use Rattle.session.specs.Ticks.{updates_of}
 use Rattle.session.specs.Verdict.{Row, row_update, verdict, accepts}
 

@@ -1,12 +1,10 @@
 -- How an access goes on.
-use Rattle.std.proofs.Common.{◌≡◌, ◌≤◌, ◌+◌, ℕ, ℤ, true, List, [], ◌∷◌, ◌++◌, length, refl, sym, ap, ◌∙◌, arith, append_assoc}
+use Rattle.std.proofs.Common.{◌≡◌, ◌+◌, ℕ, ℤ, List, [], ◌∷◌, ◌++◌, length, refl, ap, ◌∙◌, arith, append_assoc}
 use Rattle.std.proofs.lemmas.List.{append-nil, length-append}
 use Rattle.q_values.specs.Tree.{Tree}
-use Rattle.q_values.specs.declared.limits.Limits.{Limits}
 use Rattle.q_values.specs.declared.turn.Turn.TheVariants.{Logged, Refused, Answered, Declined, Short}
 use Rattle.session.specs.Access.{AccessView, Logs, Looks, Asks}
-use Rattle.session.specs.Chronicle.{Update}
-use Rattle.session.specs.Run.{Advances, advanced}
+use Rattle.session.specs.Run.{Advances}
 
 -- an update was logged
 pub advances_logged : (a b : AccessView) (table : List ℕ) (items : List Tree) (now : ℤ) (place : ℕ) (l : Logs a b table items now place) → Advances a b (Logged place now ∷ []) l.entries

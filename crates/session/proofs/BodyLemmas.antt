@@ -1,5 +1,5 @@
 -- What stands behind a header.
-use Rattle.std.proofs.Common.{◌≡◌, ◌+◌, ℕ, true, eqb, List, Result, Ok, Err, refl, sym, ap, arith}
+use Rattle.std.proofs.Common.{◌≡◌, ◌+◌, ℕ, true, eqb, Result, Ok, Err, refl, arith}
 use Rattle.std.proofs.lemmas.Bool.{eq-eqb}
 use Rattle.ipc_codec.specs.Reading.{measured}
 use Rattle.ipc_codec.specs.declared.refusal.DecodeRefusal.{DecodeRefusal}

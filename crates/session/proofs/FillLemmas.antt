@@ -1,5 +1,5 @@
 -- Filling a buffer, read by read.
-use Rattle.std.proofs.Common.{◌≡◌, ◌≤◌, ◌<◌, ◌+◌, ◌-◌, ℕ, zero, suc, Bool, true, false, List, [], ◌∷◌, ◌++◌, length, take, drop, refl, sym, ap, ◌∙◌, arith, Option, Some, None, append_assoc}
+use Rattle.std.proofs.Common.{◌≡◌, ◌≤◌, ◌<◌, ◌+◌, ◌-◌, ℕ, zero, suc, false, List, [], ◌++◌, length, take, drop, refl, sym, ap, ◌∙◌, arith, Option, Some, None, append_assoc}
 use Rattle.std.proofs.lemmas.List.{append-nil}
 use Rattle.outside_api.specs.Counts.{counted, next_count}
 use Rattle.outside_api.specs.Link.{LinkView, Reads}
@@ -69,13 +69,14 @@ fill_bytes old mid new buffer part place n left_old left f r = record {
 pub fill_idle : (old mid new : LinkView) (buffer part : List ℕ) (place left_old left : ℕ) → Filling old mid buffer place left_old left → Reads mid new part Idle → (idled : ℕ) × Gives old new left_old (left - 1) (take place (put_mid place (length buffer - place) buffer part)) idled (λ link. link) × (old.ended ≡ false)
 fill_idle old mid new buffer part place left_old left f r =
     let some = f.some in
-    let idles = f.gives.idles in
-    (f.idled + 1,
-    record {
-      link = r.1 ∙ rw (f.gives.link, take-put_mid_below place (length buffer - place) buffer part place (omega arith) f.within, ← counted-counted old.idles f.idled 1) refl;
-      idles = omega arith;
-    },
-    sym (ap (λ (l : LinkView). l.ended) f.gives.link) ∙ r.0)
+    let idles = f.gives.idles in (
+      f.idled + 1,
+      record {
+        link = r.1 ∙ rw (f.gives.link, take-put_mid_below place (length buffer - place) buffer part place (omega arith) f.within, ← counted-counted old.idles f.idled 1) refl;
+        idles = omega arith;
+      },
+      sym (ap (λ (l : LinkView). l.ended) f.gives.link) ∙ r.0,
+    )
 
 pub fill_on : (old mid new : LinkView) (buffer part : List ℕ) (place left_old left : ℕ) → Filling old mid buffer place left_old left → Reads mid new part Idle → (left - 1 ≡ 0 → ⊥) → Filling old new (put_mid place (length buffer - place) buffer part) place left_old (left - 1)
 fill_on old mid new buffer part place left_old left f r more =

@@ -1,12 +1,12 @@
 -- Reading a greeting, byte by byte.
-use Rattle.std.proofs.Common.{◌≡◌, ◌≤◌, ◌<◌, ◌+◌, ◌-◌, ℕ, Bool, true, false, List, [], ◌∷◌, ◌++◌, length, get_or, refl, sym, ap, ◌∙◌, arith, All}
+use Rattle.std.proofs.Common.{◌≡◌, ◌<◌, ◌+◌, ◌-◌, ℕ, false, List, [], ◌∷◌, ◌++◌, length, get_or, refl, sym, ap, ◌∙◌, arith}
 use Rattle.std.proofs.lemmas.List.{append-nil, length-append}
 use Rattle.std.proofs.Math.Seq.{get_or-append_seam}
 use Rattle.outside_api.specs.Link.{LinkView}
 use Rattle.q_values.specs.Bytes.{HasNoNul}
 use Rattle.session.specs.Filled.{Gives, stopped, WasOpen}
 use Rattle.session.specs.Greets.{GivesByte, Greets}
-use Rattle.session.specs.Stream.{capability_of, capability_in}
+use Rattle.session.specs.Stream.{capability_in}
 use Rattle.session.specs.declared.fill.Stop.{Stop}
 use Rattle.session.specs.declared.fill.Stop.TheVariants as s
 use Rattle.session.specs.declared.greeting.Byte.TheVariants as b
@@ -70,14 +70,15 @@ was_open s.Idle old mid left_old left count last p w = still_open old mid left_o
 pub greeted_stopped : (old mid new : LinkView) (left_old left left_new count last limit : ℕ) (stop : Stop) → Greeted old mid left_old left count last → GivesByte mid new left left_new (b.Stopped stop) → count < limit + 1 → Greets old new left_old left_new limit (g.Stopped stop (eqb count 0))
 greeted_stopped old mid new left_old left left_new count last limit stop p q within =
     let size = p.size in
-    let whole : p.bytes ++ [] ≡ p.bytes = append-nil p.bytes in
-    (p.bytes,
-    record {
-      idled = p.idled + q.0;
-      gives = rw whole at (gives_more old mid new left_old left left_new p.bytes [] p.idled q.0 (stopped stop) p.gives q.1);
-      no_nul = p.no_nul;
-    },
-    omega arith,
-    q.2,
-    was_open stop old mid left_old left count last p q.3,
-    ap (λ n. eqb n 0) (sym size))
+    let whole : p.bytes ++ [] ≡ p.bytes = append-nil p.bytes in (
+      p.bytes,
+      record {
+        idled = p.idled + q.0;
+        gives = rw whole at (gives_more old mid new left_old left left_new p.bytes [] p.idled q.0 (stopped stop) p.gives q.1);
+        no_nul = p.no_nul;
+      },
+      omega arith,
+      q.2,
+      was_open stop old mid left_old left count last p q.3,
+      ap (λ n. eqb n 0) (sym size),
+    )

@@ -1,11 +1,11 @@
 -- Reading one message.
-use Rattle.std.proofs.Common.{◌≡◌, ◌≤◌, ◌<◌, ◌+◌, ◌-◌, ℕ, Bool, true, false, List, [], ◌∷◌, ◌++◌, length, take, Result, Ok, Err, Some, None, refl, sym, ap, ◌∙◌, arith}
+use Rattle.std.proofs.Common.{◌≡◌, ◌≤◌, ◌+◌, ◌-◌, ℕ, false, List, ◌++◌, length, take, Ok, refl, ◌∙◌, arith}
 use Rattle.std.proofs.lemmas.List.{length-append, take_at}
 use Rattle.outside_api.specs.Link.{LinkView}
 use Rattle.ipc_codec.specs.Reading.{object_of}
 use Rattle.ipc_codec.specs.declared.order.Order.TheVariants.{Little}
 use Rattle.q_values.specs.declared.limits.Limits.{Limits}
-use Rattle.session.specs.Filled.{Gives, Fills, stopped, WasOpen}
+use Rattle.session.specs.Filled.{Fills, stopped, WasOpen}
 use Rattle.std.proofs.Common.{drop, min}
 use Rattle.std.proofs.lemmas.List.{length-take}
 use Rattle.outside_api.specs.Counts.{last_count}
@@ -15,11 +15,11 @@ use Rattle.session.specs.declared.body.Body.TheVariants as b
 use Rattle.session.specs.declared.end.Bad.TheVariants as bad
 use Rattle.session.specs.declared.incoming.Head.TheVariants as h
 use Rattle.session.specs.declared.incoming.Incoming.TheVariants as i
-use Rattle.session.specs.Stream.{Front, front_of, header_of, body_front, partial}
+use Rattle.session.specs.Stream.{Front, front_of, header_of, body_front}
 use Rattle.session.specs.declared.fill.Filled.TheVariants.{Whole, Stopped}
 use Rattle.session.specs.declared.fill.Stop.{Stop}
 use Rattle.session.specs.declared.fill.Stop.TheVariants as s
-use Rattle.session.proofs.FillLemmas.{gives_more, still_open}
+use Rattle.session.proofs.FillLemmas.{gives_more}
 use Rattle.session.proofs.StreamLemmas.{front_whole, front_within, front_bad_header}
 use Rattle.session.specs.declared.header.BadHeader.{BadHeader}
 

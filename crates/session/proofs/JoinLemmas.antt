@@ -1,7 +1,7 @@
 -- Parts of a session, one behind the other.
-use Rattle.std.proofs.Common.{◌≡◌, ◌≤◌, ◌<◌, ◌+◌, ℕ, ℤ, Bool, true, false, List, [], ◌∷◌, ◌++◌, length, map, take, min, All, Option, Some, None, cond, refl, sym, ap, ◌∙◌, arith, append_assoc}
+use Rattle.std.proofs.Common.{◌≡◌, ◌≤◌, ◌+◌, ℕ, ℤ, Bool, List, [], ◌∷◌, ◌++◌, length, map, All, Option, Some, None, cond, refl, sym, ap, ◌∙◌, arith, append_assoc}
 use Rattle.std.specs.List.{flat_map, count_by}
-use Rattle.std.proofs.lemmas.List.{append-nil, length-append, map-append}
+use Rattle.std.proofs.lemmas.List.{length-append, map-append}
 use Rattle.std.proofs.lemmas.List.Concat.{flat_map-append}
 use Rattle.std.proofs.lemmas.List.Sums.{sum_by-append}
 use Rattle.std.proofs.lemmas.List.Elements.{All-append, All-weaker}
@@ -11,11 +11,11 @@ use Rattle.q_values.specs.declared.limits.Limits.{Limits}
 use Rattle.q_values.specs.declared.turn.Turn.{Turn}
 use Rattle.q_values.specs.declared.turn.Turn.TheVariants.{Logged, Refused, Answered}
 use Rattle.session.specs.Access.{AccessView}
-use Rattle.session.specs.Chronicle.{Update, IsFront}
+use Rattle.session.specs.Chronicle.{Update}
 use Rattle.session.specs.Lawful.{AllGoOn, GoesOn, length_after, last_length, is_answered}
-use Rattle.session.specs.Request.{Request, update, text, other, request_of}
-use Rattle.session.specs.Run.{World, Works, Advances, advanced}
-use Rattle.session.specs.Served.{Step, Serves, Answers, IsStep, StandsAt}
+use Rattle.session.specs.Request.{Request, update, text, request_of}
+use Rattle.session.specs.Run.{World, Works, Advances}
+use Rattle.session.specs.Served.{Step, Serves, Answers, IsStep}
 use Rattle.session.specs.Stream.{Message, Frames}
 use Rattle.session.proofs.FillLemmas.{told-told, counted-counted}
 

@@ -1,11 +1,11 @@
 -- What messages ask for.
-use Rattle.std.proofs.Common.{◌≡◌, ◌<◌, ◌+◌, ℕ, zero, suc, Bool, true, false, List, [], ◌∷◌, length, map, get_or, refl, ap, arith, Option, Some, None}
-use Rattle.std.specs.List.{list_all, filter_map}
+use Rattle.std.proofs.Common.{◌≡◌, ◌<◌, ℕ, false, List, [], ◌∷◌, length, map, get_or, refl, ap, Option, Some, None}
+use Rattle.std.specs.List.{filter_map}
 use Rattle.std.specs.Option.{is_some, option_map}
 use Rattle.std.specs.Borrow.{Bor}
 use Rattle.std.proofs.Common.{sym, ◌∙◌}
 use Rattle.std.proofs.lemmas.List.Folds.{list_all-map, list_all_at}
-use Rattle.q_values.specs.Tree.{Tree, Items, item, no_items, items_of, list_of, list, tree, trees, value_step, pair_step, values_step}
+use Rattle.q_values.specs.Tree.{Tree, items_of, list_of, list, tree, trees, value_step, pair_step, values_step}
 use Rattle.q_values.specs.declared.value.Value.{Value, fold-roll-Value}
 use Rattle.q_values.specs.declared.value.Value.TheOpen.{Value-F}
 use Rattle.q_values.specs.declared.value.Value.TheVariants.{rolls-List}

@@ -1,7 +1,6 @@
 -- One message, and then those behind it.
-use Rattle.std.proofs.Common.{◌≡◌, ◌≤◌, ◌<◌, ◌+◌, ℕ, ℤ, Bool, true, false, List, [], ◌∷◌, ◌++◌, length, map, take, min, Option, Some, None, refl, sym, ap, ◌∙◌, arith, append_assoc, inl, inr}
-use Rattle.std.specs.List.{flat_map}
-use Rattle.std.proofs.lemmas.List.{append-nil, length-append}
+use Rattle.std.proofs.Common.{◌≡◌, ◌≤◌, ◌+◌, ℕ, ℤ, Bool, true, false, List, [], ◌∷◌, length, take, min, Option, Some, None, refl, sym, ◌∙◌, arith, inl, inr}
+use Rattle.std.proofs.lemmas.List.{append-nil}
 use Rattle.std.proofs.lemmas.List.Elements.{All-nil, All-cons}
 use Rattle.outside_api.specs.Counts.{counted, last_count}
 use Rattle.outside_api.specs.Link.{LinkView}
@@ -10,7 +9,6 @@ use Rattle.q_values.specs.Tree.{Tree}
 use Rattle.q_values.specs.declared.limits.Limits.{Limits}
 use Rattle.q_values.specs.declared.turn.Turn.{Turn}
 use Rattle.session.specs.Access.{AccessView}
-use Rattle.session.specs.Chronicle.{Update}
 use Rattle.std.specs.Option.{MatchOption}
 use Rattle.std.proofs.Common.{codes}
 use Rattle.q_values.specs.Tree.{wrong}
@@ -19,18 +17,17 @@ use Rattle.session.specs.Answering.{IsServed}
 use Rattle.session.specs.Reply.{reply}
 use Rattle.session.specs.Request.{request_of}
 use Rattle.session.proofs.AdvanceLemmas.{advances_declined}
-use Rattle.session.specs.Ended.{Finishes, ServesOne, Converses, ended_link, Rests, SpendsIdles, WasOpenAt, IsUnfinished, stop_end}
-use Rattle.session.specs.Filled.{Gives, stopped, LeavesIdles, WasOpen}
+use Rattle.session.specs.Ended.{Finishes, ServesOne, Converses, stop_end}
 use Rattle.session.specs.Incoming.{GivesAll, GivesPart, stopped_front}
-use Rattle.session.specs.Run.{World, Works, Runs, Advances, advanced, moved}
+use Rattle.session.specs.Run.{World, Works, Advances}
 use Rattle.session.specs.Served.{Step, Answers, IsStep}
-use Rattle.session.specs.Stream.{Message, Front, nothing, partial, whole, fault, front_of}
+use Rattle.session.specs.Stream.{whole, fault, front_of}
 use Rattle.session.specs.declared.end.Bad.{Bad}
 use Rattle.session.specs.declared.end.End.{End}
 use Rattle.session.specs.declared.end.End.TheVariants as e
 use Rattle.session.specs.declared.fill.Stop.{Stop}
 use Rattle.session.specs.declared.fill.Stop.TheVariants as s
-use Rattle.session.proofs.FillLemmas.{told-nil, told-told, counted-counted, moved-moved}
+use Rattle.session.proofs.FillLemmas.{told-nil, told-told}
 
 -- what the devices show
 abbrev pub world : LinkView → Option (List ℤ) → Option (List Turn) → AccessView → World

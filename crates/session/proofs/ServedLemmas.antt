@@ -1,7 +1,6 @@
 -- What serving a request gives.
-use Rattle.std.proofs.Common.{◌≡◌, ◌≤◌, ◌+◌, ℕ, ℤ, true, List, [], ◌∷◌, ◌++◌, length, refl, sym, ap, ◌∙◌, arith, Option, codes}
-use Rattle.std.proofs.lemmas.List.{append-nil, length-append}
-use Rattle.outside_api.specs.Counts.{counted}
+use Rattle.std.proofs.Common.{◌≡◌, ◌≤◌, ℕ, ℤ, List, [], ◌∷◌, ◌++◌, length, refl, sym, ap, ◌∙◌, arith, Option, codes}
+use Rattle.std.proofs.lemmas.List.{append-nil}
 use Rattle.outside_api.specs.Told.{told}
 use Rattle.q_values.specs.Tree.{Tree, identity, wrong}
 use Rattle.q_values.specs.declared.limits.Limits.{Limits}
@@ -14,9 +13,8 @@ use Rattle.session.specs.Chronicle.{Update}
 use Rattle.session.specs.Reply.{response, reply, refusal_text}
 use Rattle.session.specs.Replies.{Refuses}
 use Rattle.session.specs.Request.{Request, update, text, other}
-use Rattle.session.specs.Run.{Advances}
-use Rattle.session.specs.Served.{Serves, IsRefused, IsDeclined, IsShort, IsIdle}
-use Rattle.session.specs.Verdict.{Verdict, refuses, verdict}
+use Rattle.session.specs.Served.{Serves, IsRefused, IsShort}
+use Rattle.session.specs.Verdict.{refuses, verdict}
 use Rattle.session.specs.declared.refusal.UpdRefusal.{UpdRefusal}
 use Rattle.session.specs.declared.refusal.UpdRefusal.TheVariants as r
 use Rattle.session.specs.declared.reply.Reply.{Reply}

@@ -1,8 +1,7 @@
 -- A whole session.
-use Rattle.std.proofs.Common.{◌≡◌, ◌≤◌, ◌<◌, ◌+◌, ℕ, ℤ, Bool, true, false, zero, suc, eqb, leb, List, [], ◌∷◌, ◌++◌, length, map, take, min, Option, Some, None, refl, sym, ap, ◌∙◌, arith, append_assoc, inl, inr, cond, add-one}
-use Rattle.std.specs.List.{flat_map}
+use Rattle.std.proofs.Common.{◌≡◌, ◌≤◌, ◌<◌, ◌+◌, ℕ, ℤ, Bool, true, false, eqb, leb, List, [], ◌∷◌, ◌++◌, length, map, take, min, Option, Some, None, refl, sym, ap, ◌∙◌, arith, append_assoc, inl, inr, cond, add-one}
 use Rattle.std.proofs.lemmas.Bool.{le-leb, lt-leb}
-use Rattle.std.proofs.lemmas.List.{append-nil, length-append, take_all}
+use Rattle.std.proofs.lemmas.List.{append-nil}
 use Rattle.std.proofs.lemmas.List.Elements.{All-nil, All-take}
 use Rattle.std.proofs.Math.Dec.{eqb-suc-zero}
 use Rattle.outside_api.specs.Counts.{counted, last_count}
@@ -13,13 +12,12 @@ use Rattle.q_values.specs.declared.limits.Limits.{Limits}
 use Rattle.q_values.specs.declared.turn.Turn.{Turn}
 use Rattle.q_values.specs.declared.turn.Turn.TheVariants.{Greeted}
 use Rattle.session.specs.Access.{AccessView}
-use Rattle.session.specs.Ended.{Converses, Rests, SpendsIdles, WasOpenAt, IsSent, IsUnfinished, ended_link, stop_end}
-use Rattle.session.specs.Filled.{Gives, stopped, LeavesIdles, WasOpen}
-use Rattle.session.specs.Greets.{Greets, GivesText}
-use Rattle.session.specs.Run.{World, Works, moved}
-use Rattle.session.specs.Served.{Step, IsStep, sent_parts, turns_of}
+use Rattle.session.specs.Ended.{Converses, Rests, SpendsIdles, WasOpenAt, IsSent, ended_link, stop_end}
+use Rattle.session.specs.Greets.{Greets}
+use Rattle.session.specs.Run.{moved}
+use Rattle.session.specs.Served.{IsStep}
 use Rattle.session.specs.Session.{IsSession, HasCause, HasNoFault, ReadsNothing}
-use Rattle.session.specs.Stream.{Front, nothing, partial, whole, fault, front_of, Ending, closed, truncated, bad, EndsAt, IsStream, ungreeted}
+use Rattle.session.specs.Stream.{Front, front_of, Ending, closed, truncated, bad, EndsAt, ungreeted}
 use Rattle.session.specs.declared.end.Bad.TheVariants as b
 use Rattle.session.specs.declared.end.End.{End}
 use Rattle.session.specs.declared.end.End.TheVariants as e
@@ -29,7 +27,7 @@ use Rattle.session.specs.declared.greeting.Greeting.TheVariants as g
 use Rattle.session.proofs.FillLemmas.{moved-none, moved-moved, told-told, told-nil}
 use Rattle.session.proofs.GoingLemmas.{spends_before, sent_before}
 use Rattle.session.proofs.JoinLemmas.{tells-append}
-use Rattle.session.proofs.ServeLemmas.{world, works-none, tells-none, advances-none}
+use Rattle.session.proofs.ServeLemmas.{world, tells-none, advances-none}
 
 -- what the bytes' end and the idles say of a session's end
 record Ends (limits : Limits) (end : End) (place : ℕ) (front : Front) (idled : ℕ) : Type 0 where

@@ -1,13 +1,12 @@
 -- What stands at the front of bytes.
-use Rattle.std.proofs.Common.{◌≡◌, ◌≤◌, ◌<◌, ◌+◌, ◌-◌, ℕ, zero, suc, Bool, true, false, List, [], ◌∷◌, ◌++◌, length, take, drop, eqb, ltb, Result, Ok, Err, Some, None, refl, sym, ap, ◌∙◌, arith}
+use Rattle.std.proofs.Common.{◌≡◌, ◌≤◌, ◌<◌, ◌+◌, ◌-◌, ℕ, zero, suc, true, false, List, [], ◌∷◌, ◌++◌, length, take, drop, eqb, ltb, Ok, Err, refl, ◌∙◌, arith}
 use Rattle.std.proofs.lemmas.Bool.{lt-ltb, le-ltb}
 use Rattle.std.proofs.Math.Dec.{eqb-suc-zero}
-use Rattle.std.proofs.lemmas.List.{length-append, take_all, take_at, drop_at}
+use Rattle.std.proofs.lemmas.List.{length-append, take_all, drop_at}
 use Rattle.ipc_codec.specs.Reading.{object_of}
 use Rattle.ipc_codec.specs.declared.order.Order.TheVariants.{Little}
 use Rattle.q_values.specs.declared.limits.Limits.{Limits}
-use Rattle.session.specs.Stream.{Front, nothing, partial, whole, fault, front_of, header_of, header_front, body_front}
-use Rattle.session.specs.declared.end.Bad.{Bad}
+use Rattle.session.specs.Stream.{nothing, partial, fault, front_of, header_of, header_front, body_front}
 use Rattle.session.specs.declared.header.BadHeader.{BadHeader}
 
 -- what stands behind a header isn't looked at

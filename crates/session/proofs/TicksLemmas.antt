@@ -1,4 +1,4 @@
-use Rattle.std.proofs.Common.{◌≡◌, ℕ, ℤ, ◌+◌, zero, suc, replicate, ◌++◌, List, [], ◌∷◌, length, map, refl, ap, arith, All}
+use Rattle.std.proofs.Common.{◌≡◌, ℕ, ℤ, zero, suc, replicate, ◌++◌, List, [], ◌∷◌, length, map, refl, ap, arith, All}
 use Rattle.std.proofs.lemmas.List.{length-map}
 use Rattle.std.proofs.lemmas.List.Concat.{flat_map-cons}
 use Rattle.q_values.specs.Contents.{Contents}

@@ -1,5 +1,5 @@
 -- What an access shows of the plant, and what its calls change.
-use Rattle.std.specs.Prelude.{◌≡◌, ◌<◌, ℕ, ℤ, Bool, true, List, [], ◌∷◌, ◌++◌, length, Option, Some, None, Result, Ok, Err}
+use Rattle.std.specs.Prelude.{◌≡◌, ℕ, ℤ, Bool, true, List, [], ◌++◌, length, Result, Ok, Err}
 use Rattle.outside_api.specs.Counts.{counted}
 use Rattle.q_values.specs.Tree.{Tree, trees}
 use Rattle.q_values.specs.declared.refusal.NoMemory.{NoMemory}

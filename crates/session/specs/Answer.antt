@@ -1,7 +1,7 @@
 -- The answer to a text.
 use Rattle.std.specs.Prelude.{ℕ, ℤ, List, [], ◌∷◌, length, replicate, codes}
 use Rattle.q_values.specs.Contents.{Contents}
-use Rattle.q_values.specs.Tree.{Tree, Grid, table}
+use Rattle.q_values.specs.Tree.{Tree, table}
 use Rattle.q_values.specs.declared.atom.Atom.TheVariants as a
 use Rattle.q_values.specs.declared.kind.Kind.TheVariants as k
 use Rattle.session.specs.Chronicle.{Update, column_atoms}

@@ -1,6 +1,6 @@
 -- What the reading of a request gives.
 use Rattle.std.specs.Prelude.{◌≡◌, ◌≢◌, ℕ, List, [], ◌∷◌, Option, Some, None}
-use Rattle.q_values.specs.Tree.{Tree, tree, trees, list, Items, item, no_items, items_of}
+use Rattle.q_values.specs.Tree.{Tree, tree, trees, items_of}
 use Rattle.q_values.specs.declared.atom.Atom.{Atom}
 use Rattle.q_values.specs.declared.kind.Kind.{Kind}
 use Rattle.std.specs.Borrow.{Bor}

@@ -1,5 +1,5 @@
 -- The chronicle: what was logged, in order.
-use Rattle.std.specs.Prelude.{◌≡◌, ◌+◌, ℕ, ℤ, List, [], ◌∷◌, ◌++◌, length, take, drop, Option}
+use Rattle.std.specs.Prelude.{◌≡◌, ℕ, ℤ, List, ◌++◌, length, take, drop}
 use Rattle.std.specs.List.{flat_map}
 use Rattle.q_values.specs.Contents.{Contents}
 use Rattle.q_values.specs.declared.atom.Atom.{Atom}

@@ -1,5 +1,5 @@
 -- What filling a buffer from a link gives.
-use Rattle.std.specs.Prelude.{◌≡◌, ◌≤◌, ◌<◌, ◌+◌, ℕ, Bool, true, false, List, [], length, take}
+use Rattle.std.specs.Prelude.{◌≡◌, ◌<◌, ◌+◌, ℕ, true, false, List, [], length, take}
 use Rattle.outside_api.specs.Counts.{counted}
 use Rattle.outside_api.specs.Link.{LinkView}
 use Rattle.session.specs.Run.{moved}

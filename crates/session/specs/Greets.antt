@@ -1,10 +1,9 @@
 -- What reading a greeting gives.
-use Rattle.std.specs.Prelude.{◌≡◌, ◌==◌, ◌≤◌, ◌<◌, ◌+◌, ℕ, Bool, true, false, List, [], ◌∷◌, ◌++◌, length}
+use Rattle.std.specs.Prelude.{◌≡◌, ◌==◌, ◌≤◌, ◌<◌, ◌+◌, ℕ, false, List, [], ◌∷◌, ◌++◌, length}
 use Rattle.outside_api.specs.Link.{LinkView}
 use Rattle.q_values.specs.Bytes.{HasNoNul}
 use Rattle.session.specs.Filled.{Gives, stopped, LeavesIdles, WasOpen}
 use Rattle.session.specs.Stream.{capability_of}
-use Rattle.session.specs.declared.fill.Stop.{Stop}
 use Rattle.session.specs.declared.greeting.Byte.{Byte}
 use Rattle.session.specs.declared.greeting.Byte.TheVariants as b
 use Rattle.session.specs.declared.greeting.Greeting.{Greeting}

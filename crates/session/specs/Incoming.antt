@@ -1,5 +1,5 @@
 -- What reading a message gives.
-use Rattle.std.specs.Prelude.{◌≡◌, ◌≤◌, ◌<◌, ◌+◌, ◌-◌, ℕ, Bool, true, false, List, [], length, take, min, Result, Ok, Err, Some, None}
+use Rattle.std.specs.Prelude.{◌≡◌, ◌≤◌, ◌<◌, ◌-◌, ℕ, Bool, true, false, List, length, take, min, Ok, Err, Some, None}
 use Rattle.outside_api.specs.Counts.{last_count}
 use Rattle.outside_api.specs.Link.{LinkView}
 use Rattle.ipc_codec.specs.Reading.{object_of}
@@ -7,7 +7,7 @@ use Rattle.ipc_codec.specs.declared.order.Order.TheVariants.{Little}
 use Rattle.q_values.specs.Tree.{Tree}
 use Rattle.q_values.specs.declared.limits.Limits.{Limits}
 use Rattle.session.specs.Filled.{Gives, stopped, LeavesIdles, WasOpen}
-use Rattle.session.specs.Stream.{Message, Front, nothing, partial, whole, fault, front_of, header_of}
+use Rattle.session.specs.Stream.{Front, nothing, partial, whole, fault, front_of, header_of}
 use Rattle.session.specs.declared.fill.Stop.{Stop}
 use Rattle.session.specs.declared.incoming.Head.{Head}
 use Rattle.session.specs.declared.incoming.Head.TheVariants as h

@@ -1,7 +1,7 @@
-use Rattle.std.specs.Prelude.{◌≡◌, ◌+◌, ℕ, true, List, length, Result, Ok, Some, None}
+use Rattle.std.specs.Prelude.{◌≡◌, ◌+◌, ℕ, true, Result, Ok, Some, None}
 use Rattle.ipc_codec.specs.declared.refusal.DecodeRefusal.{DecodeRefusal}
 use Rattle.q_values.specs.Tree.{Tree}
-use Rattle.session.specs.Stream.{Message, body_front, whole, fault}
+use Rattle.session.specs.Stream.{body_front, whole, fault}
 use Rattle.session.specs.declared.body.Body.{Body}
 use Rattle.session.specs.declared.body.Body.TheVariants.{Object, Outside, Wrong}
 use Rattle.session.specs.declared.end.Bad.TheVariants as b

@@ -1,5 +1,5 @@
 -- The bytes that answer a message.
-use Rattle.std.specs.Prelude.{ℕ, ◌+◌, nat_lt, if◌then◌else◌, List, [], ◌∷◌, ◌++◌, length, codes}
+use Rattle.std.specs.Prelude.{ℕ, ◌+◌, nat_lt, if◌then◌else◌, List, ◌∷◌, ◌++◌, length, codes}
 use Rattle.std.specs.Int.{w32, to_le_bytes}
 use Rattle.ipc_codec.specs.Written.{written}
 use Rattle.q_values.specs.Tree.{Tree, wrong}

@@ -1,10 +1,9 @@
 -- What a message asks for.
-use Rattle.std.specs.Prelude.{ℕ, List, [], ◌∷◌, if◌then◌else◌, Bool, true, false, ◌&&◌, Option, Some, None, codes}
+use Rattle.std.specs.Prelude.{ℕ, List, if◌then◌else◌, Bool, ◌&&◌, Option, Some, None, codes}
 use Rattle.std.specs.List.{list_all, filter_map}
 use Rattle.std.specs.Option.{is_some}
 use Rattle.std.specs.Str.{bytes_eq}
-use Rattle.q_values.specs.Contents.{Contents}
-use Rattle.q_values.specs.Tree.{Tree, atom, vector, list, dict, table, keyed, identity, wrong, Items, no_items, item, list_of}
+use Rattle.q_values.specs.Tree.{Tree, vector, list, Items, no_items, item, list_of}
 use Rattle.q_values.specs.declared.atom.Atom.{Atom}
 use Rattle.q_values.specs.declared.atom.Atom.TheVariants as a
 use Rattle.q_values.specs.declared.kind.Kind.{Kind}

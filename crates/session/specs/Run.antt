@@ -1,5 +1,5 @@
 -- A part of a session: what its devices showed before and behind it, and the messages served in between.
-use Rattle.std.specs.Prelude.{◌≡◌, ◌≤◌, ◌+◌, ℕ, ℤ, Bool, true, List, [], ◌∷◌, ◌++◌, length, map, All, count_by, Option}
+use Rattle.std.specs.Prelude.{◌≡◌, ◌≤◌, ℕ, ℤ, true, List, ◌++◌, length, map, All, count_by, Option}
 use Rattle.std.specs.List.{flat_map}
 use Rattle.outside_api.specs.Counts.{counted}
 use Rattle.outside_api.specs.Link.{LinkView}

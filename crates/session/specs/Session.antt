@@ -1,5 +1,5 @@
 -- What a session is: what was read of its link, and what it did of that.
-use Rattle.std.specs.Prelude.{◌≡◌, ◌<◌, ◌⊎◌, ℕ, ℤ, List, [], ◌∷◌, ◌++◌, length, map, All, min, Option, None}
+use Rattle.std.specs.Prelude.{◌≡◌, ◌<◌, ◌⊎◌, ℕ, List, [], map, All, min, Option}
 use Rattle.std.specs.List.{flat_map}
 use Rattle.outside_api.specs.Counts.{last_count}
 use Rattle.outside_api.specs.Told.{told, Tells}

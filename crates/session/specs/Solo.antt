@@ -1,4 +1,4 @@
-use Rattle.std.specs.Prelude.{ℕ, true}
+use Rattle.std.specs.Prelude.{true}
 use Rattle.session.specs.Access.{AccessView}
 use Rattle.session.specs.Ticks.{updates_of}
 use Rattle.session.specs.declared.solo.Solo.{Solo}

@@ -27,7 +27,6 @@ pub struct Answer {
     pub reply: Reply,
 }
 
-
 fn answer_update<A: Access, C: Clock, R: Wait>(
     rt: &R,
     alloc: Global,

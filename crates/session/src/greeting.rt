@@ -49,12 +49,7 @@ fn capped(last: u8) -> u8
 }
 
 /// Reads up to the greeting's NUL, before which so many bytes may stand.
-pub fn read_greeting<L: Link, R: Wait>(
-    rt: &R,
-    link: &mut L,
-    left: &mut u64,
-    limit: u32,
-) -> Greeting
+pub fn read_greeting<L: Link, R: Wait>(rt: &R, link: &mut L, left: &mut u64, limit: u32) -> Greeting
     requires { 0 < left.old }
     ensures { Greets (L.shown link.old) (L.shown link.new) left.old left.new limit result }
 {

@@ -78,13 +78,13 @@ pub fn serve_message<A: Access, L: Link, C: Clock, G: Gate, N: Recorder, R: Wait
     requires room { limits.now.message ≤ length buffer.old }
     ensures { MatchOption result
         (ServesOne limits.now
-            (record { link = L.shown link.old; clock = C.readings clock.old; notes = N.noted turns.old; access = A.shown access.old })
-            (record { link = L.shown link.new; clock = C.readings clock.new; notes = N.noted turns.new; access = A.shown access.new })
-            progress.old.left progress.new.left progress.old.offset progress.new.offset)
+        (record { link = L.shown link.old; clock = C.readings clock.old; notes = N.noted turns.old; access = A.shown access.old })
+        (record { link = L.shown link.new; clock = C.readings clock.new; notes = N.noted turns.new; access = A.shown access.new })
+        progress.old.left progress.new.left progress.old.offset progress.new.offset)
         (λ end. Converses limits.now
-            (record { link = L.shown link.old; clock = C.readings clock.old; notes = N.noted turns.old; access = A.shown access.old })
-            (record { link = L.shown link.new; clock = C.readings clock.new; notes = N.noted turns.new; access = A.shown access.new })
-            progress.old.offset progress.old.left end) }
+        (record { link = L.shown link.old; clock = C.readings clock.old; notes = N.noted turns.old; access = A.shown access.old })
+        (record { link = L.shown link.new; clock = C.readings clock.new; notes = N.noted turns.new; access = A.shown access.new })
+        progress.old.offset progress.old.left end) }
 {
     match read_message(rt, link, limits, buffer, &mut progress.left) {
         Incoming::Object(length) => {
@@ -130,7 +130,16 @@ pub fn serve_messages<A: Access, L: Link, C: Clock, G: Gate, N: Recorder, R: Wai
 {
     for _ in rt.forever() {
         let served = serve_message(
-            rt, alloc, access, link, clock, gate, turns, limits, buffer, &mut progress,
+            rt,
+            alloc,
+            access,
+            link,
+            clock,
+            gate,
+            turns,
+            limits,
+            buffer,
+            &mut progress,
         );
         match served {
             Some(end) => return end,

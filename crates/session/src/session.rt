@@ -36,7 +36,17 @@ pub fn serve_session<A: Access, L: Link, C: Clock, G: Gate, N: Recorder, R: Wait
         result.end }
 {
     let end = match vec![in alloc; 0u8; limits.message as usize] {
-        Ok(mut buffer) => serve_link(rt, alloc, access, link, clock, gate, turns, limits, &mut buffer),
+        Ok(mut buffer) => serve_link(
+            rt,
+            alloc,
+            access,
+            link,
+            clock,
+            gate,
+            turns,
+            limits,
+            &mut buffer,
+        ),
         Err(_) => End::NoMemory,
     };
     Report { end }
@@ -71,7 +81,9 @@ fn serve_link<A: Access, L: Link, C: Clock, G: Gate, N: Recorder, R: Wait>(
                         left,
                         offset: length,
                     };
-                    serve_messages(rt, alloc, access, link, clock, gate, turns, limits, buffer, progress)
+                    serve_messages(
+                        rt, alloc, access, link, clock, gate, turns, limits, buffer, progress,
+                    )
                 }
                 Err(_) => End::WriteFault,
             }

@@ -93,7 +93,10 @@ impl Access for Solo {
         match row_of(alloc, request, self.date, now) {
             Ok(row) => match self.ticks.push(&row) {
                 Ok(()) => UpdTurn::Logged { place: length },
-                Err(_) => UpdTurn::Refused { length, why: UpdRefusal::NoMemory },
+                Err(_) => UpdTurn::Refused {
+                    length,
+                    why: UpdRefusal::NoMemory,
+                },
             },
             Err(why) => UpdTurn::Refused { length, why },
         }
@@ -101,6 +104,9 @@ impl Access for Solo {
 
     fn snapshot<R: Wait>(&mut self, _rt: &R, alloc: Global) -> Result<Snapshot, NoMemory> {
         self.snapshots = self.snapshots.saturating_add(1);
-        Ok(Snapshot { date: self.date, ticks: self.ticks.copy(alloc)? })
+        Ok(Snapshot {
+            date: self.date,
+            ticks: self.ticks.copy(alloc)?,
+        })
     }
 }

@@ -3,7 +3,9 @@ ghost use Rattle.std.specs.Prelude.{◌≡◌, ℕ, [], ◌∷◌, ◌++◌, len
 ghost use Rattle.session.specs.Answer.{answer_names, answer_columns};
 ghost use Rattle.session.specs.Ticks.{updates_of};
 
-use q_values::{Column, Columns, IntegerKind, LongKind, Names, NoMemory, Sym, Symbols, TableValue, Vector};
+use q_values::{
+    Column, Columns, IntegerKind, LongKind, Names, NoMemory, Sym, Symbols, TableValue, Vector,
+};
 use std::alloc::Global;
 use std::marker::Model;
 

@@ -1,4 +1,3 @@
-use Rattle.std.proofs.Common.{arith, refl}
 use Rattle.session.proofs.FillLemmas.{fill_bytes, fill_idle, fill_on, fill_room}
 use Rattle.session.proofs.fill.fill.Goals as goal
 

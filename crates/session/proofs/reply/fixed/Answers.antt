@@ -1,4 +1,4 @@
-use Rattle.std.proofs.Common.{◌≡◌, ltb, true, sym, refl, length}
+use Rattle.std.proofs.Common.{◌≡◌, ltb, true, refl, length}
 use Rattle.std.proofs.lemmas.Bool.{lt-ltb}
 use Rattle.session.proofs.ReplyLemmas.{response-limit}
 use Rattle.session.proofs.reply.fixed.Goals as goal

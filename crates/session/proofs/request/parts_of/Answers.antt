@@ -1,4 +1,4 @@
-use Rattle.std.proofs.Common.{arith, ◌≡◌, length, sym, ap, ◌∙◌, map}
+use Rattle.std.proofs.Common.{arith, ◌≡◌, length, ap, map}
 use Rattle.std.proofs.lemmas.List.{length-map}
 use Rattle.q_values.specs.Tree.{tree, trees}
 use Rattle.session.proofs.RequestLemmas.{no_parts}

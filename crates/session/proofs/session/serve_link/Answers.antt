@@ -1,4 +1,4 @@
-use Rattle.std.proofs.Common.{refl, arith, ap, ◌∷◌, []}
+use Rattle.std.proofs.Common.{arith, ap, ◌∷◌, []}
 use Rattle.session.proofs.SessionLemmas.{session_greeted, session_cut, session_too_long, session_stopped}
 use Rattle.session.proofs.session.serve_link.Goals as goal
 

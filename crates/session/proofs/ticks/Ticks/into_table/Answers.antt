@@ -1,7 +1,5 @@
-use Rattle.std.proofs.Common.{◌≡◌, ℕ, rules, arith, w32, to_z, of_z, replicate, length, List}
-use Rattle.q_values.specs.Contents.{Contents}
-use Rattle.q_values.specs.Table.{IsTable}
-use Rattle.session.specs.Answer.{answer_names, answer_columns}
+use Rattle.std.proofs.Common.{◌≡◌, rules, arith, w32, to_z, of_z, replicate, length}
+use Rattle.session.specs.Answer.{answer_columns}
 use Rattle.session.specs.Ticks.{updates_of}
 use Rattle.session.proofs.TicksLemmas.{answer_columns_are, answer_is_table}
 use Rattle.session.proofs.ticks.Ticks.into_table.Goals as goal

@@ -1,0 +1,5 @@
+pub mod DayLemmas
+pub mod Lists
+pub mod RowsLemmas
+pub mod Sorting
+pub mod ViewLemmas

@@ -1,0 +1,96 @@
+//! Whether entries may be put into a day.
+ghost use Rattle.std.specs.Prelude.{◌≡◌, ◌+◌, ◌≤◌, length, map, All, IfSome, true};
+ghost use Rattle.std.specs.List.{AllByRecursion};
+ghost use Rattle.q_values.specs.Table.{rows_of};
+ghost use Rattle.day_rows.specs.Day.{IsUpdate, entry_rows, total_rows};
+
+use crate::entry::Entry;
+use crate::schema::Kinds;
+use q_values::{Kind, Vector};
+
+fn is_of_kind(column: &Vector, kind: &Kind) -> bool
+    ensures { result ≡ true → column.now.kind ≡ kind.now }
+{
+    column.kind() == *kind
+}
+
+fn has_kinds(columns: &[Vector], kinds: &[Kind]) -> bool
+    ensures { result ≡ true → map (λ c. c.kind) columns.now ≡ kinds.now }
+{
+    if columns.len() != kinds.len() {
+        return false;
+    }
+    for place in 0..columns.len() {
+        if !is_of_kind(&columns[place], &kinds[place]) {
+            return false;
+        }
+    }
+    true
+}
+
+fn first_len(columns: &[Vector]) -> usize
+    ensures { result ≡ rows_of columns.now }
+{
+    match columns {
+        [first, ..] => first.len(),
+        _ => 0,
+    }
+}
+
+fn is_even(columns: &[Vector]) -> bool
+    ensures { result ≡ true → All (λ c. length c.atoms ≡ rows_of columns.now) columns.now }
+{
+    let rows = first_len(columns);
+    for column in columns {
+        if column.len() != rows {
+            return false;
+        }
+    }
+    true
+}
+
+fn is_update(tables: &[Kinds], entry: &Entry) -> bool
+    ensures { result ≡ true → IsUpdate tables.now entry.now }
+{
+    match entry {
+        Entry::Upd { table, columns, .. } => match tables.get(*table as usize) {
+            Some(kinds) => {
+                has_kinds(columns.as_slice(), kinds.as_slice()) && is_even(columns.as_slice())
+            }
+            None => false,
+        },
+        _ => false,
+    }
+}
+
+/// Whether the entries are updates of the tables.
+pub fn are_updates(tables: &[Kinds], entries: &[Entry]) -> bool
+    ensures { result ≡ true → AllByRecursion (IsUpdate tables.now) entries.now }
+{
+    for entry in entries {
+        if !is_update(tables, entry) {
+            return false;
+        }
+    }
+    true
+}
+
+fn rows_of_entry(entry: &Entry) -> usize
+    ensures { result ≡ entry_rows entry.now }
+{
+    match entry {
+        Entry::Upd { columns, .. } => first_len(columns.as_slice()),
+        _ => 0,
+    }
+}
+
+/// The rows of all entries, where a number of 64 bits has them.
+pub fn total_of(entries: &[Entry]) -> Option<u64>
+    ensures { IfSome result (λ total. total ≡ total_rows entries.now) }
+{
+    let mut total = 0u64;
+    for entry in entries {
+        total = total.checked_add(rows_of_entry(entry) as u64)?;
+    }
+    Some(total)
+}

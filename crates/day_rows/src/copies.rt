@@ -1,0 +1,163 @@
+//! Copies of entries and of their parts.
+ghost use Rattle.std.specs.Prelude.{◌≡◌, ◌<◌, ◌≤◌, ◌+◌, ◌-◌, ◌++◌, [], length, take, drop, min, IfOk, OnOk, OnErr, MatchOption};
+ghost use Rattle.std.specs.List.{sum_by};
+ghost use Rattle.day_rows.specs.Day.{total_rows};
+ghost use Rattle.day_rows.specs.Joined.{atoms_in, rows_in, joined};
+
+use crate::entry::Entry;
+use q_values::{Columns, Kind, NoMemory, Vector};
+use std::alloc::Global;
+
+fn copy_vector(alloc: Global, vector: &Vector) -> Result<Vector, NoMemory>
+    ensures { IfOk result (λ copied. copied ≡ vector.now) }
+{
+    vector.take(alloc, 0, vector.len())
+}
+
+pub fn copy_columns(alloc: Global, columns: &Columns) -> Result<Columns, NoMemory>
+    ensures { IfOk result (λ copied. copied ≡ columns.now) }
+{
+    let items = columns.as_slice();
+    let mut copied = Vec::with_capacity(alloc, items.len())?;
+    for column in items {
+        copied.push(copy_vector(alloc, column)?)?;
+    }
+    Ok(Columns::of(copied))
+}
+
+fn copy_entry(alloc: Global, entry: &Entry) -> Result<Entry, NoMemory>
+    ensures { IfOk result (λ copied. copied ≡ entry.now) }
+{
+    match entry {
+        Entry::Upd { by, table, columns } => Ok(Entry::Upd {
+            by: *by,
+            table: *table,
+            columns: copy_columns(alloc, columns)?,
+        }),
+        Entry::Roll { by, date } => Ok(Entry::Roll {
+            by: *by,
+            date: *date,
+        }),
+        Entry::Fault { by } => Ok(Entry::Fault { by: *by }),
+    }
+}
+
+pub fn copy_entries(alloc: Global, entries: &[Entry]) -> Result<Vec<Entry>, NoMemory>
+    ensures { IfOk result (λ copied. copied.items ≡ entries.now) }
+{
+    let mut copied = Vec::with_capacity(alloc, entries.len())?;
+    for entry in entries {
+        copied.push(copy_entry(alloc, entry)?)?;
+    }
+    Ok(copied)
+}
+
+fn count_in(entry: &Entry, table: u32) -> usize
+    ensures { result ≡ rows_in table entry.now }
+{
+    match entry {
+        Entry::Upd {
+            table: to,
+            columns,
+            ..
+        } if *to == table && columns.len() > 0 => { columns.at(0).len() }
+        _ => 0,
+    }
+}
+
+/// The rows of a table.
+pub fn count_rows(entries: &[Entry], table: u32) -> u32
+    requires { total_rows entries.now ≤ 4294967295 }
+    ensures { result ≡ sum_by (rows_in table) entries.now }
+{
+    let mut count = 0;
+    for entry in entries {
+        count += count_in(entry, table) as u32;
+    }
+    count
+}
+
+// The column of a table in an entry, where it has one.
+fn column_in<'a>(entry: &'a Entry, table: u32, column: usize) -> Option<&'a Vector>
+    ensures { MatchOption result (atoms_in table column entry.now ≡ [])
+        (λ found. found.now.atoms ≡ atoms_in table column entry.now) }
+{
+    match entry {
+        Entry::Upd {
+            table: to,
+            columns,
+            ..
+        } if *to == table => columns.as_slice().get(column),
+        _ => None,
+    }
+}
+
+// Appends what `take left` of `drop skip` of the atoms has.
+fn append_part(
+    alloc: Global,
+    found: &mut Vector,
+    more: &Vector,
+    skip: usize,
+    left: usize,
+) -> Result<(), NoMemory>
+    ensures ok { OnOk result (found.new
+        ≡ record found.old { atoms = found.old.atoms ++ take left (drop skip more.now.atoms) }) }
+{
+    let start = skip.min(more.len());
+    let count = left.min(more.len() - start);
+    if count > 0 {
+        let part = more.take(alloc, start, count)?;
+        if found.append(&part).is_err() {
+            return Err(NoMemory);
+        }
+    }
+    Ok(())
+}
+
+// Appends what belongs to the part of `n` atoms behind `skip` more atoms, and answers how many are to be skipped then.
+fn append_entry(
+    alloc: Global,
+    found: &mut Vector,
+    entry: &Entry,
+    table: u32,
+    column: usize,
+    skip: usize,
+    n: usize,
+) -> Result<usize, NoMemory>
+    requires { length found.old.atoms ≤ n }
+    ensures ok { OnOk result (found.new ≡ record found.old {
+      atoms = found.old.atoms
+          ++ take (n - length found.old.atoms) (drop skip (atoms_in table column entry.now));
+    }) }
+    ensures skip { IfOk result (λ left. left ≡ skip - length (atoms_in table column entry.now)) }
+{
+    match column_in(entry, table, column) {
+        Some(more) => {
+            let left = n - found.len();
+            append_part(alloc, found, more, skip, left)?;
+            Ok(skip.saturating_sub(more.len()))
+        }
+        None => Ok(skip),
+    }
+}
+
+/// A part of a table's column, in the order of arrival.
+pub fn join_column(
+    alloc: Global,
+    entries: &[Entry],
+    table: u32,
+    column: usize,
+    kind: Kind,
+    from: usize,
+    n: usize,
+) -> Result<Vector, NoMemory>
+    ensures { IfOk result (λ found. found
+        ≡ record { kind = kind; atoms = take n (drop from (joined table column entries.now)) }) }
+{
+    let mut found = Vector::new(alloc, kind);
+    let mut skip = from;
+    for entry in entries {
+        skip = append_entry(alloc, &mut found, entry, table, column, skip, n)?;
+    }
+    Ok(found)
+}

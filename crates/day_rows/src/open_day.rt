@@ -1,0 +1,217 @@
+//! The open date: a list of updates.
+ghost use Rattle.std.specs.Prelude.{◌≡◌, ◌<◌, ◌≤◌, ◌+◌, ◌^◌, [], ◌∷◌, ◌++◌, length, map, take, drop, IfOk, OnOk, OnErr, true, Some, slice_get, vec_capacity, vec_len};
+ghost use Rattle.std.specs.List.{AllByRecursion};
+ghost use Rattle.q_values.specs.declared.kind.Kind.{Kind};
+ghost use Rattle.day_rows.specs.Rows.{column_of};
+ghost use Rattle.day_rows.specs.Day.{Day, Opened, IsDay, IsUpdate, AreTableKinds, HasColumn, total_rows, arrived};
+
+use crate::admits::{are_updates, total_of};
+use crate::closed_day::{ClosedDay, DayOrder, settle_tables};
+use crate::copies::{copy_entries, count_rows, join_column};
+use crate::entry::{Entries, Entry};
+use crate::schema::{Kinds, Schema};
+use q_values::{NoMemory, Vector};
+use std::alloc::Global;
+use std::marker::Model;
+use std::snapshot::Snapshot;
+
+/// A date that is open: its updates, in order, and room for more (KX, tick.q and r.q).
+#[derive(Drop)]
+pub struct OpenDay {
+    date: i32,
+    tables: Vec<Kinds>,
+    entries: Vec<Entry>,
+    planned: Snapshot<Entries>,
+    pushed: usize,
+}
+
+impl Model for OpenDay {
+    ghost use Rattle.std.specs.Prelude.{drop, vec_capacity, vec_len, ◌-◌};
+    ghost use Rattle.day_rows.specs.Day.{Opened, IsDay, HasRoom, opened_of};
+
+    ghost Value = { Opened };
+
+    ghost view = { λ d. opened_of d.date d.tables.items d.entries.items (drop d.pushed d.planned.value) };
+
+    ghost invariant = { λ d. IsDay (opened_of d.date d.tables.items d.entries.items (drop d.pushed d.planned.value)).day
+        × HasRoom (opened_of d.date d.tables.items d.entries.items (drop d.pushed d.planned.value)) (vec_capacity d.entries - vec_len d.entries) d.pushed };
+}
+
+impl OpenDay {
+    /// A day without updates and without room. The date is in days since 2000.01.01.
+    pub fn new(alloc: Global, schema: &Schema, date: i32) -> Result<OpenDay, NoMemory>
+        ensures { IfOk result (λ opened. opened ≡ record {
+          day = record { date = date; kinds = map (λ shape. shape.kinds) schema.now; updates = [] };
+          room = [];
+        }) }
+    {
+        let tables = kinds_of(alloc, schema)?;
+        Ok(OpenDay {
+            date,
+            tables,
+            entries: Vec::new(alloc),
+            planned: Snapshot::of(&Entries::new(alloc)),
+            pushed: 0,
+        })
+    }
+
+    /// Whether room may be made for these entries: they are updates of the day's tables, and the day would hold no more
+    /// rows than can be numbered.
+    pub fn admits(&self, entries: &Entries) -> bool
+        ensures updates { result ≡ true → AllByRecursion (IsUpdate self.now.day.kinds) entries.now }
+        ensures bounded { result ≡ true → total_rows self.now.day.updates + total_rows entries.now ≤ 4294967295 }
+    {
+        match (total_of(&self.entries), total_of(entries.as_slice())) {
+            (Some(own), Some(more)) => {
+                own.saturating_add(more) <= 4_294_967_295
+                    && are_updates(&self.tables, entries.as_slice())
+            }
+            _ => false,
+        }
+    }
+
+    /// Makes room for these entries, in place of any former room. They are updates of the day's tables. A refused call
+    /// changes nothing.
+    pub fn reserve(&mut self, entries: &Entries) -> Result<(), NoMemory>
+        requires updates { AllByRecursion (IsUpdate self.old.day.kinds) entries.now }
+        requires bounded { total_rows self.old.day.updates + total_rows entries.now ≤ 4294967295 }
+        ensures ok { OnOk result (self.new ≡ record self.old { room = entries.now }) }
+        ensures err { OnErr result (self.new ≡ self.old) }
+    {
+        self.entries.reserve(entries.len())?;
+        self.planned = Snapshot::of(entries);
+        self.pushed = 0;
+        Ok(())
+    }
+
+    /// Puts an entry at the end: the next of those that room was made for. It takes no memory.
+    pub fn push(&mut self, entry: Entry)
+        requires { take 1 self.old.room ≡ entry ∷ [] }
+        ensures { self.new ≡ record {
+          day = record self.old.day { updates = self.old.day.updates ++ entry ∷ [] };
+          room = drop 1 self.old.room;
+        } }
+    {
+        self.entries.push_reserved(entry);
+        self.pushed += 1;
+    }
+
+    /// An equal day, without room.
+    pub fn copy(&self, alloc: Global) -> Result<OpenDay, NoMemory>
+        ensures { IfOk result (λ copied. copied ≡ record self.now { room = [] }) }
+    {
+        let tables = copy_tables(alloc, &self.tables)?;
+        let entries = copy_entries(alloc, &self.entries)?;
+        Ok(OpenDay {
+            date: self.date,
+            tables,
+            entries,
+            planned: Snapshot::of(&Entries::new(alloc)),
+            pushed: 0,
+        })
+    }
+
+    /// The date, in days since 2000.01.01.
+    pub fn date(&self) -> i32
+        ensures value { result ≡ self.now.day.date }
+        ensures lawful { IsDay self.now.day }
+    {
+        self.date
+    }
+
+    /// The number of rows of a table.
+    pub fn rows(&self, table: u32) -> u32
+        requires { table < length self.now.day.kinds }
+        ensures { result ≡ length (arrived self.now.day table) }
+    {
+        count_rows(&self.entries, table)
+    }
+
+    /// A copy of the updates, in order.
+    pub fn updates(&self, alloc: Global) -> Result<Entries, NoMemory>
+        ensures { IfOk result (λ entries. entries ≡ self.now.day.updates) }
+    {
+        Ok(Entries::of(copy_entries(alloc, &self.entries)?))
+    }
+
+    /// The `n` atoms from the place `from` on of a table's column, in the order of arrival.
+    pub fn column(
+        &self,
+        alloc: Global,
+        table: u32,
+        column: u32,
+        from: u32,
+        n: u32,
+    ) -> Result<Vector, NoMemory>
+        requires exists { (kind : Kind) × HasColumn self.now.day table column kind }
+        requires within { from + n ≤ length (arrived self.now.day table) }
+        ensures { IfOk result (λ part. (kind : Kind) → HasColumn self.now.day table column kind
+            → part ≡ record { kind = kind; atoms = take n (drop from (column_of kind column (arrived self.now.day table)).atoms) }) }
+    {
+        let place = column as usize;
+        let kind = *self.tables[table as usize].at(place);
+        let (from, n) = (from as usize, n as usize);
+        let part = join_column(alloc, &self.entries, table, place, kind, from, n)?;
+        Ok(part)
+    }
+
+    /// The documented order of the day's content, once the day has ended: by symbol, then by arrival.
+    pub fn close_order(&self, alloc: Global) -> Result<DayOrder, NoMemory>
+        ensures { IfOk result (λ order. order ≡ self.now.day) }
+    {
+        let tables = settle_tables(alloc, self, &self.tables)?;
+        Ok(DayOrder {
+            tables,
+            of: Snapshot::of(self),
+        })
+    }
+
+    /// The ended day. The order was made of this content. It takes no memory.
+    pub fn close(self, order: DayOrder) -> ClosedDay
+        requires { order ≡ self.day }
+        ensures { result ≡ self.day }
+    {
+        let OpenDay {
+            date,
+            tables: kinds,
+            entries,
+            ..
+        } = self;
+        let DayOrder { tables, .. } = order;
+        ClosedDay {
+            date,
+            kinds,
+            entries,
+            tables,
+        }
+    }
+}
+
+fn copy_kinds(alloc: Global, kinds: &Kinds) -> Result<Kinds, NoMemory>
+    ensures { IfOk result (λ copied. copied ≡ kinds.now) }
+{
+    Ok(Kinds::of(Vec::from_slice(alloc, kinds.as_slice())?))
+}
+
+pub fn copy_tables(alloc: Global, tables: &[Kinds]) -> Result<Vec<Kinds>, NoMemory>
+    ensures { IfOk result (λ copied. copied.items ≡ tables.now) }
+{
+    let mut copied = Vec::with_capacity(alloc, tables.len())?;
+    for kinds in tables {
+        copied.push(copy_kinds(alloc, kinds)?)?;
+    }
+    Ok(copied)
+}
+
+// The kinds of each table's columns.
+fn kinds_of(alloc: Global, schema: &Schema) -> Result<Vec<Kinds>, NoMemory>
+    ensures value { IfOk result (λ tables. tables.items ≡ map (λ shape. shape.kinds) schema.now) }
+    ensures lawful { IfOk result (λ tables. AllByRecursion AreTableKinds tables.items) }
+    ensures few { IfOk result (λ tables. length tables.items ≤ 64) }
+{
+    let mut tables = Vec::with_capacity(alloc, schema.len())?;
+    for i in 0..schema.len() {
+        tables.push(copy_kinds(alloc, &schema.at(i).kinds)?)?;
+    }
+    Ok(tables)
+}

@@ -1,0 +1,4 @@
+pub mod Growing
+pub mod Places
+pub mod Reading
+pub mod Tokens

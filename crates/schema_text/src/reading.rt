@@ -1,0 +1,193 @@
+//! Reading schema texts.
+ghost use Rattle.std.specs.Prelude.{◌≡◌, ◌<◌, ◌≤◌, ◌+◌, ◌++◌, ◌∷◌, ◌&&◌, [], false, length, map, IfOk, OnOk, OnErr, slice_get, drop};
+ghost use Rattle.std.specs.List.{AllByRecursion, list_any};
+ghost use Rattle.std.specs.Str.{bytes_eq};
+ghost use Rattle.std.specs.Ordering.{is_gt, nat_cmp};
+ghost use Rattle.std.specs.Cmp.Lexicographic.{slice_cmp};
+ghost use Rattle.schema_text.specs.Places.{below_count};
+ghost use Rattle.day_rows.specs.Schema.{IsName, IsShape, IsSchema, by_name};
+ghost use Rattle.day_rows.specs.Sorted.{inserted};
+ghost use Rattle.schema_text.specs.Growing.{IsGrowing};
+ghost use Rattle.schema_text.specs.Reading.{Gives, head_at, table_at, tables_at, schema_of, is_first_names, is_first_kinds, behind_semicolon, some_tables};
+
+use crate::columns::columns_behind;
+use crate::names::{is_same, table_name};
+use crate::refusal::SchemaRefusal;
+use crate::tokens::{ends_before, first_part_of, has_sign, part_behind, sign_behind};
+use day_rows::{Kinds, Schema, Shape};
+use q_values::{Kind, Names, Sym};
+use std::alloc::{AllocFailed, Global};
+use std::cmp::Ordering;
+
+/// The schema that a plant has unless another is given: quotes and trades, in whole numbers.
+pub const BUILT_IN: &[u8] =
+    b"trade:([]time:`timespan$();sym:`g#`symbol$();price:`long$();size:`long$())\nquote:([]time:`timespan$();sym:`g#`symbol$();bid:`long$();ask:`long$();bsize:`long$();asize:`long$())\n";
+
+// What stands before a table's columns, and the place behind it.
+#[tactic(auto, unfolding(crate::specs::Reading::head_at))]
+fn head_behind(
+    alloc: Global,
+    tables: &[Shape],
+    text: &[u8],
+    at: usize,
+) -> Result<(Sym, usize), SchemaRefusal>
+    requires { at ≤ length text.now }
+    ensures value { Gives (λ head. head) result (head_at (map (λ table. table.table) tables.now) text.now at) }
+    ensures within { IfOk result (λ head. head.1 ≤ length text.now) }
+    ensures lawful { IfOk result (λ head. IsName head.0) }
+    ensures fresh { IfOk result (λ head. list_any (bytes_eq head.0) (map (λ table. table.table) tables.now) ≡ false) }
+    ensures few { IfOk result (λ _. length tables.now < 64) }
+{
+    let (name, end) = table_name(alloc, tables, text, at)?;
+    let colon = sign_behind(text, end, b':')?;
+    let left = sign_behind(text, colon, b'(')?;
+    let opening = sign_behind(text, left, b'[')?;
+    let closing = sign_behind(text, opening, b']')?;
+    Ok((name, closing))
+}
+
+fn has_first_names(names: &[Sym]) -> bool
+    ensures { result ≡ is_first_names names.now }
+{
+    match names {
+        [first, second, ..] => is_same(first.bytes(), b"time") && is_same(second.bytes(), b"sym"),
+        _ => false,
+    }
+}
+
+fn has_first_kinds(kinds: &[Kind]) -> bool
+    ensures { result ≡ is_first_kinds kinds.now }
+{
+    match kinds {
+        [Kind::Timespan, Kind::Symbol, ..] => true,
+        _ => false,
+    }
+}
+
+// The place behind a semicolon, where it is the next part.
+fn semicolon_behind(text: &[u8], at: usize) -> usize
+    requires { at ≤ length text.now }
+    ensures value { result ≡ behind_semicolon text.now at }
+    ensures within { result ≤ length text.now }
+{
+    let place = part_behind(text, at);
+    if has_sign(text, place, b';') {
+        place + 1
+    } else {
+        at
+    }
+}
+
+fn begins_time_sym(shape: &Shape) -> bool
+    ensures { result ≡ (is_first_names shape.now.names && is_first_kinds shape.now.kinds) }
+{
+    has_first_names(shape.names.as_slice()) && has_first_kinds(shape.kinds.as_slice())
+}
+
+// A new table and the place behind it.
+#[tactic(auto, unfolding(crate::specs::Reading::table_at))]
+fn table_behind(
+    alloc: Global,
+    tables: &[Shape],
+    text: &[u8],
+    at: usize,
+) -> Result<(Shape, usize), SchemaRefusal>
+    requires { at ≤ length text.now }
+    ensures value { Gives (λ table. table) result (table_at tables.now text.now at) }
+    ensures within { IfOk result (λ table. table.1 ≤ length text.now) }
+    ensures lawful { IfOk result (λ table. IsShape table.0) }
+    ensures fresh { IfOk result (λ table. list_any (bytes_eq table.0.table) (map (λ other. other.table) tables.now) ≡ false) }
+    ensures few { IfOk result (λ _. length tables.now < 64) }
+{
+    let (name, head) = head_behind(alloc, tables, text, at)?;
+    let empty = Shape {
+        table: name,
+        names: Names::new(alloc),
+        kinds: Kinds::new(alloc),
+    };
+    let (shape, end) = columns_behind(alloc, 49, empty, text, head)?;
+    if begins_time_sym(&shape) {
+        Ok((shape, semicolon_behind(text, end)))
+    } else {
+        Err(SchemaRefusal::TimeSym(shape.table))
+    }
+}
+
+// Whether the name is above the table's.
+fn is_above(name: &[u8], shape: &Shape) -> bool
+    ensures { result ≡ is_gt (slice_cmp nat_cmp name.now shape.now.table) }
+{
+    match name.cmp(shape.table.bytes()) {
+        Ordering::Greater => true,
+        _ => false,
+    }
+}
+
+// The number of tables at the front that the name is above.
+fn place_of(tables: &[Shape], name: &[u8]) -> usize
+    ensures value { result ≡ below_count name.now tables.now }
+    ensures within { result ≤ length tables.now }
+{
+    let mut place = 0;
+    while place < tables.len() && is_above(name, &tables[place]) {
+        place += 1;
+    }
+    place
+}
+
+// Puts a table in the order of names.
+fn insert_table(tables: &mut Vec<Shape>, shape: Shape) -> Result<(), AllocFailed<Shape>>
+    ensures ok { OnOk result (tables.new.items ≡ inserted by_name shape tables.old.items) }
+{
+    let place = place_of(tables, shape.table.bytes());
+    tables.insert(place, shape)?;
+    Ok(())
+}
+
+// The tables of a text that ends, which are some.
+fn some_tables_of(tables: Vec<Shape>, text: &[u8]) -> Result<Vec<Shape>, SchemaRefusal>
+    ensures value { Gives (λ found. found.items) result (some_tables tables.items text.now) }
+    ensures same { IfOk result (λ found. found.items ≡ tables.items) }
+{
+    match tables.as_slice() {
+        [] => Err(SchemaRefusal::Parse(text.len())),
+        _ => Ok(tables),
+    }
+}
+
+// The tables to the end of the text, at most so many, in the order of their names.
+fn tables_behind(
+    alloc: Global,
+    left: usize,
+    tables: Vec<Shape>,
+    text: &[u8],
+    at: usize,
+) -> Result<Vec<Shape>, SchemaRefusal>
+    requires place { at ≤ length text.now }
+    requires lawful { IsSchema tables.items }
+    ensures value { Gives (λ found. found.items) result (tables_at left tables.items text.now at) }
+    ensures lawful { IfOk result (λ found. IsSchema found.items) }
+{
+    if left == 0 {
+        return Err(SchemaRefusal::Limit);
+    }
+    if ends_before(text, part_behind(text, at)) {
+        return some_tables_of(tables, text);
+    }
+    let mut tables = tables;
+    let (table, end) = table_behind(alloc, &tables, text, at)?;
+    insert_table(&mut tables, table)?;
+    tables_behind(alloc, left - 1, tables, text, end)
+}
+
+/// The schema that a text spells, its tables in ascending order of their names (KX, tick.q, "schema").
+///
+/// A text has tables as `trade:([]time:`timespan$();sym:`g#`symbol$();price:`long$())`, with blanks or newlines between
+/// them. A line that begins with `/` is passed over. The refusal is the first in the text's order.
+#[tactic(auto, unfolding(crate::specs::Reading::schema_of))]
+pub fn read_schema(alloc: Global, text: &[u8]) -> Result<Schema, SchemaRefusal>
+    ensures { Gives (λ schema. schema) result (schema_of text.now) }
+{
+    let tables = tables_behind(alloc, 65, Vec::new(alloc), text, first_part_of(text))?;
+    Ok(Schema::of(tables))
+}
