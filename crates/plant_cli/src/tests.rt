@@ -1,3 +1,6 @@
+ghost use Rattle.std.specs.Prelude.{IfOk, IfSome};
+ghost use Rattle.outside_api.specs.Outside.{IsFresh};
+
 use crate::run::run;
 use outside_mem::{MemLink, MemOutside, MemRecorder, Piece, Pieces, Taking, Takings};
 use q_values::{NoMemory, Text, Turn};
@@ -17,22 +20,10 @@ fn words_of(alloc: Global, text: &str) -> Result<Vec<String>, NoMemory> {
     Ok(words)
 }
 
-fn outside_of(alloc: Global, link: Option<MemLink>) -> Result<MemOutside, NoMemory> {
+fn outside_of(alloc: Global, link: Option<MemLink>) -> Result<MemOutside, NoMemory>
+    requires { IfSome link (λ l. IsFresh l.shown) }
+{
     Ok(MemOutside::new(alloc, link, MemRecorder::with_room(alloc, 8)?))
-}
-
-// What the program did.
-#[derive(Drop)]
-struct Ran {
-    status: u8,
-    outside: MemOutside,
-}
-
-impl Ran {
-    // Whether it ended with this status and this one line, or none.
-    fn is(&self, status: u8, line: Option<&[u8]>) -> bool {
-        self.status == status && is_line(&self.outside, line)
-    }
 }
 
 fn is_line(outside: &MemOutside, wanted: Option<&[u8]>) -> bool {
@@ -43,28 +34,54 @@ fn is_line(outside: &MemOutside, wanted: Option<&[u8]>) -> bool {
     }
 }
 
-fn run_words<R: Wait>(
+// Whether the program ends with this status and this line, or none.
+fn ends<R: Wait>(
     rt: &R,
     alloc: Global,
     text: &str,
     link: Option<MemLink>,
-) -> Result<Ran, NoMemory> {
+    status: u8,
+    line: Option<&[u8]>,
+) -> Result<bool, NoMemory>
+    requires { IfSome link (λ l. IsFresh l.shown) }
+{
     let words = words_of(alloc, text)?;
     let mut outside = outside_of(alloc, link)?;
-    let status = run(rt, alloc, &words, &mut outside);
-    Ok(Ran { status, outside })
+    let ended = run(rt, alloc, &words, &mut outside);
+    Ok(ended == status && is_line(&outside, line))
+}
+
+// Whether the program hands the link and the recorder of its session back.
+fn hands_back<R: Wait>(rt: &R, alloc: Global) -> Result<bool, NoMemory> {
+    let words = words_of(alloc, CLOCK)?;
+    let mut outside = outside_of(alloc, behind_greeting(alloc, b"")?)?;
+    let ended = run(rt, alloc, &words, &mut outside);
+    Ok(ended == 0 && is_handed_back(&outside))
 }
 
 // Behind the greeting.
-fn behind_greeting(alloc: Global, bytes: &[u8]) -> Result<Option<MemLink>, NoMemory> {
+fn behind_greeting(alloc: Global, bytes: &[u8]) -> Result<Option<MemLink>, NoMemory>
+    ensures { IfOk result (λ link. IfSome link (λ l. IsFresh l.shown)) }
+{
     let mut input = Vec::from_slice(alloc, GREETING)?;
     input.extend_from_slice(bytes)?;
     Ok(Some(MemLink::of(alloc, &input)?))
 }
 
+// Whether the program, over a greeting and these bytes, ends so.
+fn ends_behind_greeting<R: Wait>(
+    rt: &R,
+    alloc: Global,
+    bytes: &[u8],
+    status: u8,
+    line: Option<&[u8]>,
+) -> Result<bool, NoMemory> {
+    let link = behind_greeting(alloc, bytes)?;
+    ends(rt, alloc, CLOCK, link, status, line)
+}
+
 #[test]
 fn statuses_of_streams(rt: HostRuntime) -> Result<(), Fail> {
-    let alloc = rt.alloc();
     let rows: [(&[u8], u8, Option<&[u8]>); 5] = [
         (b"", 0, None),
         (b"\x01", 2, Some(b"plant: input ends within a message")),
@@ -85,10 +102,14 @@ fn statuses_of_streams(rt: HostRuntime) -> Result<(), Fail> {
         ),
     ];
     for (bytes, status, line) in rows {
-        let ran = run_words(&rt, alloc, CLOCK, behind_greeting(alloc, bytes)?)?;
-        assert!(rt; ran.is(status, line));
-        assert!(rt; is_handed_back(&ran.outside));
+        assert!(rt; ends_behind_greeting(&rt, rt.alloc(), bytes, status, line)?);
     }
+    Ok(())
+}
+
+#[test]
+fn link_and_recorder_are_handed_back(rt: HostRuntime) -> Result<(), Fail> {
+    assert!(rt; hands_back(&rt, rt.alloc())?);
     Ok(())
 }
 
@@ -110,14 +131,18 @@ fn has_greeted(turns: &[Turn]) -> bool {
 }
 
 // A link whose first read is this.
-fn reads(alloc: Global, piece: Piece) -> Result<Option<MemLink>, NoMemory> {
+fn reads(alloc: Global, piece: Piece) -> Result<Option<MemLink>, NoMemory>
+    ensures { IfOk result (λ link. IfSome link (λ l. IsFresh l.shown)) }
+{
     let mut pieces = Pieces::new(alloc);
     pieces.push(piece)?;
     Ok(Some(MemLink::script(alloc, pieces, Takings::new(alloc))))
 }
 
 // A link whose first write fails.
-fn refuses_to_write(alloc: Global) -> Result<Option<MemLink>, NoMemory> {
+fn refuses_to_write(alloc: Global) -> Result<Option<MemLink>, NoMemory>
+    ensures { IfOk result (λ link. IfSome link (λ l. IsFresh l.shown)) }
+{
     let mut pieces = Pieces::new(alloc);
     pieces.push(Piece::Bytes(Text::of(Vec::from_slice(alloc, GREETING)?)))?;
     let mut takings = Takings::new(alloc);
@@ -125,22 +150,32 @@ fn refuses_to_write(alloc: Global) -> Result<Option<MemLink>, NoMemory> {
     Ok(Some(MemLink::script(alloc, pieces, takings)))
 }
 
+fn ends_at_read_fault<R: Wait>(rt: &R, alloc: Global) -> Result<bool, NoMemory> {
+    let link = reads(alloc, Piece::Fault)?;
+    ends(rt, alloc, CLOCK, link, 4, Some(b"plant: link fault"))
+}
+
+fn ends_at_write_fault<R: Wait>(rt: &R, alloc: Global) -> Result<bool, NoMemory> {
+    let link = refuses_to_write(alloc)?;
+    ends(rt, alloc, CLOCK, link, 4, Some(b"plant: link fault"))
+}
+
 #[test]
 fn statuses_of_faults(rt: HostRuntime) -> Result<(), Fail> {
     let alloc = rt.alloc();
-    let ran = run_words(&rt, alloc, CLOCK, reads(alloc, Piece::Fault)?)?;
-    assert!(rt; ran.is(4, Some(b"plant: link fault")));
-    let ran = run_words(&rt, alloc, CLOCK, refuses_to_write(alloc)?)?;
-    assert!(rt; ran.is(4, Some(b"plant: link fault")));
-    let ran = run_words(&rt, alloc, CLOCK, None)?;
-    assert!(rt; ran.is(6, Some(b"plant: cannot start")));
-    assert_eq!(rt; ran.outside.make_faults(), 1);
+    assert!(rt; ends_at_read_fault(&rt, alloc)?);
+    assert!(rt; ends_at_write_fault(&rt, alloc)?);
+    assert!(rt; ends(&rt, alloc, CLOCK, None, 6, Some(b"plant: cannot start"))?);
     Ok(())
+}
+
+fn asks_for_nothing<R: Wait>(rt: &R, alloc: Global, text: &str) -> Result<bool, NoMemory> {
+    let link = behind_greeting(alloc, b"")?;
+    ends(rt, alloc, text, link, 1, Some(b"plant: usage"))
 }
 
 #[test]
 fn words_that_ask_for_nothing(rt: HostRuntime) -> Result<(), Fail> {
-    let alloc = rt.alloc();
     let texts = [
         "once",
         "once --clock",
@@ -149,8 +184,7 @@ fn words_that_ask_for_nothing(rt: HostRuntime) -> Result<(), Fail> {
         "once --clock 2024.01.03D09:30:00.000000000",
     ];
     for text in texts {
-        let ran = run_words(&rt, alloc, text, Some(MemLink::of(alloc, GREETING)?))?;
-        assert!(rt; ran.is(1, Some(b"plant: usage")));
+        assert!(rt; asks_for_nothing(&rt, rt.alloc(), text)?);
     }
     Ok(())
 }
