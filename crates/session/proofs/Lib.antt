@@ -13,3 +13,4 @@ pub mod ServedLemmas
 pub mod SessionLemmas
 pub mod StreamLemmas
 pub mod TicksLemmas
+pub mod UniqueLemmas

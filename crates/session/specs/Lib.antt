@@ -9,6 +9,7 @@ pub mod Greets
 pub mod Incoming
 pub mod Judged
 pub mod Lawful
+pub mod Laws
 pub mod Replies
 pub mod Reply
 pub mod Request

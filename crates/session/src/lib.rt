@@ -10,6 +10,7 @@ mod greeting;
 mod header;
 mod incoming;
 mod judge;
+pub mod laws;
 mod message;
 mod refusal;
 mod reply;
