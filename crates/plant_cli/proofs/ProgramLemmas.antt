@@ -3,7 +3,6 @@ use Rattle.std.proofs.Common.{rules, sym, subst}
 use Rattle.std.proofs.lemmas.List.Elements.{All-head, All-cons, All-nil}
 use Rattle.outside_api.specs.Link.{LinkView}
 use Rattle.plant_cli.specs.Program.{Sits, new_plant}
-use Rattle.q_values.specs.Limits.{standard_limits}
 use Rattle.q_values.specs.declared.limits.Limits.{Limits}
 use Rattle.q_values.specs.declared.turn.Turn.{Turn}
 use Rattle.session.proofs.SessionLemmas.{session_none}
@@ -22,21 +21,20 @@ steady_first m k all more a s =
 
 -- a session that served, whose clock was read once before
 pub sits : (m : ℤ) (k : ℤ) (limits : Limits) (l l' : LinkView) (first all more : List ℤ) (n n' : Option (List Turn)) (a a' : AccessView) (end : End)
-    → limits ≡ standard_limits → first ≡ m ∷ [] → a ≡ new_plant (date_of m)
+    → first ≡ m ∷ [] → a ≡ new_plant (date_of m)
     → IsSession limits (record { link = l; clock = Some first; notes = n; access = a }) (record { link = l'; clock = Some all; notes = n'; access = a' }) end
     → all ≡ first ++ more → All (λ r. r ≡ k) all
-    → Sits m l l' n n' end
-sits m k limits l l' first all more n n' a a' end x y z session grows steady =
-    let s1 = subst (λ v. IsSession v (record { link = l; clock = Some first; notes = n; access = a }) (record { link = l'; clock = Some all; notes = n'; access = a' }) end) x session
-    in let s2 = subst (λ v. IsSession standard_limits (record { link = l; clock = Some v; notes = n; access = a }) (record { link = l'; clock = Some all; notes = n'; access = a' }) end) y s1
-    in let s3 = subst (λ v. IsSession standard_limits (record { link = l; clock = Some (m ∷ []); notes = n; access = v }) (record { link = l'; clock = Some all; notes = n'; access = a' }) end) z s2
-    in record { plant = a'; readings = all; steady = steady_first m k all more (subst (λ f. all ≡ f ++ more) y grows) steady; session = s3 }
+    → Sits limits m l l' n n' end
+sits m k limits l l' first all more n n' a a' end y z session grows steady =
+    let s1 = subst (λ v. IsSession limits (record { link = l; clock = Some v; notes = n; access = a }) (record { link = l'; clock = Some all; notes = n'; access = a' }) end) y session
+    in let s2 = subst (λ v. IsSession limits (record { link = l; clock = Some (m ∷ []); notes = n; access = v }) (record { link = l'; clock = Some all; notes = n'; access = a' }) end) z s1
+    in record { plant = a'; readings = all; steady = steady_first m k all more (subst (λ f. all ≡ f ++ more) y grows) steady; session = s2 }
 
 -- a session that could not begin
-pub sits_not : (m : ℤ) (l : LinkView) (n : Option (List Turn)) → Sits m l l n n e.NoMemory
-sits_not m l n = record {
+pub sits_not : (m : ℤ) (limits : Limits) (l : LinkView) (n : Option (List Turn)) → Sits limits m l l n n e.NoMemory
+sits_not m limits l n = record {
   plant = new_plant (date_of m);
   readings = m ∷ [];
   steady = All-cons (λ r. r ≡ m) m [] refl (All-nil (λ r. r ≡ m));
-  session = session_none standard_limits l (Some (m ∷ [])) n (new_plant (date_of m));
+  session = session_none limits l (Some (m ∷ [])) n (new_plant (date_of m));
 }

@@ -7,6 +7,7 @@ use Rattle.outside_api.specs.Outside.{OutsideView, IsFresh, warned_of, handed_ba
 use Rattle.outside_api.specs.Told.{HasToldNothing}
 use Rattle.plant_edge.specs.Words.{asked}
 use Rattle.q_values.specs.Limits.{standard_limits}
+use Rattle.q_values.specs.declared.limits.Limits.{Limits}
 use Rattle.q_values.specs.declared.turn.Turn.{Turn}
 use Rattle.session.specs.Access.{AccessView}
 use Rattle.session.specs.Run.{World}
@@ -70,17 +71,17 @@ abbrev pub new_plant : ℤ → AccessView
 new_plant date = record { by = 1; date = date; alone = true; seen = []; mine = []; snapshots = 0 }
 
 -- a session over a new plant, open at the date of the clock's first reading, which all readings are
-pub record Sits (moment : ℤ) (link_old link_new : LinkView) (notes_old notes_new : Option (List Turn)) (end : End) : Type 0 where
+pub record Sits (limits : Limits) (moment : ℤ) (link_old link_new : LinkView) (notes_old notes_new : Option (List Turn)) (end : End) : Type 0 where
   pub plant : AccessView
   pub readings : List ℤ
   pub steady : All (λ reading. reading ≡ moment) readings
-  pub session : IsSession standard_limits
+  pub session : IsSession limits
       (record { link = link_old; clock = Some (moment ∷ []); notes = notes_old; access = new_plant (date_of moment) })
       (record { link = link_new; clock = Some readings; notes = notes_new; access = plant })
       end
 
 -- the link of standard input and output is made, served, and handed back with what was noted
-pub record Serves (moment : ℤ) (old new : OutsideView) (status : ℕ) : Type 0 where
+pub record Serves (limits : Limits) (moment : ℤ) (old new : OutsideView) (status : ℕ) : Type 0 where
   pub link_old : LinkView
   pub link_new : LinkView
   pub notes_old : Option (List Turn)
@@ -88,20 +89,20 @@ pub record Serves (moment : ℤ) (old new : OutsideView) (status : ℕ) : Type 0
   pub end : End
   pub fresh : IsFresh link_old
   pub unnoted : HasToldNothing notes_old
-  pub session : Sits moment link_old link_new notes_old notes_new end
+  pub session : Sits limits moment link_old link_new notes_old notes_new end
   pub concluded : Concludes end (handed_back old (Some link_new) (Some notes_new)) new status
 
 -- without that link the program can't start, and that count rose
 abbrev pub CannotStart : OutsideView → OutsideView → ℕ → Type 0
 CannotStart old new status = (status ≡ 6) × (new ≡ warned_of (record old { make_faults = counted old.make_faults 1 }) (codes "plant: cannot start"))
 
-abbrev pub RunsOnce : ℤ → OutsideView → OutsideView → ℕ → Type 0
-RunsOnce moment old new status = CannotStart old new status ⊎ Serves moment old new status
+abbrev pub RunsOnce : Limits → ℤ → OutsideView → OutsideView → ℕ → Type 0
+RunsOnce limits moment old new status = CannotStart old new status ⊎ Serves limits moment old new status
 
 -- what the program does where its words ask for a session with a clock at this moment, and where they don't
 abbrev pub RunsFor : Option ℤ → OutsideView → OutsideView → ℕ → Type 0
 RunsFor None old new status = (status ≡ 1) × (new ≡ warned_of old (codes "plant: usage"))
-RunsFor (Some moment) old new status = RunsOnce moment old new status
+RunsFor (Some moment) old new status = RunsOnce standard_limits moment old new status
 
 abbrev pub Runs : List (List ℕ) → OutsideView → OutsideView → ℕ → Type 0
 Runs words old new status = RunsFor (asked words) old new status

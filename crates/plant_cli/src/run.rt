@@ -3,6 +3,7 @@ ghost use Rattle.std.specs.Prelude.{◌≡◌, IfOk, map, string_bytes};
 ghost use Rattle.plant_cli.specs.Program.{Runs, RunsOnce, Sits, Concludes, number_of, bad_message};
 ghost use Rattle.session.specs.Verdict.{date_of};
 ghost use Rattle.outside_api.specs.Outside.{warned_of};
+ghost use Rattle.q_values.specs.Limits.{AreLimits};
 
 use outside_api::{Clock, Gate, Link, Outside, Recorder};
 use plant_edge::{SteadyClock, clock_of};
@@ -21,7 +22,7 @@ pub fn run<O: Outside, R: Wait>(rt: &R, alloc: Global, words: &[String], outside
     ensures { Runs (map string_bytes words.now) (O.seen outside.old) (O.seen outside.new) result }
 {
     match clock_of(words) {
-        Some(moment) => once(rt, alloc, moment, outside),
+        Some(moment) => once(rt, alloc, moment, &Limits::standard(), outside),
         None => {
             outside.warn(b"plant: usage");
             1
@@ -29,9 +30,16 @@ pub fn run<O: Outside, R: Wait>(rt: &R, alloc: Global, words: &[String], outside
     }
 }
 
-/// Serves one session, and hands its link and its recorder back.
-fn once<O: Outside, R: Wait>(rt: &R, alloc: Global, moment: i64, outside: &mut O) -> u8
-    ensures { RunsOnce moment (O.seen outside.old) (O.seen outside.new) result }
+/// Serves one session within these limits, and hands its link and its recorder back.
+pub fn once<O: Outside, R: Wait>(
+    rt: &R,
+    alloc: Global,
+    moment: i64,
+    limits: &Limits,
+    outside: &mut O,
+) -> u8
+    requires { AreLimits limits.now }
+    ensures { RunsOnce limits.now moment (O.seen outside.old) (O.seen outside.new) result }
 {
     let Ok(mut link) = outside.standard() else {
         outside.warn(b"plant: cannot start");
@@ -39,7 +47,7 @@ fn once<O: Outside, R: Wait>(rt: &R, alloc: Global, moment: i64, outside: &mut O
     };
     let mut gate = outside.gate();
     let mut turns = outside.recorder();
-    let end = sit(rt, alloc, moment, &mut link, &mut gate, &mut turns);
+    let end = sit(rt, alloc, moment, limits, &mut link, &mut gate, &mut turns);
     outside.back(Some(link), Some(turns));
     conclude(alloc, end, outside)
 }
@@ -49,25 +57,20 @@ fn sit<L: Link, G: Gate, N: Recorder, R: Wait>(
     rt: &R,
     alloc: Global,
     moment: i64,
+    limits: &Limits,
     link: &mut L,
     gate: &mut G,
     turns: &mut N,
 ) -> End
-    ensures { Sits moment (L.shown link.old) (L.shown link.new) (N.noted turns.old) (N.noted turns.new) result }
+    requires { AreLimits limits.now }
+    ensures { Sits limits.now moment (L.shown link.old) (L.shown link.new) (N.noted turns.old) (N.noted turns.new) result }
 {
     let mut clock = SteadyClock::new(moment);
     let first = clock.now();
     match Solo::new(alloc, open_date(first)) {
         Ok(mut plant) => {
             let report = serve_session(
-                rt,
-                alloc,
-                &mut plant,
-                link,
-                &mut clock,
-                gate,
-                turns,
-                &Limits::standard(),
+                rt, alloc, &mut plant, link, &mut clock, gate, turns, limits,
             );
             let _steady = clock.moment();
             report.end
@@ -84,7 +87,7 @@ fn open_date(moment: i64) -> i32
 }
 
 /// Prints the line of the session's end, if it has one, and gives its status.
-fn conclude<O: Outside>(alloc: Global, end: End, outside: &mut O) -> u8
+pub fn conclude<O: Outside>(alloc: Global, end: End, outside: &mut O) -> u8
     ensures { Concludes end (O.seen outside.old) (O.seen outside.new) result }
 {
     match end {

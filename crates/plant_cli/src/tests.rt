@@ -1,9 +1,11 @@
-ghost use Rattle.std.specs.Prelude.{IfOk, IfSome};
+ghost use Rattle.std.specs.Prelude.{◌≤◌, IfOk, IfSome};
 ghost use Rattle.outside_api.specs.Outside.{IsFresh};
+ghost use Rattle.q_values.specs.Limits.{AreLimits};
 
-use crate::run::run;
+use crate::run::{conclude, once, run};
 use outside_mem::{MemLink, MemOutside, MemRecorder, Piece, Pieces, Taking, Takings};
-use q_values::{NoMemory, Text, Turn};
+use q_values::{Limits, NoMemory, Text, Turn};
+use session::{Bad, End};
 use std::alloc::Global;
 use std::sync::Wait;
 use std::test::Fail;
@@ -185,6 +187,82 @@ fn words_that_ask_for_nothing(rt: HostRuntime) -> Result<(), Fail> {
     ];
     for text in texts {
         assert!(rt; asks_for_nothing(&rt, rt.alloc(), text)?);
+    }
+    Ok(())
+}
+
+// A link that idles three times.
+fn idles(alloc: Global) -> Result<Option<MemLink>, NoMemory>
+    ensures { IfOk result (λ link. IfSome link (λ l. IsFresh l.shown)) }
+{
+    let mut pieces = Pieces::new(alloc);
+    pieces.push(Piece::Idle)?;
+    pieces.push(Piece::Idle)?;
+    pieces.push(Piece::Idle)?;
+    Ok(Some(MemLink::script(alloc, pieces, Takings::new(alloc))))
+}
+
+// The standard limits with so many idles.
+fn limits_of_idles(idle: u64) -> Limits
+    requires { 1 ≤ idle }
+    ensures { AreLimits result }
+{
+    Limits {
+        idle,
+        ..Limits::standard()
+    }
+}
+
+// Whether the program ends so with so many idles before it gives up.
+fn gives_up_after<R: Wait>(rt: &R, alloc: Global, idle: u64, status: u8) -> Result<bool, NoMemory>
+    requires { 1 ≤ idle }
+{
+    let mut outside = outside_of(alloc, idles(alloc)?)?;
+    let limits = limits_of_idles(idle);
+    let ended = once(rt, alloc, 757_503_000_000_000_000, &limits, &mut outside);
+    let line: Option<&[u8]> = if status == 0 {
+        None
+    } else {
+        Some(b"plant: idle")
+    };
+    Ok(ended == status && is_line(&outside, line))
+}
+
+#[test]
+fn idle_and_link_faults(rt: HostRuntime) -> Result<(), Fail> {
+    assert!(rt; gives_up_after(&rt, rt.alloc(), 3, 5)?);
+    assert!(rt; gives_up_after(&rt, rt.alloc(), 4, 0)?);
+    Ok(())
+}
+
+// Whether a session's end has this status and this line, or none.
+fn has_status(alloc: Global, end: End, status: u8, line: Option<&[u8]>) -> Result<bool, NoMemory> {
+    let mut outside = outside_of(alloc, None)?;
+    let ended = conclude(alloc, end, &mut outside);
+    Ok(ended == status && is_line(&outside, line))
+}
+
+#[test]
+fn statuses_of_ends(rt: HostRuntime) -> Result<(), Fail> {
+    let bad = End::BadMessage {
+        code: Bad::Object,
+        at: 13,
+    };
+    let rows: [(End, u8, Option<&[u8]>); 7] = [
+        (End::Closed, 0, None),
+        (
+            End::Truncated,
+            2,
+            Some(b"plant: input ends within a message"),
+        ),
+        (bad, 3, Some(b"plant: bad message 6 at 13")),
+        (End::ReadFault, 4, Some(b"plant: link fault")),
+        (End::WriteFault, 4, Some(b"plant: link fault")),
+        (End::Idle, 5, Some(b"plant: idle")),
+        (End::NoMemory, 7, Some(b"plant: wsfull")),
+    ];
+    for (end, status, line) in rows {
+        assert!(rt; has_status(rt.alloc(), end, status, line)?);
     }
     Ok(())
 }

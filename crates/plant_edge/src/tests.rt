@@ -80,6 +80,37 @@ fn use_once<O: Outside>(outside: &mut O) -> bool {
     written
 }
 
+// Keeps what is written to it.
+#[derive(Drop)]
+struct Kept {
+    bytes: Vec<u8>,
+}
+
+impl Write for Kept {
+    fn write(&mut self, buf: &[u8]) -> io::Result<usize> {
+        self.bytes.extend_from_slice(buf)?;
+        Ok(buf.len())
+    }
+
+    fn flush(&mut self) -> io::Result<()> {
+        Ok(())
+    }
+}
+
+#[test]
+fn warnings_are_lines(rt: HostRuntime) {
+    let errors = Kept {
+        bytes: Vec::new(rt.alloc()),
+    };
+    let mut outside = StandardOutside { rt: &rt, errors };
+    outside.warn(b"plant: idle");
+    outside.warn(b"plant: usage");
+    assert_eq!(rt;
+        outside.errors.bytes.as_slice(),
+        b"plant: idle\nplant: usage\n".as_slice()
+    );
+}
+
 #[test]
 fn standard_output_takes_bytes(rt: HostRuntime) {
     let mut outside = StandardOutside {

@@ -15,7 +15,7 @@ returns-in-Ok g c =
     in let z : solo_view c.in-Ok.plant ≡ new_plant (date_of c.args.moment) = search rules
     in let more = flat_map (λ s. s.readings) c.serve_session-report.ensures.steps
     in let grows : c.serve_session-report.new.clock.given ≡ c.now-first.new.self.given ++ more = search rules
-    in sits c.args.moment c.serve_session-report.new.clock.moment c.standard.result _ _ _ _ more _ _ _ _ _ c.standard.ensures.these y z c.serve_session-report.ensures grows c.moment-steady.ensures.steady
+    in sits c.args.moment c.serve_session-report.new.clock.moment _ _ _ _ _ more _ _ _ _ _ y z c.serve_session-report.ensures grows c.moment-steady.ensures.steady
 
 pub returns : goal.returns
-returns g c = sits_not c.args.moment _ _
+returns g c = sits_not c.args.moment _ _ _
