@@ -1,0 +1,5 @@
+pub mod Stream
+pub mod View
+pub mod Taking
+pub mod Framing
+pub mod Holding

@@ -1,0 +1,15 @@
+//! The stream of bytes that a client of kdb+ sends: a greeting and then messages, in whatever pieces they come (KX, IPC
+//! reference).
+#![tactic(auto)]
+
+mod bad;
+mod framer;
+mod head;
+mod next;
+mod standing;
+mod taking;
+
+pub use bad::Bad;
+pub use framer::{Fed, Framer};
+pub use head::header;
+pub use next::{Message, Next};
