@@ -1,2 +1,5 @@
 pub mod FrontLemmas
 pub mod TakingLemmas
+pub mod UniqueLemmas
+pub mod ReadLemmas
+pub mod RunLemmas

@@ -3,3 +3,5 @@ pub mod View
 pub mod Taking
 pub mod Framing
 pub mod Holding
+pub mod Run
+pub mod Laws

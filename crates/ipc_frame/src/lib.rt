@@ -5,6 +5,7 @@
 mod bad;
 mod framer;
 mod head;
+pub mod laws;
 mod next;
 mod standing;
 mod taking;
