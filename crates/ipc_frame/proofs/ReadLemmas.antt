@@ -153,6 +153,7 @@ read limits bytes = by_split (split bytes)
         let cut : take (limits.greeting + 1) bytes ≡ take (limits.greeting + 1) c = ap (take (limits.greeting + 1)) parts ∙ take-append-le (limits.greeting + 1) c (0 ∷ rest) (omega (arith, long)) in
         ungreeted_read limits bytes (subst HasNoNul (sym cut) (All-take (λ x. 0 < x) (limits.greeting + 1) c clean))
     by_length c rest parts clean (inr short) = greeted_read limits bytes c rest parts clean short
+
     by_split : Split bytes ⊎ HasNoNul bytes → IsRead limits bytes
     by_split (inl s) = by_length s.0 s.1 s.2 s.3 (cases_lt limits.greeting (length s.0))
     by_split (inr none) = ungreeted_read limits bytes (All-take (λ x. 0 < x) (limits.greeting + 1) bytes none)

@@ -156,6 +156,7 @@ ungreeted_short limits k short = by_none (eqb k 0)
   where
     within : leb k limits.greeting ≡ true
     within = le-leb _ _ short
+
     by_none : (none : Bool) → items_at_end (cond none closed (cond (leb k limits.greeting) truncated (bad b.Greeting limits.greeting))) ≡ []
     by_none true = refl
     by_none false = rw within refl
@@ -218,7 +219,7 @@ pub exact : FramerIsExact
 exact limits steps view r = record {
   first = λ more g ms x s. told_runs (λ _. Unit {0}) steps (fresh limits) view 0 more (items_of g ms x) refl r (λ p items t. tt) (refl, g, ms, x, s, refl);
   need = λ new h g ms x s.
-    let all : bytes_of steps ≡ bytes_of steps ++ [] = sym (append-nil (bytes_of steps)) in
-    let left : Ends (λ items. items ≡ []) view [] = λ p items t. no_item view.limits view.greeted p view.held items h.stands (subst (λ l. Tail view.limits view.greeted p l items) (append-nil view.held) t) in
-    told_runs (λ items. items ≡ []) steps (fresh limits) view 0 [] (items_of g ms x) refl r left (refl, g, ms, x, subst (λ l. IsStream limits l g ms x) all s, refl);
+      let all : bytes_of steps ≡ bytes_of steps ++ [] = sym (append-nil (bytes_of steps)) in
+      let left : Ends (λ items. items ≡ []) view [] = λ p items t. no_item view.limits view.greeted p view.held items h.stands (subst (λ l. Tail view.limits view.greeted p l items) (append-nil view.held) t) in
+      told_runs (λ items. items ≡ []) steps (fresh limits) view 0 [] (items_of g ms x) refl r left (refl, g, ms, x, subst (λ l. IsStream limits l g ms x) all s, refl);
 }

@@ -1,5 +1,6 @@
 -- What the calls of a framer do.
 use Rattle.std.specs.Prelude.{◌≡◌, ◌+◌, ℕ, Bool, true, false, if◌then◌else◌, List, ◌++◌, length, take, MatchBool}
+use Rattle.ipc_codec.specs.Written.{IsPlain, AtomsFit}
 use Rattle.q_values.specs.Bytes.{HasNoNul}
 use Rattle.q_values.specs.Tree.{Tree, tree}
 use Rattle.q_values.specs.declared.limits.Limits.{Limits}
@@ -50,6 +51,15 @@ is_passed (n.NotBuilt sync at) = true
 is_passed (n.Skipped sync) = true
 is_passed n.Need = false
 is_passed (n.Bad code at) = false
+
+-- a value that was told can be written
+abbrev pub CanBeWritten : Next → Type 0
+CanBeWritten (n.Greeting capability) = Unit {0}
+CanBeWritten (n.Message m) = IsPlain (tree m.value) × AtomsFit (tree m.value)
+CanBeWritten (n.NotBuilt sync at) = Unit {0}
+CanBeWritten (n.Skipped sync) = Unit {0}
+CanBeWritten n.Need = Unit {0}
+CanBeWritten (n.Bad code at) = Unit {0}
 
 -- a call of `next`: what stands next is told, and passed where it is a greeting or a message
 pub record Gives (old : FramerView) (next : Next) (new : FramerView) : Type 0 where

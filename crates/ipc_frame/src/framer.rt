@@ -39,7 +39,7 @@ impl Model for Framer {
 
 impl Framer {
     ghost use Rattle.ipc_frame.specs.View.{fresh, passed};
-    ghost use Rattle.ipc_frame.specs.Framing.{Stands, Gives, Feeds};
+    ghost use Rattle.ipc_frame.specs.Framing.{Stands, Gives, Feeds, CanBeWritten};
 
     /// A framer that took nothing. All the memory that it needs is taken here: for a message or a greeting of the
     /// greatest length.
@@ -72,7 +72,8 @@ impl Framer {
 
     // What stands next.
     fn standing(&self) -> Next
-        ensures { Stands self.now result }
+        ensures stands { Stands self.now result }
+        ensures plain { CanBeWritten result }
     {
         let held = self.held.as_slice();
         if self.greeted {
@@ -93,7 +94,9 @@ impl Framer {
     /// What stands next in the stream (KX, IPC reference). A greeting or message is told once; a fault again at each
     /// further call. Memory is taken for a message's value alone.
     pub fn next(&mut self) -> Next
-        ensures { Gives self.old result self.new }
+        ensures gives { Gives self.old result self.new }
+        // A value that is told can be written.
+        ensures plain { CanBeWritten result }
     {
         let next = self.standing();
         if next.is_passed() {

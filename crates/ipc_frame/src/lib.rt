@@ -9,6 +9,8 @@ pub mod laws;
 mod next;
 mod standing;
 mod taking;
+#[cfg(test)]
+mod tests;
 
 pub use bad::Bad;
 pub use framer::{Fed, Framer};

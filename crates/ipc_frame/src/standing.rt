@@ -3,7 +3,7 @@ ghost use Rattle.std.specs.Prelude.{◌≡◌, ◌+◌, ℕ, Ok, length};
 ghost use Rattle.ipc_codec.specs.Reading.{object_of};
 ghost use Rattle.ipc_frame.specs.Stream.{built, whole, front_of, body_front, capability_of};
 ghost use Rattle.q_values.specs.Tree.{Tree};
-ghost use Rattle.ipc_frame.specs.Framing.{StandsFront, StandsGreeting};
+ghost use Rattle.ipc_frame.specs.Framing.{StandsFront, StandsGreeting, CanBeWritten};
 ghost use Rattle.ipc_frame.specs.Holding.{IsOneGreeting, IsOneMessage};
 ghost use Rattle.ipc_frame.specs.View.{told_place};
 
@@ -31,7 +31,8 @@ fn capability(credentials: &[u8]) -> u8
 /// What stands at the start of a stream.
 pub fn greeting_in(held: &[u8], limits: &Limits, place: u64) -> Next
     requires { IsOneGreeting limits.now held.now }
-    ensures { StandsGreeting limits.now place held.now result }
+    ensures stands { StandsGreeting limits.now place held.now result }
+    ensures plain { CanBeWritten result }
 {
     if ends_in_nul(held) {
         let capability = capability(&held[..held.len() - 1]);
@@ -55,8 +56,9 @@ fn placed(place: u64, at: usize) -> u64
 
 // A message whose object fills it.
 fn value_in(alloc: Global, body: &[u8], head: Head) -> Next
-    ensures { (t : Tree) (n place : ℕ) → object_of head.order body.now ≡ Ok (t, n) →
+    ensures stands { (t : Tree) (n place : ℕ) → object_of head.order body.now ≡ Ok (t, n) →
         StandsFront place head.length (whole head.length (record { sync = head.sync; content = built t })) result }
+    ensures plain { CanBeWritten result }
 {
     match decode(alloc, body, head.order) {
         Ok((value, _)) => Next::Message(Message {
@@ -70,7 +72,8 @@ fn value_in(alloc: Global, body: &[u8], head: Head) -> Next
 // A message of this head and body.
 fn object_in(alloc: Global, body: &[u8], head: Head, place: u64) -> Next
     requires { length body.now + 8 ≡ head.length }
-    ensures { StandsFront place head.length (body_front head (object_of head.order body.now)) result }
+    ensures stands { StandsFront place head.length (body_front head (object_of head.order body.now)) result }
+    ensures plain { CanBeWritten result }
 {
     let bad = |at: usize| Next::Bad {
         code: Bad::Object,
@@ -94,7 +97,8 @@ fn object_in(alloc: Global, body: &[u8], head: Head, place: u64) -> Next
 /// What stands behind a greeting.
 pub fn message_in(alloc: Global, held: &[u8], limits: &Limits, place: u64) -> Next
     requires { IsOneMessage limits.now held.now }
-    ensures { StandsFront place (length held.now) (front_of limits.now held.now) result }
+    ensures stands { StandsFront place (length held.now) (front_of limits.now held.now) result }
+    ensures plain { CanBeWritten result }
 {
     match held.split_first_chunk::<HEADER>() {
         None => Next::Need,
