@@ -1,14 +1,14 @@
 -- What stands at the front of bytes.
-use Rattle.std.proofs.Common.{◌≡◌, ◌≤◌, ◌<◌, ◌+◌, ◌-◌, ℕ, zero, suc, Bool, true, false, cond, not, List, [], ◌∷◌, ◌++◌, length, take, drop, get_or, eqb, ltb, Option, Some, None, Result, Ok, Err, refl, sym, ap, subst, ◌∙◌, arith, append_assoc}
+use Rattle.std.proofs.Common.{◌≡◌, ◌≤◌, ◌<◌, ◌+◌, ◌-◌, ℕ, zero, suc, Bool, true, false, cond, not, List, [], ◌∷◌, ◌++◌, length, take, drop, get_or, eqb, ltb, Result, Ok, Err, refl, sym, ap, subst, ◌∙◌, arith}
 use Rattle.std.proofs.lemmas.Bool.{lt-ltb, le-ltb, ltb-false, eq-eqb}
 use Rattle.std.proofs.Math.Dec.{eqb-suc-zero}
-use Rattle.std.proofs.lemmas.List.{length-append, take-append-drop, take-append-le, drop-append-le, length-take-le, length-drop, take_all}
+use Rattle.std.proofs.lemmas.List.{length-append, take-append-drop, take-append-le, length-take-le, length-drop, take_all}
 use Rattle.ipc_codec.specs.Reading.{object_of, measured}
 use Rattle.ipc_codec.specs.declared.refusal.DecodeRefusal.{DecodeRefusal}
 use Rattle.ipc_codec.specs.declared.refusal.DecodeRefusal.TheVariants as r
 use Rattle.q_values.specs.Tree.{Tree}
 use Rattle.q_values.specs.declared.limits.Limits.{Limits}
-use Rattle.ipc_frame.specs.Stream.{Message, Front, nothing, partial, whole, fault, built, front_of, header_of, header_length, order_of, bad_header, header_front, body_front}
+use Rattle.ipc_frame.specs.Stream.{whole, fault, built, front_of, header_of, header_length, order_of, bad_header, header_front, body_front}
 use Rattle.ipc_frame.specs.Framing.{StandsFront}
 use Rattle.ipc_frame.specs.Taking.{IsUnfinished}
 use Rattle.ipc_frame.specs.declared.next.Next.{Next}

@@ -1,7 +1,7 @@
 -- All bytes are a stream.
 use Rattle.std.proofs.Common.{◌≡◌, ◌≤◌, ◌<◌, ◌+◌, ◌-◌, ◌⊎◌, ℕ, zero, suc, Bool, true, false, cond, List, [], ◌∷◌, ◌++◌, length, take, drop, ltb, eqb, Option, Some, None, Result, Ok, Err, refl, sym, ap, subst, ◌∙◌, inl, inr, arith, append_assoc}
-use Rattle.std.proofs.lemmas.Bool.{le-ltb, ltb-false, cases_lt}
-use Rattle.std.proofs.lemmas.List.{append-nil, length-append, length-take-le, length-drop, take-append-drop, take-take, drop-take, take-append-le}
+use Rattle.std.proofs.lemmas.Bool.{ltb-false, cases_lt}
+use Rattle.std.proofs.lemmas.List.{length-append, length-take-le, length-drop, take-append-drop, take-take, drop-take, take-append-le}
 use Rattle.std.proofs.lemmas.List.Elements.{All-nil, All-cons, All-take}
 use Rattle.ipc_codec.specs.Reading.{object_of}
 use Rattle.ipc_codec.specs.declared.refusal.DecodeRefusal.{DecodeRefusal}
@@ -10,8 +10,7 @@ use Rattle.q_values.specs.Bytes.{HasNoNul}
 use Rattle.q_values.specs.Tree.{Tree}
 use Rattle.q_values.specs.declared.limits.Limits.{Limits}
 use Rattle.ipc_frame.specs.Laws.{StreamIsRead}
-use Rattle.ipc_frame.specs.Stream.{Message, Ending, closed, truncated, bad, Front, nothing, partial, whole, fault, built, front_of, header_of, header_front, body_front, moved, Frames, EndsAt, IsGreeting, IsGreeted, IsStream, AreMessages, capability_of, ungreeted}
-use Rattle.ipc_frame.specs.declared.bad.Bad.{Bad}
+use Rattle.ipc_frame.specs.Stream.{Message, Ending, closed, truncated, bad, Front, nothing, partial, whole, fault, built, front_of, header_of, header_front, body_front, moved, Frames, EndsAt, IsStream, AreMessages, capability_of, ungreeted}
 use Rattle.ipc_frame.specs.declared.bad.Bad.TheVariants as b
 use Rattle.ipc_frame.specs.declared.head.Head.{Head}
 use Rattle.ipc_frame.specs.declared.head.BadHeader.{BadHeader}

@@ -1,16 +1,16 @@
 -- What a run of a framer tells.
-use Rattle.std.proofs.Common.{◌≡◌, ◌≤◌, ◌<◌, ◌+◌, ◌-◌, ◌⊎◌, ℕ, zero, suc, min, Bool, true, false, cond, List, [], ◌∷◌, ◌++◌, length, take, drop, map, ltb, leb, eqb, Option, Some, None, Result, Ok, Err, refl, sym, ap, subst, ◌∙◌, inl, inr, arith, append_assoc}
+use Rattle.std.proofs.Common.{◌≡◌, ◌≤◌, ◌<◌, ◌+◌, ℕ, Bool, true, false, cond, List, [], ◌∷◌, ◌++◌, length, take, leb, eqb, Option, Some, None, refl, sym, ap, subst, ◌∙◌, arith, append_assoc}
 use Rattle.std.specs.Bool.{MatchBool}
 use Rattle.std.proofs.lemmas.Bool.{lt-leb, le-leb, ne_eqb}
-use Rattle.std.proofs.lemmas.List.{append-nil, length-append, take_at, take_all}
+use Rattle.std.proofs.lemmas.List.{append-nil, length-append, take_at}
 use Rattle.std.proofs.lemmas.List.Elements.{All-take}
 use Rattle.q_values.specs.Bytes.{HasNoNul}
-use Rattle.q_values.specs.Tree.{Tree, tree}
+use Rattle.q_values.specs.Tree.{tree}
 use Rattle.q_values.specs.declared.limits.Limits.{Limits}
-use Rattle.ipc_frame.specs.Framing.{IsNeeded, StandsFront, StandsGreeting, IsTooLong, is_passed, Gives, Feeds}
-use Rattle.ipc_frame.specs.Laws.{IsExact, FramerIsExact}
+use Rattle.ipc_frame.specs.Framing.{IsNeeded, StandsFront, StandsGreeting, IsTooLong, is_passed}
+use Rattle.ipc_frame.specs.Laws.{FramerIsExact}
 use Rattle.ipc_frame.specs.Run.{Step, fed, gave, Item, greeting, message, fault_at, Runs, bytes_of, told_by, items_at_end, items_behind, items_of, Shows, left_behind, AreTold}
-use Rattle.ipc_frame.specs.Stream.{Message, Content, Ending, closed, truncated, bad, Front, nothing, partial, whole, fault, built, unbuilt, front_of, moved, Frames, EndsAt, IsGreeting, IsGreeted, IsStream, AreMessages, ungreeted}
+use Rattle.ipc_frame.specs.Stream.{Message, Ending, closed, truncated, bad, Front, nothing, partial, whole, fault, built, unbuilt, front_of, moved, EndsAt, IsGreeting, IsStream, AreMessages, ungreeted}
 use Rattle.ipc_frame.specs.Taking.{NeedsGreeting, NeedsMessage, IsUnfinished}
 use Rattle.ipc_frame.specs.View.{FramerView, told_place, fresh, passed}
 use Rattle.ipc_frame.specs.declared.bad.Bad.{Bad}

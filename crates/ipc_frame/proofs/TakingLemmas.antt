@@ -1,8 +1,8 @@
 -- How much is taken of a piece.
-use Rattle.std.proofs.Common.{◌≡◌, ◌≤◌, ◌<◌, ◌+◌, ◌-◌, ◌⊎◌, ℕ, zero, suc, min, max, Bool, true, false, cond, List, [], ◌∷◌, ◌++◌, length, take, drop, get_or, ltb, Option, Some, None, Result, Ok, Err, refl, sym, ap, subst, ◌∙◌, inl, inr, arith, append_assoc}
+use Rattle.std.proofs.Common.{◌≡◌, ◌≤◌, ◌<◌, ◌+◌, ◌-◌, ◌⊎◌, ℕ, min, true, false, List, [], ◌∷◌, ◌++◌, length, take, drop, get_or, ltb, Result, Ok, Err, refl, sym, ap, subst, ◌∙◌, inl, inr, arith, append_assoc}
 use Rattle.std.proofs.lemmas.Bool.{lt-ltb, le-ltb, cases_lt}
-use Rattle.std.proofs.lemmas.List.{append-nil, length-append, take-append-drop, take-append-le, length-take, length-take-le, length-drop, take_all, take-take, take_more, drop-take, drop_all, get_or-append-add, get_or-take, take_at}
-use Rattle.std.proofs.lemmas.List.Elements.{All-nil, All-cons, All-append, All-take, All-get_or, All-more}
+use Rattle.std.proofs.lemmas.List.{append-nil, length-append, take-append-drop, take-append-le, length-take, length-drop, take_all, take-take, take_more, drop-take, get_or-append-add, get_or-take, take_at}
+use Rattle.std.proofs.lemmas.List.Elements.{All-nil, All-append, All-take, All-get_or, All-more}
 use Rattle.q_values.specs.Bytes.{HasNoNul}
 use Rattle.q_values.specs.declared.limits.Limits.{Limits}
 use Rattle.ipc_frame.specs.Stream.{front_of, header_of, header_front}
@@ -10,7 +10,7 @@ use Rattle.ipc_frame.specs.Taking.{Takes, IsUnfinished, NeedsGreeting, NeedsMess
 use Rattle.ipc_frame.specs.Holding.{IsOneGreeting, IsOneMessage, reach, extent_by, room}
 use Rattle.ipc_frame.specs.declared.head.Head.{Head}
 use Rattle.ipc_frame.specs.declared.head.BadHeader.{BadHeader}
-use Rattle.ipc_frame.proofs.FrontLemmas.{header_of-longer, header_of-front, front_by, unfinished_header, unfinished_body, finished, header_fits}
+use Rattle.ipc_frame.proofs.FrontLemmas.{header_of-front, front_by, unfinished_header, unfinished_body, finished, header_fits}
 
 -- ---- in two steps
 

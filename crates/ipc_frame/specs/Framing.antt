@@ -7,7 +7,6 @@ use Rattle.q_values.specs.declared.limits.Limits.{Limits}
 use Rattle.ipc_frame.specs.Stream.{Front, built, unbuilt, whole, fault, front_of, IsGreeting}
 use Rattle.ipc_frame.specs.Taking.{Takes, NeedsGreeting, NeedsMessage, IsUnfinished}
 use Rattle.ipc_frame.specs.View.{FramerView, told_place, passed}
-use Rattle.ipc_frame.specs.declared.bad.Bad.{Bad}
 use Rattle.ipc_frame.specs.declared.bad.Bad.TheVariants as b
 use Rattle.ipc_frame.specs.declared.next.Next.{Next}
 use Rattle.ipc_frame.specs.declared.next.Next.TheVariants as n

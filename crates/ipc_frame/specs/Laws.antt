@@ -2,7 +2,7 @@
 use Rattle.std.specs.Prelude.{◌≡◌, ℕ, List, [], ◌++◌, Option}
 use Rattle.q_values.specs.declared.limits.Limits.{Limits}
 use Rattle.ipc_frame.specs.Framing.{Gives}
-use Rattle.ipc_frame.specs.Run.{Step, Item, Runs, bytes_of, told_by, items_of, AreTold}
+use Rattle.ipc_frame.specs.Run.{Step, Runs, bytes_of, told_by, items_of, AreTold}
 use Rattle.ipc_frame.specs.Stream.{Message, Ending, IsStream}
 use Rattle.ipc_frame.specs.View.{FramerView, fresh}
 use Rattle.ipc_frame.specs.declared.next.Next.TheVariants as n

@@ -1,4 +1,4 @@
-use Rattle.std.proofs.Common.{◌≡◌, refl, Ok, ◌∙◌, ap, length, arith}
+use Rattle.std.proofs.Common.{refl, Ok, ◌∙◌, ap, arith}
 use Rattle.ipc_frame.specs.Stream.{header_of}
 use Rattle.ipc_frame.proofs.FrontLemmas.{message_stands, front_by}
 use Rattle.ipc_frame.proofs.TakingLemmas.{reach_by}
