@@ -3,3 +3,4 @@ pub mod TakingLemmas
 pub mod UniqueLemmas
 pub mod ReadLemmas
 pub mod RunLemmas
+pub mod MessageLemmas

@@ -20,7 +20,7 @@ use Rattle.ipc_frame.proofs.UniqueLemmas.{same_size, header_stands}
 -- ---- a whole message in front of bytes stands alone too
 
 -- a body that makes a whole message makes one of its header's length
-body_size : (head : Head) (x : Result (Tree × ℕ) DecodeRefusal) (k : ℕ) (m : Message) → body_front head x ≡ whole k m → head.length ≡ k
+pub body_size : (head : Head) (x : Result (Tree × ℕ) DecodeRefusal) (k : ℕ) (m : Message) → body_front head x ≡ whole k m → head.length ≡ k
 body_size head (Ok x) k m e = by_fit (eqb (x.1 + 8) head.length) e
   where
     by_fit : (fits : Bool) → cond fits (whole head.length (record { sync = head.sync; content = built x.0 })) (fault b.Object (x.1 + 8)) ≡ whole k m → head.length ≡ k

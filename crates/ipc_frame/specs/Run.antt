@@ -61,6 +61,11 @@ abbrev pub items_of : Option ℕ → List Message → Ending → List Item
 items_of None messages ending = items_behind messages ending
 items_of (Some capability) messages ending = greeting capability ∷ items_behind messages ending
 
+-- how a stream ends that shows no fault, where these bytes are left of it
+abbrev pub ending_of : List ℕ → Ending
+ending_of [] = closed
+ending_of (b ∷ held) = truncated
+
 -- an answer of `next` tells this
 abbrev pub Shows : Next → Item → Type 0
 Shows (n.Greeting capability) (greeting c) = capability ≡ c

@@ -1,5 +1,5 @@
 //! The framer: bytes in, a greeting and messages out.
-ghost use Rattle.std.specs.Prelude.{◌≡◌, IfOk};
+ghost use Rattle.std.specs.Prelude.{◌≡◌, ◌↔◌, [], IsTrue, IfOk};
 ghost use Rattle.q_values.specs.Limits.{AreLimits};
 
 use crate::head::HEADER;
@@ -68,6 +68,13 @@ impl Framer {
             take_greeting(&mut self.held, &self.limits, piece)
         };
         Fed { taken }
+    }
+
+    /// Whether no bytes are held: those that were taken end before the greeting, or behind it or a message.
+    pub fn is_empty(&self) -> bool
+        ensures { IsTrue result ↔ (self.now.held ≡ []) }
+    {
+        self.held.is_empty()
     }
 
     // What stands next.
