@@ -1,6 +1,6 @@
 -- A whole message is a header and bytes that spell its value; a call of `feed` goes on.
 use Rattle.std.proofs.Common.{◌≡◌, ◌≤◌, ◌<◌, ◌+◌, ◌-◌, ◌⊎◌, ℕ, Bool, true, false, cond, List, [], ◌++◌, length, take, drop, ltb, eqb, Result, Ok, Err, refl, sym, ap, subst, ◌∙◌, inl, inr, arith}
-use Rattle.std.proofs.lemmas.Bool.{ltb-false, eqb-true, eq-eqb, cases_lt}
+use Rattle.std.proofs.lemmas.Bool.{eqb-true, eq-eqb, cases_lt}
 use Rattle.std.proofs.lemmas.List.{append-nil, length-drop, take_all}
 use Rattle.ipc_codec.proofs.LawLemmas.{reading_spells, spelling_reads}
 use Rattle.ipc_codec.specs.Reading.{object_of}
@@ -9,10 +9,9 @@ use Rattle.ipc_codec.specs.declared.refusal.DecodeRefusal.{DecodeRefusal}
 use Rattle.ipc_codec.specs.declared.refusal.DecodeRefusal.TheVariants as r
 use Rattle.q_values.specs.Tree.{Tree}
 use Rattle.q_values.specs.declared.limits.Limits.{Limits}
-use Rattle.ipc_frame.specs.Framing.{IsNeeded, Feeds}
-use Rattle.ipc_frame.specs.Laws.{SpellsMessage, MessageIsSpelled, GoesOn, FeedGoesOn}
-use Rattle.ipc_frame.specs.Stream.{Message, Content, Front, partial, whole, fault, built, unbuilt, front_of, header_of, header_front, body_front}
-use Rattle.ipc_frame.specs.View.{FramerView}
+use Rattle.ipc_frame.specs.Framing.{IsNeeded}
+use Rattle.ipc_frame.specs.Laws.{SpellsMessage, MessageIsSpelled, FeedGoesOn}
+use Rattle.ipc_frame.specs.Stream.{Message, partial, whole, fault, built, unbuilt, front_of, header_of, header_front, body_front}
 use Rattle.ipc_frame.specs.declared.bad.Bad.TheVariants as b
 use Rattle.ipc_frame.specs.declared.head.Head.{Head}
 use Rattle.ipc_frame.specs.declared.head.BadHeader.{BadHeader}
@@ -98,11 +97,13 @@ goes_on old piece taken new f = record {
   where
     same : taken ≡ 0 → old.held ++ take taken piece ≡ old.held
     same e = ap (λ k. old.held ++ take k piece) e ∙ append-nil old.held
+
     by_none : IsNeeded old.limits old.greeted old.held → 0 < length piece → (0 < taken) ⊎ (taken ≤ 0) → 0 < taken
     by_none need more (inl some) = some
     by_none need more (inr none) =
         let zero : taken ≡ 0 = omega (arith, none) in
         absurd (f.takes.behind (omega (arith, zero, more)) (subst (IsNeeded old.limits old.greeted) (sym (same zero)) need))
+
     by_some : (IsNeeded old.limits old.greeted old.held → ⊥) → (0 < taken) ⊎ (taken ≤ 0) → taken ≡ 0
     by_some enough (inl some) = absurd (enough (subst (IsNeeded old.limits old.greeted) (append-nil old.held) (f.takes.before 0 some)))
     by_some enough (inr none) = omega (arith, none)

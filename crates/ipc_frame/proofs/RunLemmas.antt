@@ -1,5 +1,5 @@
 -- What a run of a framer tells.
-use Rattle.std.proofs.Common.{◌≡◌, ◌≤◌, ◌<◌, ◌+◌, ◌-◌, ℕ, Bool, true, false, cond, List, [], ◌∷◌, ◌++◌, length, take, drop, map, ltb, leb, eqb, Option, Some, None, Result, Ok, Err, refl, sym, ap, subst, ◌∙◌, arith, append_assoc}
+use Rattle.std.proofs.Common.{◌≡◌, ◌≤◌, ◌<◌, ◌+◌, ◌-◌, ℕ, Bool, true, false, cond, List, [], ◌∷◌, ◌++◌, length, take, drop, ltb, leb, eqb, Option, Some, None, Result, Ok, Err, refl, sym, ap, subst, ◌∙◌, arith, append_assoc}
 use Rattle.std.specs.Bool.{MatchBool}
 use Rattle.std.proofs.lemmas.Bool.{lt-leb, le-leb, ne_eqb}
 use Rattle.std.proofs.lemmas.List.{append-nil, length-append, take_at}
@@ -13,7 +13,7 @@ use Rattle.q_values.specs.declared.limits.Limits.{Limits}
 use Rattle.ipc_frame.specs.Framing.{IsNeeded, StandsFront, StandsGreeting, IsTooLong, is_passed, Gives}
 use Rattle.ipc_frame.specs.Laws.{AllAreTold, FramerIsExact}
 use Rattle.ipc_frame.specs.Run.{Step, fed, gave, Item, greeting, message, fault_at, Runs, bytes_of, told_by, items_at_end, items_behind, items_of, ending_of, Shows, left_behind, AreTold}
-use Rattle.ipc_frame.specs.Stream.{Message, Ending, closed, truncated, bad, Front, nothing, partial, whole, fault, built, unbuilt, front_of, header_of, header_front, body_front, moved, EndsAt, IsGreeting, IsStream, AreMessages, ungreeted}
+use Rattle.ipc_frame.specs.Stream.{Message, Ending, truncated, bad, Front, nothing, partial, whole, fault, built, unbuilt, front_of, header_of, header_front, body_front, moved, EndsAt, IsGreeting, IsStream, AreMessages, ungreeted}
 use Rattle.ipc_frame.specs.Taking.{NeedsGreeting, NeedsMessage, IsUnfinished}
 use Rattle.ipc_frame.specs.View.{FramerView, told_place, fresh, passed}
 use Rattle.ipc_frame.specs.declared.bad.Bad.{Bad}

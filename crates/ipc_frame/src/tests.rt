@@ -229,6 +229,20 @@ fn long_greetings(rt: HostRuntime) -> Result<(), Fail> {
 }
 
 #[test]
+fn empty_between_messages(rt: HostRuntime) -> Result<(), Fail> {
+    let mut framer = Framer::new(rt.alloc(), &Limits::standard())?;
+    assert!(rt; framer.is_empty());
+    let _ = framer.feed(GREETING);
+    assert!(rt; !framer.is_empty());
+    let _ = framer.next();
+    assert!(rt; framer.is_empty());
+    let _ = framer.feed(b"\x01");
+    let _ = framer.next();
+    assert!(rt; !framer.is_empty());
+    Ok(())
+}
+
+#[test]
 fn ample_memory_calls(rt: HostRuntime) {
     assert!(rt; Framer::new(rt.alloc(), &Limits::standard()).is_ok());
 }
