@@ -1,0 +1,46 @@
+//! Objects as bytes.
+
+use std::alloc::{AllocError, Global};
+
+// The head of a vector: its type, an attribute and a count.
+fn put_head(out: &mut Vec<u8>, code: u8, count: u32) -> Result<(), AllocError> {
+    out.extend_from_slice(&[code, 0])?;
+    out.extend_from_slice(&count.to_le_bytes())
+}
+
+// A vector of numbers of eight bytes that rise by this step.
+fn put_numbers(out: &mut Vec<u8>, code: u8, count: u32, step: u64) -> Result<(), AllocError> {
+    put_head(out, code, count)?;
+    for i in 0..count {
+        out.extend_from_slice(&u64::from(i).wrapping_mul(step).to_le_bytes())?;
+    }
+    Ok(())
+}
+
+// A vector of symbols, a hundred in turn.
+fn put_symbols(out: &mut Vec<u8>, count: u32) -> Result<(), AllocError> {
+    put_head(out, 11, count)?;
+    for i in 0..count {
+        let digits = (i % 100) as u8;
+        out.extend_from_slice(&[b'S', b'0' + digits / 10, b'0' + digits % 10, 0])?;
+    }
+    Ok(())
+}
+
+/// A vector of longs.
+pub fn longs(alloc: Global, count: u32) -> Result<Vec<u8>, AllocError> {
+    let mut out = Vec::new(alloc);
+    put_numbers(&mut out, 7, count, 1_000_003)?;
+    Ok(out)
+}
+
+/// A table of trades: time, symbol, price and size.
+pub fn trades(alloc: Global, rows: u32) -> Result<Vec<u8>, AllocError> {
+    let mut out = Vec::from_slice(alloc, b"b\0c\x0b\0\x04\0\0\0time\0sym\0price\0size\0")?;
+    put_head(&mut out, 0, 4)?;
+    put_numbers(&mut out, 16, rows, 1_000_000)?;
+    put_symbols(&mut out, rows)?;
+    put_numbers(&mut out, 7, rows, 7)?;
+    put_numbers(&mut out, 7, rows, 100)?;
+    Ok(out)
+}

@@ -1,0 +1,254 @@
+ghost use Rattle.ipc_frame.specs.Framing.{CanBeWritten};
+
+use super::*;
+use ipc_codec::encode;
+use q_values::{Limits, NoMemory};
+use std::alloc::Global;
+use std::test::Fail;
+
+// The greeting "u:p" of capability 3.
+const GREETING: &[u8] = b"u:p\x03\0";
+
+// `1i` of KX's reference, asynchronous and in little-endian.
+const INTEGER: &[u8] = b"\x01\0\0\0\x0d\0\0\0\xfa\x01\0\0\0";
+
+// The text "select from trade", synchronous and in big-endian.
+const TEXT: &[u8] = b"\0\x01\0\0\0\0\0\x1f\x0a\0\0\0\0\x11select from trade";
+
+// A float, synchronous and in little-endian.
+const FLOAT: &[u8] = b"\x01\x01\0\0\x11\0\0\0\xf7\0\0\0\0\0\0\xf0?";
+
+// `enlist 1i`, asynchronous and in big-endian.
+const VECTOR: &[u8] = b"\0\0\0\0\0\0\0\x12\x06\0\0\0\0\x01\0\0\0\x01";
+
+// ``a`b!2 3i` of KX's reference, but synchronous.
+const DICTIONARY: &[u8] =
+    b"\x01\x01\0\0\x21\0\0\0c\x0b\0\x02\0\0\0a\0b\0\x06\0\x02\0\0\0\x02\0\0\0\x03\0\0\0";
+
+// What is told of these five messages behind the greeting: a letter, whether it is synchronous, and its value.
+const TOLD: &[u8] =
+    b"G\x03M\0\xfa\x01\0\0\0M\x01\x0a\0\x11\0\0\0select from tradeN\x01\x39M\0\x06\0\x01\0\0\0\x01\0\0\0M\x01c\x0b\0\x02\0\0\0a\0b\0\x06\0\x02\0\0\0\x02\0\0\0\x03\0\0\0";
+
+fn number_of(code: Bad) -> u8 {
+    match code {
+        Bad::Order => 1,
+        Bad::Kind => 2,
+        Bad::Compressed => 3,
+        Bad::Length => 4,
+        Bad::TooLong => 5,
+        Bad::Object => 6,
+        Bad::Greeting => 7,
+    }
+}
+
+// Writes down what was told; of a place its lowest byte.
+fn tell(out: &mut Vec<u8>, next: Next) -> Result<(), NoMemory>
+    requires { CanBeWritten next }
+{
+    match next {
+        Next::Greeting { capability } => out.extend_from_slice(&[b'G', capability])?,
+        Next::Message(message) => {
+            out.extend_from_slice(&[b'M', u8::from(message.sync)])?;
+            encode(out, &message.value)?;
+        }
+        Next::NotBuilt { sync, at } => {
+            out.extend_from_slice(&[b'N', u8::from(sync), (at % 256) as u8])?;
+        }
+        Next::Skipped { sync } => out.extend_from_slice(&[b'S', u8::from(sync)])?,
+        Next::Need => {}
+        Next::Bad { code, at } => {
+            out.extend_from_slice(&[b'B', number_of(code), (at % 256) as u8])?;
+        }
+    }
+    Ok(())
+}
+
+// Feeds a piece and writes down what is told of it.
+fn feed_piece(framer: &mut Framer, piece: &[u8], out: &mut Vec<u8>) -> Result<(), NoMemory> {
+    let mut rest = piece;
+    for _ in 0..7 {
+        let taken = framer.feed(rest).taken;
+        rest = &rest[taken..];
+        tell(out, framer.next())?;
+    }
+    Ok(())
+}
+
+fn stream(alloc: Global) -> Result<Vec<u8>, NoMemory> {
+    let mut bytes = Vec::from_slice(alloc, GREETING)?;
+    for message in [INTEGER, TEXT, FLOAT, VECTOR, DICTIONARY] {
+        bytes.extend_from_slice(message)?;
+    }
+    Ok(bytes)
+}
+
+// What is told of bytes behind a greeting, first of the greeting.
+fn told_of(alloc: Global, bytes: &[u8]) -> Result<Vec<u8>, NoMemory> {
+    let mut framer = Framer::new(alloc, &Limits::standard())?;
+    let mut out = Vec::new(alloc);
+    feed_piece(&mut framer, GREETING, &mut out)?;
+    feed_piece(&mut framer, bytes, &mut out)?;
+    Ok(out)
+}
+
+// The fault in bytes behind a greeting.
+fn fault_of(alloc: Global, bytes: &[u8]) -> Result<Option<(Bad, u64)>, NoMemory> {
+    let mut framer = Framer::new(alloc, &Limits::standard())?;
+    let _ = framer.feed(GREETING);
+    let _ = framer.next();
+    let _ = framer.feed(bytes);
+    match framer.next() {
+        Next::Bad { code, at } => Ok(Some((code, at))),
+        _ => Ok(None),
+    }
+}
+
+// Lists in one another, each of one item, and an empty one within, behind their header.
+fn nested_lists(alloc: Global) -> Result<Vec<u8>, NoMemory> {
+    let mut bytes = Vec::from_slice(alloc, b"\x01\x01\0\0\x8e\x01\0\0")?;
+    for _ in 0..64 {
+        bytes.extend_from_slice(b"\0\0\x01\0\0\0")?;
+    }
+    bytes.extend_from_slice(b"\0\0\0\0\0\0")?;
+    Ok(bytes)
+}
+
+// Whether this is told of a stream of five messages that is cut there.
+fn told_cut_at(alloc: Global, bytes: &[u8], cut: usize) -> Result<bool, NoMemory> {
+    let mut framer = Framer::new(alloc, &Limits::standard())?;
+    let mut out = Vec::new(alloc);
+    match bytes.split_at_checked(cut) {
+        Some((front, back)) => {
+            feed_piece(&mut framer, front, &mut out)?;
+            feed_piece(&mut framer, back, &mut out)?;
+            Ok(out.as_slice() == TOLD)
+        }
+        None => Ok(false),
+    }
+}
+
+#[test]
+fn cut_at_every_place(rt: HostRuntime) -> Result<(), Fail> {
+    let bytes = stream(rt.alloc())?;
+    for cut in 0..=bytes.len() {
+        assert!(rt; told_cut_at(rt.alloc(), bytes.as_slice(), cut)?, "{cut}");
+    }
+    Ok(())
+}
+
+#[test]
+fn cut_into_single_bytes(rt: HostRuntime) -> Result<(), Fail> {
+    let bytes = stream(rt.alloc())?;
+    let mut framer = Framer::new(rt.alloc(), &Limits::standard())?;
+    let mut out = Vec::new(rt.alloc());
+    for byte in bytes.as_slice() {
+        feed_piece(&mut framer, &[*byte], &mut out)?;
+    }
+    assert_eq!(rt; out.as_slice(), TOLD);
+    Ok(())
+}
+
+#[test]
+fn bad_headers(rt: HostRuntime) -> Result<(), Fail> {
+    let rows: [(&[u8], Bad, u64); 5] = [
+        (b"\x01\x01\0\0\x07\0\0\0", Bad::Length, 9),
+        (b"\x01\x01\x01\0\x1f\0\0\0", Bad::Compressed, 7),
+        (b"\x02\x01\0\0\x1f\0\0\0", Bad::Order, 5),
+        (b"\x01\x02\0\0\x0a\0\0\0", Bad::Kind, 6),
+        (b"\x01\x01\0\0\x01\0\0\x01", Bad::TooLong, 9),
+    ];
+    for (bytes, code, at) in rows {
+        assert_eq!(rt; fault_of(rt.alloc(), bytes)?, Some((code, at)));
+    }
+    Ok(())
+}
+
+#[test]
+fn count_past_the_end(rt: HostRuntime) -> Result<(), Fail> {
+    let bytes = b"\x01\x01\0\0\x0e\0\0\0\x07\0\xff\xff\xff\x7f";
+    assert_eq!(rt; fault_of(rt.alloc(), bytes)?, Some((Bad::Object, 19)));
+    Ok(())
+}
+
+#[test]
+fn negative_count(rt: HostRuntime) -> Result<(), Fail> {
+    let bytes = b"\x01\x01\0\0\x0e\0\0\0\x07\0\xff\xff\xff\xff";
+    assert_eq!(rt; fault_of(rt.alloc(), bytes)?, Some((Bad::Object, 15)));
+    Ok(())
+}
+
+#[test]
+fn too_deep(rt: HostRuntime) -> Result<(), Fail> {
+    let bytes = nested_lists(rt.alloc())?;
+    assert_eq!(rt;
+        fault_of(rt.alloc(), bytes.as_slice())?,
+        Some((Bad::Object, 397))
+    );
+    Ok(())
+}
+
+#[test]
+fn bytes_behind_an_object(rt: HostRuntime) -> Result<(), Fail> {
+    let bytes = b"\x01\x01\0\0\x0e\0\0\0\xfa\x01\0\0\0\0";
+    assert_eq!(rt; fault_of(rt.alloc(), bytes)?, Some((Bad::Object, 18)));
+    Ok(())
+}
+
+#[test]
+fn a_fault_stays(rt: HostRuntime) -> Result<(), Fail> {
+    let told = told_of(rt.alloc(), b"\x01\x02\0\0\x0a\0\0\0\xfa\x01")?;
+    let expected: &[u8] = b"G\x03B\x02\x06B\x02\x06B\x02\x06B\x02\x06B\x02\x06B\x02\x06B\x02\x06";
+    assert_eq!(rt; told.as_slice(), expected);
+    Ok(())
+}
+
+#[test]
+fn long_greetings(rt: HostRuntime) -> Result<(), Fail> {
+    let limits = Limits {
+        greeting: 3,
+        ..Limits::standard()
+    };
+    let mut framer = Framer::new(rt.alloc(), &limits)?;
+    assert_eq!(rt; framer.feed(b"abc\0\x01").taken, 4);
+    assert!(rt; matches!(framer.next(), Next::Greeting { capability: 0 }));
+    let mut framer = Framer::new(rt.alloc(), &limits)?;
+    assert_eq!(rt; framer.feed(b"abc").taken, 3);
+    assert!(rt; matches!(framer.next(), Next::Need));
+    assert_eq!(rt; framer.feed(b"\x03\0").taken, 1);
+    assert!(rt;
+        matches!(
+            framer.next(),
+            Next::Bad {
+                code: Bad::Greeting,
+                at: 3
+            }
+        )
+    );
+    assert_eq!(rt; framer.feed(b"\0").taken, 0);
+    Ok(())
+}
+
+#[test]
+fn empty_between_messages(rt: HostRuntime) -> Result<(), Fail> {
+    let mut framer = Framer::new(rt.alloc(), &Limits::standard())?;
+    assert!(rt; framer.is_empty());
+    let _ = framer.feed(GREETING);
+    assert!(rt; !framer.is_empty());
+    let _ = framer.next();
+    assert!(rt; framer.is_empty());
+    let _ = framer.feed(b"\x01");
+    let _ = framer.next();
+    assert!(rt; !framer.is_empty());
+    Ok(())
+}
+
+#[test]
+fn ample_memory_calls(rt: HostRuntime) {
+    assert!(rt; Framer::new(rt.alloc(), &Limits::standard()).is_ok());
+}
+
+#[test]
+fn headers(rt: HostRuntime) {
+    assert_eq!(rt; header(true, 10), [1, 2, 0, 0, 10, 0, 0, 0]);
+    assert_eq!(rt; header(false, 0x0102_0304), [1, 0, 0, 0, 4, 3, 2, 1]);
+}
