@@ -1,0 +1,6 @@
+pub mod Chronicle
+pub mod Frame
+pub mod Items
+pub mod Limit
+pub mod Turns
+pub mod Verdict
