@@ -1,1 +1,2 @@
 pub mod ItemsLemmas
+pub mod JudgeLemmas

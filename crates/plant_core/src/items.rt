@@ -1,5 +1,5 @@
 //! The items of an update: their kinds, lengths and symbols, and the columns that they make.
-ghost use Rattle.std.specs.Prelude.{◌≡◌, ◌<◌, ◌≤◌, ◌+◌, ℕ, ℤ, [], ◌∷◌, length, map, replicate, IfOk, None, nat_lt};
+ghost use Rattle.std.specs.Prelude.{◌≡◌, ◌<◌, ◌≤◌, ◌+◌, [], ◌∷◌, length, map, replicate, IfOk, IfSome};
 ghost use Rattle.std.specs.List.{list_any, list_all};
 ghost use Rattle.q_values.specs.Atom.{kind_of};
 ghost use Rattle.q_values.specs.Tree.{tree};
@@ -118,6 +118,7 @@ pub fn wrong_from(place: usize, kinds: &[Kind], items: &[Value]) -> Option<usize
     requires as_many { length kinds.now ≡ length items.now }
     requires few { place + length kinds.now ≤ 48 }
     ensures value { result ≡ wrong_from place kinds.now (map tree items.now) }
+    ensures within { IfSome result (λ column. column < 48) }
 {
     for i in 0..items.len() {
         let kind = &kinds[i];
@@ -216,7 +217,8 @@ pub fn count_atoms(item: &Value) -> usize
 pub fn wrong_column(kinds: &[Kind], first: &Value, others: &[Value]) -> Option<usize>
     requires as_many { length kinds.now ≡ length others.now + 1 }
     requires few { length kinds.now ≤ 48 }
-    ensures { result ≡ wrong_from 0 kinds.now (tree first.now ∷ map tree others.now) }
+    ensures value { result ≡ wrong_from 0 kinds.now (tree first.now ∷ map tree others.now) }
+    ensures within { IfSome result (λ column. column < 48) }
 {
     if !is_of_kind(first, kinds[0]) {
         return Some(0);
