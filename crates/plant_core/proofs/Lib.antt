@@ -1,2 +1,4 @@
+pub mod HistoryLemmas
 pub mod ItemsLemmas
 pub mod JudgeLemmas
+pub mod ShownLemmas

@@ -1,7 +1,8 @@
 -- What is read off a chronicle: its dates, its open date's entries, the numbers of its passes.
-use Rattle.std.specs.Prelude.{ℕ, ℤ, pos, ◌+◌, Bool, List, [], ◌∷◌, drop, max, filter}
+use Rattle.std.specs.Prelude.{ℕ, ℤ, pos, ◌+◌, Bool, List, [], ◌∷◌, drop, max, filter, slice_index_or}
 use Rattle.std.specs.Int.{int_div_euclid, int_rem_euclid}
 use Rattle.std.specs.Ordering.{int_eq}
+use Rattle.day_rows.specs.Chronicle.{view}
 use Rattle.day_rows.specs.Rows.{Row}
 use Rattle.day_rows.specs.declared.entry.Entry.{Entry}
 use Rattle.day_rows.specs.declared.entry.Entry.TheVariants as e
@@ -51,6 +52,21 @@ dates_of first (e.Upd by table columns ∷ entries) = dates_of first entries
 dates_of first (e.Roll by date ∷ entries) = first ∷ dates_of date entries
 dates_of first (e.Fault by ∷ entries) = dates_of first entries
 
+-- the number of updates among entries
+abbrev pub update_count : List Entry → ℕ
+update_count [] = 0
+update_count (e.Upd by table columns ∷ entries) = update_count entries + 1
+update_count (e.Roll by date ∷ entries) = update_count entries
+update_count (e.Fault by ∷ entries) = update_count entries
+
 -- the rows of one date
 abbrev pub on_date : ℤ → List Row → List Row
 on_date date = filter (λ row. int_eq row.date date)
+
+-- the date at a place
+abbrev pub date_at : ℤ → List Entry → ℕ → ℤ
+date_at first entries k = slice_index_or (dates_of first entries) k first
+
+-- the rows of a table on the date at a place, in the documented order
+abbrev pub rows_at : ℤ → List Entry → ℕ → ℕ → List Row
+rows_at first entries k table = on_date (date_at first entries k) (view first entries table)

@@ -1,5 +1,6 @@
 pub mod Chronicle
 pub mod Frame
+pub mod History
 pub mod Items
 pub mod Limit
 pub mod Turns
