@@ -1,4 +1,5 @@
 pub mod HistoryLemmas
 pub mod ItemsLemmas
 pub mod JudgeLemmas
+pub mod PlantLemmas
 pub mod ShownLemmas

@@ -299,7 +299,6 @@ impl History {
 
     /// The number of dates.
     pub fn dates(&self) -> usize
-        requires { length (dates_of self.now.first self.now.entries) < 2 ^ 64 }
         ensures { result ≡ length (dates_of self.now.first self.now.entries) }
     {
         self.ended.len() + 1

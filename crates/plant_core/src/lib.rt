@@ -4,8 +4,12 @@
 mod history;
 mod items;
 mod judge;
+mod plant;
+mod prepared;
 mod refusal;
 mod request;
 
+pub use plant::Plant;
+pub use prepared::{Prepared, PreparedRoll};
 pub use refusal::UpdRefusal;
 pub use request::UpdRequest;
