@@ -3,3 +3,4 @@ pub mod ItemsLemmas
 pub mod JudgeLemmas
 pub mod PlantLemmas
 pub mod ShownLemmas
+pub mod SoloLemmas

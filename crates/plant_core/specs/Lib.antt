@@ -1,3 +1,4 @@
+pub mod Access
 pub mod Chronicle
 pub mod Frame
 pub mod History

@@ -1,11 +1,11 @@
 -- What a plant shows, and what its calls make.
-use Rattle.std.specs.Prelude.{◌≡◌, ◌<◌, ◌+◌, ◌^◌, ◌+ℤ◌, ℕ, ℤ, pos, Bool, true, false, if◌then◌else◌, List, [], ◌∷◌, ◌++◌, length, map, Option, Some}
+use Rattle.std.specs.Prelude.{◌≡◌, ◌<◌, ◌+◌, ◌^◌, ◌+ℤ◌, ◌<ℤ◌, ℕ, ℤ, pos, Bool, true, false, if◌then◌else◌, List, [], ◌∷◌, ◌++◌, length, map, Option, Some, None}
 use Rattle.q_values.specs.Limits.{AreLimits}
 use Rattle.q_values.specs.Tree.{Tree}
 use Rattle.q_values.specs.declared.kind.Kind.{Kind}
 use Rattle.q_values.specs.declared.limits.Limits.{Limits}
 use Rattle.day_rows.specs.Chronicle.{date_of}
-use Rattle.day_rows.specs.Day.{Opened, opened_of}
+use Rattle.day_rows.specs.Day.{Opened, IsUpdate, opened_of}
 use Rattle.day_rows.specs.declared.entry.Entry.{Entry}
 use Rattle.day_rows.specs.declared.entry.Entry.TheVariants as e
 use Rattle.day_rows.specs.declared.schema.Shape.{Shape}
@@ -58,7 +58,22 @@ pub record Prepares (old new : PlantView) (by : ℕ) (table : List ℕ) (items :
   pub frame : update.frame ≡ old.frame
   pub entries : update.entries ≡ old.entries
   pub own : update.by ≡ by
+  pub early : update.rolls ≡ true → date_of old.frame.first old.entries <ℤ pos 106751
   pub after : new ≡ record old { room = if update.rolls then old.room else update.entry ∷ [] }
+
+-- where the roll stands, if the entries from a place on begin with one
+abbrev pub roll_place : ℕ → List Entry → Option ℕ
+roll_place place [] = None
+roll_place place (e.Upd by table columns ∷ entries) = None
+roll_place place (e.Roll by date ∷ entries) = Some place
+roll_place place (e.Fault by ∷ entries) = None
+
+-- entries were added, a roll, if they begin with one, at its place, and the last of them at the other
+pub record Adds (old new : PlantView) (entries : List Entry) (rolled : Option ℕ) (place : ℕ) : Type 0 where
+  pub frame : new.frame ≡ old.frame
+  pub whole : new.entries ≡ old.entries ++ entries
+  pub rolled_is : rolled ≡ roll_place (length old.entries) entries
+  pub last : place + 1 ≡ length (old.entries ++ entries)
 
 -- a plant over its dates
 abbrev pub frame_of : List Shape → Limits → HistoryView → Frame
@@ -77,6 +92,7 @@ pub record IsPrepared (of : PlantView) (by : ℕ) (entry : Entry) (fresh : Optio
   pub few : length of.entries < 2 ^ 63
   pub own : by_of entry ≡ by
   pub by_few : by + 1 < 2 ^ 64
+  pub update : IsUpdate (kinds_of of.frame.schema) entry
   pub fresh_is : (opened : Opened) → fresh ≡ Some opened → opened ≡ opened_of (date_of of.frame.first of.entries +ℤ pos 1) (kinds_of of.frame.schema) [] (entry ∷ [])
 
 -- what a prepared roll holds: the dates behind it
@@ -87,3 +103,7 @@ pub record IsPreparedRoll (of : PlantView) (by : ℕ) (next : HistoryView) : Typ
 -- a table of the schema has a column of this number, and this kind
 abbrev pub HasColumn : List Shape → ℕ → ℕ → Kind → Type 0
 HasColumn schema = IsColumn (kinds_of schema)
+
+-- the dates of a snapshot are of the schema's tables
+pub record IsSnapshot (schema : List Shape) (history : HistoryView) : Type 0 where
+  pub kinds_are : history.kinds ≡ kinds_of schema

@@ -1,6 +1,7 @@
 //! A plant in memory: the chronicle of its updates and rolls, what becomes of an update, and what a session sees of it.
 #![tactic(auto)]
 
+mod access;
 mod history;
 mod items;
 mod judge;
@@ -8,8 +9,13 @@ mod plant;
 mod prepared;
 mod refusal;
 mod request;
+mod snapshot;
+mod solo;
 
+pub use access::{Access, TickTurn, UpdTurn};
 pub use plant::Plant;
 pub use prepared::{Prepared, PreparedRoll};
 pub use refusal::UpdRefusal;
 pub use request::UpdRequest;
+pub use snapshot::Snapshot;
+pub use solo::Solo;

@@ -6,7 +6,7 @@ ghost use Rattle.q_values.specs.Tree.{trees};
 ghost use Rattle.day_rows.specs.Chronicle.{date_of};
 ghost use Rattle.day_rows.specs.Day.{IsUpdate, opened_of, entry_rows, total_rows};
 ghost use Rattle.plant_core.specs.Chronicle.{by_of, today, top_by, place_behind_roll};
-ghost use Rattle.plant_core.specs.Plant.{Prepares, due, kinds_of, next_roll};
+ghost use Rattle.plant_core.specs.Plant.{Adds, Prepares, due, kinds_of, next_roll};
 ghost use Rattle.plant_core.specs.Turns.{IsRefusal};
 ghost use Rattle.plant_core.specs.Verdict.{verdict};
 
@@ -248,5 +248,39 @@ impl Plant {
             None => self.history.push(entry),
         }
         place
+    }
+
+    // Logs an update for which there is room: the places of its roll, where one is due, and of its entry.
+    pub(crate) fn log(
+        &mut self,
+        alloc: Global,
+        update: Prepared,
+    ) -> Result<(Option<u64>, u64), NoMemory>
+        requires frame { update.frame ≡ self.old.frame }
+        requires same { update.entries ≡ self.old.entries }
+        requires room { update.rolls ≡ false → self.old.room ≡ update.entry ∷ [] }
+        requires date { update.rolls ≡ true → date_of self.old.frame.first self.old.entries <ℤ pos 106751 }
+        ensures ok { IfOk result (λ places. Adds self.old self.new (due update ++ update.entry ∷ []) places.0 places.1) }
+        ensures err { OnErr result (self.new ≡ self.old) }
+    {
+        if !update.rolls() {
+            let place = self.commit(update);
+            return Ok((None, place));
+        }
+        let roll = self.prepare_roll(alloc, update.by)?;
+        let rolled = self.commit_roll(roll);
+        let place = self.commit(update);
+        Ok((Some(rolled), place))
+    }
+
+    /// The whole chronicle as it is now. It shares the dates that have ended: no row of them is copied.
+    pub fn snapshot(&self, alloc: Global) -> Result<crate::snapshot::Snapshot, NoMemory>
+        ensures { IfOk result (λ s. s ≡ record { frame = self.now.frame; entries = self.now.entries }) }
+    {
+        Ok(crate::snapshot::Snapshot {
+            schema: Snapshot::of(&self.schema),
+            limits: self.limits,
+            history: self.history.copy(alloc)?,
+        })
     }
 }
