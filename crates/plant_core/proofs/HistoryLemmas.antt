@@ -47,13 +47,13 @@ date_of-roll date next by (e.Upd own table columns ∷ es) later all = date_of-r
 date_of-roll date next by (e.Roll own other ∷ es) later all = absurd all.0
 date_of-roll date next by (e.Fault own ∷ es) later all = date_of-roll date next by es later all.1
 
-dates_of-kept : (date : ℤ) (es : List Entry) → AllByRecursion KeepsDate es → dates_of date es ≡ date ∷ []
+pub dates_of-kept : (date : ℤ) (es : List Entry) → AllByRecursion KeepsDate es → dates_of date es ≡ date ∷ []
 dates_of-kept date [] all = refl
 dates_of-kept date (e.Upd by table columns ∷ es) all = dates_of-kept date es all.1
 dates_of-kept date (e.Roll by next ∷ es) all = absurd all.0
 dates_of-kept date (e.Fault by ∷ es) all = dates_of-kept date es all.1
 
-dates_of-roll : (date next : ℤ) (by : ℕ) (es later : List Entry) → AllByRecursion KeepsDate es → dates_of date (es ++ e.Roll by next ∷ later) ≡ date ∷ dates_of next later
+pub dates_of-roll : (date next : ℤ) (by : ℕ) (es later : List Entry) → AllByRecursion KeepsDate es → dates_of date (es ++ e.Roll by next ∷ later) ≡ date ∷ dates_of next later
 dates_of-roll date next by [] later all = refl
 dates_of-roll date next by (e.Upd own table columns ∷ es) later all = dates_of-roll date next by es later all.1
 dates_of-roll date next by (e.Roll own other ∷ es) later all = absurd all.0

@@ -27,7 +27,7 @@ use Rattle.day_rows.specs.Rows.{column_of}
 use Rattle.plant_core.specs.History.{Past, chronicle_of, Follow, IsColumn}
 use Rattle.plant_core.proofs.HistoryLemmas.{day_keeps, dates_of-chronicle, ascend-chronicle}
 
-weaker : {X : Type 0} (P Q : X → Type 0) → ((x : X) → P x → Q x) → (xs : List X) → AllByRecursion P xs → AllByRecursion Q xs
+pub weaker : {X : Type 0} (P Q : X → Type 0) → ((x : X) → P x → Q x) → (xs : List X) → AllByRecursion P xs → AllByRecursion Q xs
 weaker P Q f [] h = tt
 weaker P Q f (x ∷ xs) h = (f x h.0, weaker P Q f xs h.1)
 
@@ -36,11 +36,11 @@ all-inserted cmp P x [] own all = (own, tt)
 all-inserted cmp P x (y ∷ ys) own all =
     elim (is_gt (cmp x y)) as (λ b. AllByRecursion P (cond b (y ∷ inserted cmp x ys) (x ∷ y ∷ ys))) [ true ↦ (all.0, all-inserted cmp P x ys own all.1) | false ↦ (own, all) ]
 
-all-in_order : {X : Type 0} (cmp : X → X → Ordering) (P : X → Type 0) (xs : List X) → AllByRecursion P xs → AllByRecursion P (in_order cmp xs)
+pub all-in_order : {X : Type 0} (cmp : X → X → Ordering) (P : X → Type 0) (xs : List X) → AllByRecursion P xs → AllByRecursion P (in_order cmp xs)
 all-in_order cmp P [] all = tt
 all-in_order cmp P (x ∷ xs) all = all-inserted cmp P x (in_order cmp xs) all.0 (all-in_order cmp P xs all.1)
 
-numbered-dated : (date : ℤ) (n : ℕ) (ls : List (List Atom)) → AllByRecursion (λ (r : Row). r.date ≡ date) (numbered date n ls)
+pub numbered-dated : (date : ℤ) (n : ℕ) (ls : List (List Atom)) → AllByRecursion (λ (r : Row). r.date ≡ date) (numbered date n ls)
 numbered-dated date n [] = tt
 numbered-dated date n (l ∷ ls) = (refl, numbered-dated date (n + 1) ls)
 
@@ -53,25 +53,25 @@ settled-dated day t is = all-in_order ended_cmp (λ (r : Row). r.date ≡ day.da
 int_eq-itself : (x : ℤ) → int_eq x x ≡ true
 int_eq-itself x = ap is_eq (tied_itself int_cmp_total x)
 
-apart : (x y : ℤ) → int_cmp x y ≡ Less → int_eq x y ≡ false
+pub apart : (x y : ℤ) → int_cmp x y ≡ Less → int_eq x y ≡ false
 apart x y less = ap is_eq less
 
-apart-back : (x y : ℤ) → int_cmp x y ≡ Less → int_eq y x ≡ false
+pub apart-back : (x y : ℤ) → int_cmp x y ≡ Less → int_eq y x ≡ false
 apart-back x y less = ap is_eq (int_cmp_total.antisymm y x ∙ ap ordering_reverse less)
 
-on_date-all : (date : ℤ) (rows : List Row) → AllByRecursion (λ (r : Row). r.date ≡ date) rows → on_date date rows ≡ rows
+pub on_date-all : (date : ℤ) (rows : List Row) → AllByRecursion (λ (r : Row). r.date ≡ date) rows → on_date date rows ≡ rows
 on_date-all date [] all = refl
 on_date-all date (r ∷ rows) all = ap (λ b. cond b (r ∷ on_date date rows) (on_date date rows)) (ap (λ d. int_eq d date) all.0 ∙ int_eq-itself date) ∙ ap (λ l. r ∷ l) (on_date-all date rows all.1)
 
-on_date-none : (date : ℤ) (rows : List Row) → AllByRecursion (λ (r : Row). int_eq r.date date ≡ false) rows → on_date date rows ≡ []
+pub on_date-none : (date : ℤ) (rows : List Row) → AllByRecursion (λ (r : Row). int_eq r.date date ≡ false) rows → on_date date rows ≡ []
 on_date-none date [] none = refl
 on_date-none date (r ∷ rows) none = rw none.0 (on_date-none date rows none.1)
 
 -- a date that is this one or a later one
-abbrev IsFrom : ℤ → ℤ → Type 0
+abbrev pub IsFrom : ℤ → ℤ → Type 0
 IsFrom date other = (other ≡ date) ⊎ (int_cmp date other ≡ Less)
 
-from-later : (date next other : ℤ) → int_cmp date next ≡ Less → IsFrom next other → int_cmp date other ≡ Less
+pub from-later : (date next other : ℤ) → int_cmp date next ≡ Less → IsFrom next other → int_cmp date other ≡ Less
 from-later date next other less (inl same) = rw same less
 from-later date next other less (inr more) = int_cmp_total.trans date next other less more
 

@@ -3,6 +3,7 @@ pub mod Chronicle
 pub mod Frame
 pub mod History
 pub mod Items
+pub mod Laws
 pub mod Limit
 pub mod Plant
 pub mod Turns

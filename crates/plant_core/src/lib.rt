@@ -5,6 +5,7 @@ mod access;
 mod history;
 mod items;
 mod judge;
+pub mod laws;
 mod plant;
 mod prepared;
 mod refusal;
