@@ -185,9 +185,9 @@ passes_items limits by date rows now at kinds first others rolls left columns ev
     let few = under limits left (first ∷ others) free in
     record {
       accepted =
-        all_well (are_even (length kinds) (first ∷ others)) (is_past_next_day date now) (is_beyond limits (cond (is_next_day date now) 0 rows) (first ∷ others)) (wrong_from 0 kinds (first ∷ others)) (refuses r.Length) (refuses r.MoreThanOneDay) (refuses r.Limit)
-        (accepts (roll_due (is_next_day date now) by date ++ e.Upd by at (columns_of (first ∷ others)) ∷ [])) even near free' right
-        ∙ ap₂ (λ b cs. accepts (roll_due b by date ++ e.Upd by at cs ∷ [])) (sym is) (sym made);
+          all_well (are_even (length kinds) (first ∷ others)) (is_past_next_day date now) (is_beyond limits (cond (is_next_day date now) 0 rows) (first ∷ others)) (wrong_from 0 kinds (first ∷ others)) (refuses r.Length) (refuses r.MoreThanOneDay) (refuses r.Limit)
+          (accepts (roll_due (is_next_day date now) by date ++ e.Upd by at (columns_of (first ∷ others)) ∷ [])) even near free' right
+          ∙ ap₂ (λ b cs. accepts (roll_due b by date ++ e.Upd by at cs ∷ [])) (sym is) (sym made);
       rolls_then = is;
       own = refl;
       update = (kinds, known, rw made are.columns);
@@ -201,8 +201,10 @@ rules_found schema limits by date rows name items given now at kinds shape resul
   where
     one : found.0 ≡ shape
     one = cc (found.1, known)
+
     same : ruling schema limits by date rows name items now ≡ items_judged limits by date rows now (at, kinds) (timed (time_of_day now) given)
     same = ap (λ o. table_judged name o (λ t. items_judged limits by date rows now t (timed (time_of_day now) items))) (found.2 ∙ ap (λ (x : Shape). Some (at, x.kinds)) one ∙ ap (λ ks. Some (at, ks)) (sym own)) ∙ ap (λ ts. items_judged limits by date rows now (at, kinds) (timed (time_of_day now) ts)) (sym same_items)
+
     go : (x : Result Judged UpdRefusal) → RulesItems limits by date rows now at kinds (timed (time_of_day now) given) x → Rules schema limits by date rows name items now x
     go (Ok judged) h =
         let there : slice_get (map (λ (s : Shape). s.kinds) schema) at ≡ Some kinds = slice_get-map (λ (s : Shape). s.kinds) schema at ∙ rw (known, own) refl in

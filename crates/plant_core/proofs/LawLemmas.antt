@@ -35,7 +35,7 @@ rows-from date n [] t up = tt
 rows-from date n (e.Upd by to columns ∷ es) t up =
     elim (to == t) as (λ b. AllByRecursion (λ (r : Row). IsFrom date r.date) (cond b (numbered date n (lines_of columns) ++ rows_from date (n + rows_of columns) es t) (rows_from date n es t))) [
       | true ↦ all-append (λ (r : Row). IsFrom date r.date) (numbered date n (lines_of columns)) (rows_from date (n + rows_of columns) es t)
-        (weaker (λ (r : Row). r.date ≡ date) (λ (r : Row). IsFrom date r.date) (λ r same. inl same) (numbered date n (lines_of columns)) (numbered-dated date n (lines_of columns))) (rows-from date (n + rows_of columns) es t up)
+          (weaker (λ (r : Row). r.date ≡ date) (λ (r : Row). IsFrom date r.date) (λ r same. inl same) (numbered date n (lines_of columns)) (numbered-dated date n (lines_of columns))) (rows-from date (n + rows_of columns) es t up)
       | false ↦ rows-from date n es t up
     ]
 rows-from date n (e.Roll by next ∷ es) t up =

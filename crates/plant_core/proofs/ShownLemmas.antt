@@ -96,8 +96,8 @@ view-dated kinds first [] current t h =
 view-dated kinds first (past ∷ pasts) current t h =
     rw (view-first kinds first past pasts current t h)
     (all-append (λ (r : Row). IsFrom first r.date) (settled past.day t) (view past.next (chronicle_of pasts current.updates) t)
-      (weaker (λ (r : Row). r.date ≡ past.day.date) (λ (r : Row). IsFrom first r.date) (λ r same. inl (same ∙ h.0)) (settled past.day t) (settled-dated past.day t h.2))
-      (weaker (λ (r : Row). IsFrom past.next r.date) (λ (r : Row). IsFrom first r.date) (λ r from. inr (from-later first past.next r.date h.3 from)) (view past.next (chronicle_of pasts current.updates) t) (view-dated kinds past.next pasts current t h.4)))
+    (weaker (λ (r : Row). r.date ≡ past.day.date) (λ (r : Row). IsFrom first r.date) (λ r same. inl (same ∙ h.0)) (settled past.day t) (settled-dated past.day t h.2))
+    (weaker (λ (r : Row). IsFrom past.next r.date) (λ (r : Row). IsFrom first r.date) (λ r from. inr (from-later first past.next r.date h.3 from)) (view past.next (chronicle_of pasts current.updates) t) (view-dated kinds past.next pasts current t h.4)))
 
 -- the dates, in order
 abbrev nexts : List Past → List ℤ

@@ -12,6 +12,8 @@ mod refusal;
 mod request;
 mod snapshot;
 mod solo;
+#[cfg(test)]
+mod tests;
 
 pub use access::{Access, TickTurn, UpdTurn};
 pub use plant::Plant;

@@ -13,6 +13,6 @@ invariant_of-self c =
 pub returns : goal.returns
 returns c =
     rw (← c.self.view_is) (
-      ap (history_of c.self.inside.first c.self.inside.ended.items) c.push.ensures
-      ∙ ap (λ (es : List Entry). record { first = c.self.inside.first; kinds = c.self.inside.current.day.kinds; entries = es; room = drop 1 c.self.inside.current.room }) (chronicle-push c.self.inside.ended.items c.self.inside.current.day.updates c.args.entry)
+    ap (history_of c.self.inside.first c.self.inside.ended.items) c.push.ensures
+    ∙ ap (λ (es : List Entry). record { first = c.self.inside.first; kinds = c.self.inside.current.day.kinds; entries = es; room = drop 1 c.self.inside.current.room }) (chronicle-push c.self.inside.ended.items c.self.inside.current.day.updates c.args.entry)
     )

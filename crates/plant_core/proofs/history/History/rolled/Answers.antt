@@ -17,8 +17,8 @@ invariant_of-result c =
     let items : c.in_ok-ended.ended.items ≡ c.self.inside.ended.items ++ past ∷ [] = c.in_ok-ended.ensures ∙ rw (c.deref.ensures.value, c.in_ok-day.ensures) refl in
     let there : date_of c.args.self.now.first c.args.self.now.entries ≡ c.self.inside.current.day.date = rw (← c.self.view_is) (date_of-chronicle _ _ _ _ c.self.invariant.follow) in
     rw (first, items) (
-      history-rolled _ _ past c.in_ok-current.current.day _ _ _ _ _ c.self.invariant (ap (λ (o : Opened). o.day.date) c.in_ok-current.ensures)
-      (ap (λ (o : Opened). o.day.kinds) c.in_ok-current.ensures ∙ sym (rw (← c.self.view_is) at c.requires.schema)) (ap (λ (o : Opened). o.day.updates) c.in_ok-current.ensures) (next ∙ ap (λ x. x +ℤ pos 1) (was ∙ c.date.ensures ∙ there)) c.max.ensures c.requires.by
+    history-rolled _ _ past c.in_ok-current.current.day _ _ _ _ _ c.self.invariant (ap (λ (o : Opened). o.day.date) c.in_ok-current.ensures)
+    (ap (λ (o : Opened). o.day.kinds) c.in_ok-current.ensures ∙ sym (rw (← c.self.view_is) at c.requires.schema)) (ap (λ (o : Opened). o.day.updates) c.in_ok-current.ensures) (next ∙ ap (λ x. x +ℤ pos 1) (was ∙ c.date.ensures ∙ there)) c.max.ensures c.requires.by
     )
 
 pub returns : goal.returns

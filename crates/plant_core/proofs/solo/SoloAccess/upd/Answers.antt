@@ -17,6 +17,6 @@ returns g c =
     elim c.match-log.branch [
       | in-Ok-log w ↦ rw (← c.self.view_is, w.result-is) (logs_alone c.self.inside.plant c.prepare.new.self c.log.new.self _ _ _ _ _ _ _ c.in-Ok.update _ _ made w.in-Ok-log.ensures.ok c.self.invariant.within)
       | in-Err-log w ↦
-        let same = w.in-Err-log.ensures.err ∙ made.after in
-        rw (← c.self.view_is, w.result-is) (looks_alone c.self.inside.plant c.log.new.self _ _ _ _ _ _ _ _ _ (ap (λ (p : PlantView). p.frame) same) (ap (λ (p : PlantView). p.entries) same) c.length-length.ensures tt)
+          let same = w.in-Err-log.ensures.err ∙ made.after in
+          rw (← c.self.view_is, w.result-is) (looks_alone c.self.inside.plant c.log.new.self _ _ _ _ _ _ _ _ _ (ap (λ (p : PlantView). p.frame) same) (ap (λ (p : PlantView). p.entries) same) c.length-length.ensures tt)
     ]
