@@ -1,0 +1,235 @@
+-- The dates of a plant.
+use Rattle.std.proofs.Common.{◌≡◌, ℕ, ℤ, zero, suc, ◌+◌, ◌-◌, ◌<◌, ◌≤◌, ◌∷◌, ◌++◌, [], List, length, take, drop, map, refl, sym, ap, ◌∙◌, subst, arith, append_assoc, max}
+use Rattle.std.specs.List.{AllByRecursion}
+use Rattle.std.specs.Ordering.{int_cmp}
+use Rattle.std.specs.declared.cmp.Ordering.TheVariants.{Less}
+use Rattle.std.proofs.lemmas.List.{length-append}
+use Rattle.q_values.specs.Contents.{Contents}
+use Rattle.q_values.specs.declared.kind.Kind.{Kind}
+use Rattle.day_rows.specs.Chronicle.{date_of, KeepsDate, DatesAscend}
+use Rattle.day_rows.specs.Day.{Day, IsDay, IsUpdate}
+use Rattle.day_rows.specs.declared.entry.Entry.{Entry}
+use Rattle.day_rows.specs.declared.entry.Entry.TheVariants as e
+use Rattle.plant_core.specs.Chronicle.{behind_roll_from, place_behind_roll, today, by_of, top_by, dates_of, update_count}
+use Rattle.std.proofs.Common.{◌^◌, pos}
+use Rattle.std.specs.Prelude.{◌+ℤ◌, ◌<ℤ◌}
+use Rattle.std.proofs.lemmas.Int.{ints}
+use Rattle.std.specs.Cmp.{int_cmp_is}
+use Rattle.std.proofs.lemmas.List.Sums.{sum_by-append}
+use Rattle.day_rows.specs.Day.{entry_rows, total_rows}
+use Rattle.plant_core.specs.History.{Past, chronicle_of, Follow, IsHistory}
+
+-- updates keep the date
+keeps : (tables : List (List Kind)) (es : List Entry) → AllByRecursion (IsUpdate tables) es → AllByRecursion KeepsDate es
+keeps tables [] all = tt
+keeps tables (e.Upd by table columns ∷ es) all = (tt, keeps tables es all.1)
+keeps tables (e.Roll by date ∷ es) all = absurd all.0
+keeps tables (e.Fault by ∷ es) all = absurd all.0
+
+pub day_keeps : (day : Day) → IsDay day → AllByRecursion KeepsDate day.updates
+day_keeps day is = keeps day.kinds day.updates is.updates
+
+pub counted_updates : (tables : List (List Kind)) (es : List Entry) → AllByRecursion (IsUpdate tables) es → update_count es ≡ length es
+counted_updates tables [] all = refl
+counted_updates tables (e.Upd by table columns ∷ es) all = let h = counted_updates tables es all.1 in omega arith
+counted_updates tables (e.Roll by date ∷ es) all = absurd all.0
+counted_updates tables (e.Fault by ∷ es) all = absurd all.0
+
+date_of-kept : (date : ℤ) (es : List Entry) → AllByRecursion KeepsDate es → date_of date es ≡ date
+date_of-kept date [] all = refl
+date_of-kept date (e.Upd by table columns ∷ es) all = date_of-kept date es all.1
+date_of-kept date (e.Roll by next ∷ es) all = absurd all.0
+date_of-kept date (e.Fault by ∷ es) all = date_of-kept date es all.1
+
+date_of-roll : (date next : ℤ) (by : ℕ) (es later : List Entry) → AllByRecursion KeepsDate es → date_of date (es ++ e.Roll by next ∷ later) ≡ date_of next later
+date_of-roll date next by [] later all = refl
+date_of-roll date next by (e.Upd own table columns ∷ es) later all = date_of-roll date next by es later all.1
+date_of-roll date next by (e.Roll own other ∷ es) later all = absurd all.0
+date_of-roll date next by (e.Fault own ∷ es) later all = date_of-roll date next by es later all.1
+
+pub dates_of-kept : (date : ℤ) (es : List Entry) → AllByRecursion KeepsDate es → dates_of date es ≡ date ∷ []
+dates_of-kept date [] all = refl
+dates_of-kept date (e.Upd by table columns ∷ es) all = dates_of-kept date es all.1
+dates_of-kept date (e.Roll by next ∷ es) all = absurd all.0
+dates_of-kept date (e.Fault by ∷ es) all = dates_of-kept date es all.1
+
+pub dates_of-roll : (date next : ℤ) (by : ℕ) (es later : List Entry) → AllByRecursion KeepsDate es → dates_of date (es ++ e.Roll by next ∷ later) ≡ date ∷ dates_of next later
+dates_of-roll date next by [] later all = refl
+dates_of-roll date next by (e.Upd own table columns ∷ es) later all = dates_of-roll date next by es later all.1
+dates_of-roll date next by (e.Roll own other ∷ es) later all = absurd all.0
+dates_of-roll date next by (e.Fault own ∷ es) later all = dates_of-roll date next by es later all.1
+
+ascend-kept : (date : ℤ) (es : List Entry) → AllByRecursion KeepsDate es → DatesAscend date es
+ascend-kept date [] all = tt
+ascend-kept date (e.Upd by table columns ∷ es) all = ascend-kept date es all.1
+ascend-kept date (e.Roll by next ∷ es) all = absurd all.0
+ascend-kept date (e.Fault by ∷ es) all = ascend-kept date es all.1
+
+ascend-roll : (date next : ℤ) (by : ℕ) (es later : List Entry) → AllByRecursion KeepsDate es → int_cmp date next ≡ Less → DatesAscend next later → DatesAscend date (es ++ e.Roll by next ∷ later)
+ascend-roll date next by [] later all less up = (less, up)
+ascend-roll date next by (e.Upd own table columns ∷ es) later all less up = ascend-roll date next by es later all.1 less up
+ascend-roll date next by (e.Roll own other ∷ es) later all less up = absurd all.0
+ascend-roll date next by (e.Fault own ∷ es) later all less up = ascend-roll date next by es later all.1 less up
+
+behind-kept : (place found : ℕ) (es : List Entry) → AllByRecursion KeepsDate es → behind_roll_from place found es ≡ found
+behind-kept place found [] all = refl
+behind-kept place found (e.Upd by table columns ∷ es) all = behind-kept (place + 1) found es all.1
+behind-kept place found (e.Roll by next ∷ es) all = absurd all.0
+behind-kept place found (e.Fault by ∷ es) all = behind-kept (place + 1) found es all.1
+
+behind-roll : (place found : ℕ) (next : ℤ) (by : ℕ) (es later : List Entry) → AllByRecursion KeepsDate es → behind_roll_from place found (es ++ e.Roll by next ∷ later) ≡ behind_roll_from (place + length es + 1) (place + length es + 1) later
+behind-roll place found next by [] later all = let same : place + 1 ≡ place + 0 + 1 = omega arith in ap (λ n. behind_roll_from n n later) same
+behind-roll place found next by (e.Upd own table columns ∷ es) later all =
+    let same : (place + 1) + length es + 1 ≡ place + suc (length es) + 1 = omega arith in
+    behind-roll (place + 1) found next by es later all.1 ∙ ap (λ n. behind_roll_from n n later) same
+behind-roll place found next by (e.Roll own other ∷ es) later all = absurd all.0
+behind-roll place found next by (e.Fault own ∷ es) later all =
+    let same : (place + 1) + length es + 1 ≡ place + suc (length es) + 1 = omega arith in
+    behind-roll (place + 1) found next by es later all.1 ∙ ap (λ n. behind_roll_from n n later) same
+
+-- the entries of the ended dates
+abbrev pub ended_length : List Past → ℕ
+ended_length [] = 0
+ended_length (past ∷ pasts) = length past.day.updates + 1 + ended_length pasts
+
+drop-front : {X : Type 0} (xs ys : List X) (n : ℕ) → drop (length xs + n) (xs ++ ys) ≡ drop n ys
+drop-front [] ys n = let same : 0 + n ≡ n = omega arith in rw same refl
+drop-front (x ∷ xs) ys n = let same : suc (length xs) + n ≡ suc (length xs + n) = omega arith in rw same (drop-front xs ys n)
+
+pub last_day : (kinds : List (List Kind)) (first : ℤ) (pasts : List Past) (current : Day) → Follow kinds first pasts current → IsDay current
+last_day kinds first [] current h = h.2
+last_day kinds first (past ∷ pasts) current h = last_day kinds past.next pasts current h.4
+
+pub chronicle-push : (pasts : List Past) (current : List Entry) (entry : Entry) → chronicle_of pasts (current ++ entry ∷ []) ≡ chronicle_of pasts current ++ entry ∷ []
+chronicle-push [] current entry = refl
+chronicle-push (past ∷ pasts) current entry =
+    ap (λ l. past.day.updates ++ e.Roll past.by past.next ∷ l) (chronicle-push pasts current entry) ∙ sym (append_assoc past.day.updates (e.Roll past.by past.next ∷ chronicle_of pasts current) (entry ∷ []))
+
+pub chronicle-roll : (pasts : List Past) (past : Past) → chronicle_of (pasts ++ past ∷ []) [] ≡ chronicle_of pasts past.day.updates ++ e.Roll past.by past.next ∷ []
+chronicle-roll [] past = refl
+chronicle-roll (other ∷ pasts) past =
+    ap (λ l. other.day.updates ++ e.Roll other.by other.next ∷ l) (chronicle-roll pasts past) ∙ sym (append_assoc other.day.updates (e.Roll other.by other.next ∷ chronicle_of pasts past.day.updates) (e.Roll past.by past.next ∷ []))
+
+pub date_of-chronicle : (kinds : List (List Kind)) (first : ℤ) (pasts : List Past) (current : Day) → Follow kinds first pasts current → date_of first (chronicle_of pasts current.updates) ≡ current.date
+date_of-chronicle kinds first [] current h = date_of-kept first current.updates (day_keeps current h.2) ∙ sym h.0
+date_of-chronicle kinds first (past ∷ pasts) current h = date_of-roll first past.next past.by past.day.updates (chronicle_of pasts current.updates) (day_keeps past.day h.2) ∙ date_of-chronicle kinds past.next pasts current h.4
+
+pub dates_of-chronicle : (kinds : List (List Kind)) (first : ℤ) (pasts : List Past) (current : Day) → Follow kinds first pasts current → dates_of first (chronicle_of pasts current.updates) ≡ first ∷ map (λ past. past.next) pasts
+dates_of-chronicle kinds first [] current h = dates_of-kept first current.updates (day_keeps current h.2)
+dates_of-chronicle kinds first (past ∷ pasts) current h =
+    dates_of-roll first past.next past.by past.day.updates (chronicle_of pasts current.updates) (day_keeps past.day h.2) ∙ ap (λ l. first ∷ l) (dates_of-chronicle kinds past.next pasts current h.4)
+
+pub ascend-chronicle : (kinds : List (List Kind)) (first : ℤ) (pasts : List Past) (current : Day) → Follow kinds first pasts current → DatesAscend first (chronicle_of pasts current.updates)
+ascend-chronicle kinds first [] current h = ascend-kept first current.updates (day_keeps current h.2)
+ascend-chronicle kinds first (past ∷ pasts) current h = ascend-roll first past.next past.by past.day.updates (chronicle_of pasts current.updates) (day_keeps past.day h.2) h.3 (ascend-chronicle kinds past.next pasts current h.4)
+
+behind-chronicle_from : (place : ℕ) (kinds : List (List Kind)) (first : ℤ) (pasts : List Past) (current : Day) → Follow kinds first pasts current → behind_roll_from place place (chronicle_of pasts current.updates) ≡ place + ended_length pasts
+behind-chronicle_from place kinds first [] current h = behind-kept place place current.updates (day_keeps current h.2) ∙ (let same : place ≡ place + 0 = omega arith in same)
+behind-chronicle_from place kinds first (past ∷ pasts) current h =
+    let same : (place + length past.day.updates + 1) + ended_length pasts ≡ place + (length past.day.updates + 1 + ended_length pasts) = omega arith in
+    behind-roll place place past.next past.by past.day.updates (chronicle_of pasts current.updates) (day_keeps past.day h.2) ∙ behind-chronicle_from (place + length past.day.updates + 1) kinds past.next pasts current h.4 ∙ same
+
+pub behind-chronicle : (kinds : List (List Kind)) (first : ℤ) (pasts : List Past) (current : Day) → Follow kinds first pasts current → place_behind_roll (chronicle_of pasts current.updates) ≡ ended_length pasts
+behind-chronicle kinds first pasts current h = behind-chronicle_from 0 kinds first pasts current h ∙ (let same : 0 + ended_length pasts ≡ ended_length pasts = omega arith in same)
+
+drop-chronicle : (pasts : List Past) (current : List Entry) → drop (ended_length pasts) (chronicle_of pasts current) ≡ current
+drop-chronicle [] current = refl
+drop-chronicle (past ∷ pasts) current =
+    let same : length past.day.updates + 1 + ended_length pasts ≡ length past.day.updates + suc (ended_length pasts) = omega arith in
+    rw same (drop-front past.day.updates (e.Roll past.by past.next ∷ chronicle_of pasts current) (suc (ended_length pasts)) ∙ drop-chronicle pasts current)
+
+pub today-chronicle : (kinds : List (List Kind)) (first : ℤ) (pasts : List Past) (current : Day) → Follow kinds first pasts current → today (chronicle_of pasts current.updates) ≡ current.updates
+today-chronicle kinds first pasts current h = ap (λ n. drop n (chronicle_of pasts current.updates)) (behind-chronicle kinds first pasts current h) ∙ drop-chronicle pasts current.updates
+
+pub length-chronicle : (pasts : List Past) (current : List Entry) → length (chronicle_of pasts current) ≡ ended_length pasts + length current
+length-chronicle [] current = omega arith
+length-chronicle (past ∷ pasts) current =
+    let h = length-chronicle pasts current in
+    rw (length-append past.day.updates (e.Roll past.by past.next ∷ chronicle_of pasts current)) (omega arith)
+
+pub top_by-push : (es : List Entry) (entry : Entry) → top_by (es ++ entry ∷ []) ≡ max (top_by es) (by_of entry)
+top_by-push [] entry = omega arith
+top_by-push (x ∷ es) entry = let h = top_by-push es entry in omega arith
+
+-- the open day with one update more, or another open day
+pub follow-current : (kinds : List (List Kind)) (first : ℤ) (pasts : List Past) (current other : Day) → other.date ≡ current.date → other.kinds ≡ current.kinds → IsDay other → Follow kinds first pasts current → Follow kinds first pasts other
+follow-current kinds first [] current other date same is h = (date ∙ h.0, same ∙ h.1, is)
+follow-current kinds first (past ∷ pasts) current other date same is h = (h.0, h.1, h.2, h.3, follow-current kinds past.next pasts current other date same is h.4)
+
+-- the open day has ended
+pub follow-ended : (kinds : List (List Kind)) (first : ℤ) (pasts : List Past) (past : Past) (current : Day) → Follow kinds first pasts past.day → current.date ≡ past.next → current.kinds ≡ kinds → IsDay current → int_cmp past.day.date past.next ≡ Less → Follow kinds first (pasts ++ past ∷ []) current
+follow-ended kinds first [] past current h date same is less = (h.0, h.1, h.2, subst (λ d. int_cmp d past.next ≡ Less) h.0 less, (date, same, is))
+follow-ended kinds first (other ∷ pasts) past current h date same is less = (h.0, h.1, h.2, h.3, follow-ended kinds other.next pasts past current h.4 date same is less)
+
+-- one update more
+pub history-pushed : (first : ℤ) (pasts : List Past) (current other : Day) (entry : Entry) (count at rows top after more : ℕ) → IsHistory first pasts current count at rows top → other ≡ record current { updates = current.updates ++ entry ∷ [] } → IsDay other
+    → after ≡ max top (by_of entry) → more ≡ entry_rows entry → by_of entry + 1 < 2 ^ 64 → IsHistory first pasts other (count + 1) at (rows + more) after
+history-pushed first pasts current other entry count at rows top after more h grown is after_is more_is few =
+    let updates : other.updates ≡ current.updates ++ entry ∷ [] = ap (λ (d : Day). d.updates) grown in
+    let kinds : other.kinds ≡ current.kinds = ap (λ (d : Day). d.kinds) grown in
+    let follow = follow-current current.kinds first pasts current other (ap (λ (d : Day). d.date) grown) kinds is h.follow in
+    let whole : chronicle_of pasts other.updates ≡ chronicle_of pasts current.updates ++ entry ∷ [] = ap (chronicle_of pasts) updates ∙ chronicle-push pasts current.updates entry in
+    record {
+      follow = subst (λ ks. Follow ks first pasts other) (sym kinds) follow;
+      count_is = omega (arith, h.count_is, ap length whole, length-append (chronicle_of pasts current.updates) (entry ∷ []));
+      opened_is = h.opened_is ∙ behind-chronicle current.kinds first pasts current h.follow ∙ sym (behind-chronicle current.kinds first pasts other follow);
+      rows_is = let joined = sum_by-append entry_rows current.updates (entry ∷ []) in omega (arith, h.rows_is, ap total_rows updates, joined, more_is);
+      top_is = after_is ∙ ap (λ n. max n (by_of entry)) h.top_is ∙ sym (ap top_by whole ∙ top_by-push (chronicle_of pasts current.updates) entry);
+      few = omega (arith, after_is, h.few, few);
+    }
+
+next_later : (x : ℤ) → int_cmp x (x +ℤ pos 1) ≡ Less
+next_later x = let less : x <ℤ (x +ℤ pos 1) = omega (arith, ints) in sym (int_cmp_is x (x +ℤ pos 1) Less less)
+
+-- a day of the same tables, without updates
+begun_day : (day other : Day) → IsDay day → other.kinds ≡ day.kinds → other.updates ≡ [] → IsDay other
+begun_day day other is kinds none = record {
+  few = rw kinds is.few;
+  tables = rw kinds is.tables;
+  updates = rw none tt;
+  bounded = let empty : total_rows other.updates ≡ 0 = ap total_rows none in omega (arith, empty);
+}
+
+-- the open date has ended, and the next is open
+pub history-rolled : (first : ℤ) (pasts : List Past) (past : Past) (other : Day) (count at rows top after : ℕ) → IsHistory first pasts past.day count at rows top → other.date ≡ past.next → other.kinds ≡ past.day.kinds → other.updates ≡ [] → past.next ≡ past.day.date +ℤ pos 1
+    → after ≡ max top past.by → past.by + 1 < 2 ^ 64 → IsHistory first (pasts ++ past ∷ []) other (count + 1) (count + 1) 0 after
+history-rolled first pasts past other count at rows top after h date kinds none next after_is few =
+    let own = last_day past.day.kinds first pasts past.day h.follow in
+    let less : int_cmp past.day.date past.next ≡ Less = rw next (next_later past.day.date) in
+    let follow = follow-ended past.day.kinds first pasts past other h.follow date kinds (begun_day past.day other own kinds none) less in
+    let whole : chronicle_of (pasts ++ past ∷ []) other.updates ≡ chronicle_of pasts past.day.updates ++ e.Roll past.by past.next ∷ [] = ap (chronicle_of (pasts ++ past ∷ [])) none ∙ chronicle-roll pasts past in
+    let size : count + 1 ≡ length (chronicle_of (pasts ++ past ∷ []) other.updates) = omega (arith, h.count_is, ap length whole, length-append (chronicle_of pasts past.day.updates) (e.Roll past.by past.next ∷ [])) in
+    let empty : length other.updates ≡ 0 = ap length none in
+    record {
+      follow = subst (λ ks. Follow ks first (pasts ++ past ∷ []) other) (sym kinds) follow;
+      count_is = size;
+      opened_is = let behind = behind-chronicle past.day.kinds first (pasts ++ past ∷ []) other follow in omega (arith, size, behind, length-chronicle (pasts ++ past ∷ []) other.updates, empty);
+      rows_is = sym (ap total_rows none);
+      top_is = after_is ∙ ap (λ n. max n past.by) h.top_is ∙ sym (ap top_by whole ∙ top_by-push (chronicle_of pasts past.day.updates) (e.Roll past.by past.next));
+      few = omega (arith, after_is, h.few, few);
+    }
+
+-- days of one date, of the same tables, with the same updates
+pub same_day : (some other : Day) → some.date ≡ other.date → some.kinds ≡ other.kinds → some.updates ≡ other.updates → some ≡ other
+same_day some other date kinds updates = λ i. record { date = date i; kinds = kinds i; updates = updates i }
+
+-- the updates of the open date are what stands behind the last roll
+pub record IsToday (entries : List Entry) (count at : ℕ) : Type 0 where
+  pub below : at ≤ count
+  pub updates : count - at ≡ update_count (today entries)
+
+pub today_counted : (first : ℤ) (pasts : List Past) (current : Day) (count at rows top : ℕ) → IsHistory first pasts current count at rows top → IsToday (chronicle_of pasts current.updates) count at
+today_counted first pasts current count at rows top h =
+    let behind = behind-chronicle current.kinds first pasts current h.follow in
+    let size = length-chronicle pasts current.updates in
+    let all = counted_updates current.kinds current.updates (last_day current.kinds first pasts current h.follow).updates in
+    let same = ap update_count (today-chronicle current.kinds first pasts current h.follow) in
+    record {
+      below = omega (arith, h.count_is, h.opened_is, behind, size);
+      updates = omega (arith, h.count_is, h.opened_is, behind, size, all, same);
+    }
+
+pub entries-rolled : (pasts after : List Past) (past : Past) (updates whole : List Entry) (date : ℤ) → after ≡ pasts ++ past ∷ [] → updates ≡ [] → chronicle_of pasts past.day.updates ≡ whole → past.next ≡ date
+    → chronicle_of after updates ≡ whole ++ e.Roll past.by date ∷ []
+entries-rolled pasts after past updates whole date after_is none was next =
+    (λ i. chronicle_of (after_is i) (none i)) ∙ chronicle-roll pasts past ∙ (λ i. was i ++ e.Roll past.by (next i) ∷ [])

@@ -1,0 +1,212 @@
+-- Judging an update.
+use Rattle.std.proofs.Common.{◌≡◌, ℕ, ℤ, zero, suc, ◌+◌, ◌<◌, ◌≤◌, ◌∷◌, ◌++◌, [], List, length, get_or, take, drop, map, refl, sym, ap, ap₂, ◌∙◌, subst, arith, true, false, Bool, cond, Some, None, Option, slice_get, replicate, All, eqb, Result, Ok, Err, ◌&&◌, ◌||◌}
+use Rattle.std.specs.Prelude.{nat_lt}
+use Rattle.std.specs.List.{list_all}
+use Rattle.std.specs.Str.{bytes_eq}
+use Rattle.std.proofs.lemmas.List.{drop_more, length-map}
+use Rattle.std.proofs.lemmas.List.Elements.{All-nil, All-cons}
+use Rattle.std.proofs.lemmas.Option.{get_or_from_slice_get, slice_get-map}
+use Rattle.std.proofs.lemmas.Bool.{eqb-true}
+use Rattle.std.proofs.lemmas.Bool.Decides.{nat_tests}
+use Rattle.q_values.specs.Contents.{Contents}
+use Rattle.q_values.specs.Table.{rows_of}
+use Rattle.q_values.specs.Tree.{Tree, atom, vector, list, dict, table, keyed, identity, wrong}
+use Rattle.q_values.specs.declared.limits.Limits.{Limits}
+use Rattle.day_rows.specs.Day.{AreColumns}
+use Rattle.day_rows.specs.declared.entry.Entry.TheVariants as e
+use Rattle.q_values.specs.Atom.{kind_of}
+use Rattle.q_values.specs.declared.kind.Kind.{Kind}
+use Rattle.q_values.specs.declared.kind.Kind.TheVariants as k
+use Rattle.day_rows.specs.declared.schema.Shape.{Shape}
+use Rattle.plant_core.specs.Items.{timed, type_number, is_of_kind, vector_length, fits_beside, wrong_from, are_even, row_count, spread, columns_of, atoms_of}
+use Rattle.plant_core.specs.Items.{has_long_symbol}
+use Rattle.plant_core.specs.Limit.{is_beyond}
+use Rattle.plant_core.specs.Chronicle.{time_of_day}
+use Rattle.plant_core.specs.Turns.{Passes, Rules, RulesItems, IsRefusal, FindsTable}
+use Rattle.plant_core.specs.declared.judge.Judged.{Judged}
+use Rattle.plant_core.specs.declared.refusal.UpdRefusal.{UpdRefusal}
+use Rattle.plant_core.specs.declared.refusal.UpdRefusal.TheVariants as r
+use Rattle.plant_core.specs.Verdict.{table_from, is_past_next_day, is_next_day, items_judged, ruling, Verdict, accepts, refuses, kinds_judged, table_judged, roll_due}
+
+-- the table at a place has the name, or the search goes on behind it
+table_step : (schema : List Shape) (i : ℕ) (shape : Shape) (name : List ℕ) → i < length schema → slice_get schema i ≡ Some shape
+    → table_from i name (drop i schema) ≡ cond (bytes_eq shape.table name) (Some (i, shape.kinds)) (table_from (i + 1) name (drop (suc i) schema))
+table_step schema i shape name i_in is = let one : i + 1 ≡ suc i = omega arith in rw (drop_more schema i shape i_in, get_or_from_slice_get schema i shape shape is, ← one) refl
+
+pub table_found : (schema : List Shape) (i : ℕ) (shape : Shape) (name : List ℕ) → i < length schema → slice_get schema i ≡ Some shape → bytes_eq shape.table name ≡ true → table_from 0 name schema ≡ table_from i name (drop i schema)
+    → (x : Shape) × (slice_get schema i ≡ Some x) × (table_from 0 name schema ≡ Some (i, x.kinds))
+table_found schema i shape name i_in is same before = (shape, is, before ∙ table_step schema i shape name i_in is ∙ rw same refl)
+
+pub table_more : (schema : List Shape) (i : ℕ) (shape : Shape) (name : List ℕ) → i < length schema → slice_get schema i ≡ Some shape → bytes_eq shape.table name ≡ false → table_from 0 name schema ≡ table_from i name (drop i schema)
+    → table_from 0 name schema ≡ table_from (i + 1) name (drop (i + 1) schema)
+table_more schema i shape name i_in is other before = let one : i + 1 ≡ suc i = omega arith in before ∙ table_step schema i shape name i_in is ∙ rw (other, one) refl
+
+of_number : ℕ → Kind
+of_number n =
+    cond (eqb n 1) k.Boolean (cond (eqb n 4) k.Byte (cond (eqb n 5) k.Short (cond (eqb n 6) k.Integer (cond (eqb n 7) k.Long (cond (eqb n 10) k.Character (cond (eqb n 11) k.Symbol
+    (cond (eqb n 12) k.Timestamp (cond (eqb n 13) k.Month (cond (eqb n 14) k.Date (cond (eqb n 16) k.Timespan (cond (eqb n 17) k.Minute (cond (eqb n 18) k.Second k.Time))))))))))))
+
+of_number-type_number : (kind : Kind) → of_number (type_number kind) ≡ kind
+unfolding of_number
+of_number-type_number k.Boolean = refl
+of_number-type_number k.Byte = refl
+of_number-type_number k.Short = refl
+of_number-type_number k.Integer = refl
+of_number-type_number k.Long = refl
+of_number-type_number k.Character = refl
+of_number-type_number k.Symbol = refl
+of_number-type_number k.Timestamp = refl
+of_number-type_number k.Month = refl
+of_number-type_number k.Date = refl
+of_number-type_number k.Timespan = refl
+of_number-type_number k.Minute = refl
+of_number-type_number k.Second = refl
+of_number-type_number k.Time = refl
+
+-- kinds of one type number are one kind
+same_kind : (some other : Kind) → eqb (type_number some) (type_number other) ≡ true → some ≡ other
+same_kind some other h = sym (of_number-type_number some) ∙ ap of_number (eqb-true (type_number some) (type_number other) h) ∙ of_number-type_number other
+
+right_kind : (n : ℕ) (kind : Kind) (item : Tree) → is_of_kind kind item ≡ true → (spread n item).kind ≡ kind
+right_kind n kind (atom x) h = same_kind (kind_of x) kind h
+right_kind n kind (vector v) h = same_kind v.kind kind h
+right_kind n kind (list x) h = absurd cc
+right_kind n kind (dict x y) h = absurd cc
+right_kind n kind (table x) h = absurd cc
+right_kind n kind (keyed x y) h = absurd cc
+right_kind n kind identity h = absurd cc
+right_kind n kind (wrong x) h = absurd cc
+
+abbrev rows_for : Option ℕ → ℕ
+rows_for None = 1
+rows_for (Some n) = n
+
+length-replicate : {X : Type 0} (n : ℕ) (x : X) → length (replicate n x) ≡ n
+length-replicate zero x = refl
+length-replicate (suc n) x = ap suc (length-replicate n x)
+
+right_length : (n : ℕ) (kind : Kind) (item : Tree) (first : Option ℕ) → is_of_kind kind item ≡ true → fits_beside first (vector_length item) ≡ true → n ≡ rows_for first → length (spread n item).atoms ≡ n
+right_length n kind (atom x) first h fits rows = length-replicate n x
+right_length n kind (vector v) None h fits rows = absurd cc
+right_length n kind (vector v) (Some m) h fits rows = eqb-true (length v.atoms) m fits ∙ sym rows
+right_length n kind (list x) first h fits rows = absurd cc
+right_length n kind (dict x y) first h fits rows = absurd cc
+right_length n kind (table x) first h fits rows = absurd cc
+right_length n kind (keyed x y) first h fits rows = absurd cc
+right_length n kind identity first h fits rows = absurd cc
+right_length n kind (wrong x) first h fits rows = absurd cc
+
+rows-first : (kind : Kind) (item : Tree) → is_of_kind kind item ≡ true → length (atoms_of item) ≡ rows_for (vector_length item)
+rows-first kind (atom x) h = refl
+rows-first kind (vector v) h = refl
+rows-first kind (list x) h = absurd cc
+rows-first kind (dict x y) h = absurd cc
+rows-first kind (table x) h = absurd cc
+rows-first kind (keyed x y) h = absurd cc
+rows-first kind identity h = absurd cc
+rows-first kind (wrong x) h = absurd cc
+
+-- the first item is of its column's kind, and the others are
+pub right_first : (p : ℕ) (kind : Kind) (kinds : List Kind) (item : Tree) (items : List Tree) → wrong_from p (kind ∷ kinds) (item ∷ items) ≡ None → (is_of_kind kind item ≡ true) × (wrong_from (p + 1) kinds items ≡ None)
+right_first p kind kinds item items = go (is_of_kind kind item)
+  where
+    go : (b : Bool) → cond b (wrong_from (p + 1) kinds items) (Some p) ≡ None → (b ≡ true) × (wrong_from (p + 1) kinds items ≡ None)
+    go true h = (refl, h)
+    go false h = absurd cc
+
+and_both : (a b : Bool) → (a && b) ≡ true → (a ≡ true) × (b ≡ true)
+and_both true b h = (refl, h)
+and_both false b h = absurd cc
+
+kinds-spread : (n p : ℕ) (kinds : List Kind) (items : List Tree) → wrong_from p kinds items ≡ None → length kinds ≡ length items → map (λ c. c.kind) (map (spread n) items) ≡ kinds
+kinds-spread n p [] [] right size = refl
+kinds-spread n p [] (item ∷ items) right size = absurd (omega arith)
+kinds-spread n p (kind ∷ kinds) [] right size = absurd (omega arith)
+kinds-spread n p (kind ∷ kinds) (item ∷ items) right size =
+    let both = right_first p kind kinds item items right in
+    rw (right_kind n kind item both.0, kinds-spread n (p + 1) kinds items both.1 (omega arith)) refl
+
+even-spread : (n p : ℕ) (first : Option ℕ) (kinds : List Kind) (items : List Tree) → wrong_from p kinds items ≡ None → length kinds ≡ length items → list_all (λ item. fits_beside first (vector_length item)) items ≡ true → n ≡ rows_for first
+    → All (λ (c : Contents). length c.atoms ≡ n) (map (spread n) items)
+even-spread n p first [] [] right size fits rows = All-nil (λ (c : Contents). length c.atoms ≡ n)
+even-spread n p first [] (item ∷ items) right size fits rows = absurd (omega arith)
+even-spread n p first (kind ∷ kinds) [] right size fits rows = absurd (omega arith)
+even-spread n p first (kind ∷ kinds) (item ∷ items) right size fits rows =
+    let both = right_first p kind kinds item items right in
+    let fit = and_both (fits_beside first (vector_length item)) (list_all (λ item. fits_beside first (vector_length item)) items) fits in
+    All-cons (λ (c : Contents). length c.atoms ≡ n) (spread n item) (map (spread n) items) (right_length n kind item first both.0 fit.0 rows) (even-spread n (p + 1) first kinds items both.1 (omega arith) fit.1 rows)
+
+fits-itself : (first : Option ℕ) → fits_beside first first ≡ true
+fits-itself None = refl
+fits-itself (Some n) = let same : eqb n n ≡ true = grind (arith, nat_tests) in same
+
+-- what items give that are even and of their columns' kinds
+record AreSpread (kinds : List Kind) (items : List Tree) : Type 0 where
+  columns : AreColumns kinds (columns_of items)
+  rows : rows_of (columns_of items) ≡ row_count items
+
+spread_items : (kinds : List Kind) (first : Tree) (others : List Tree) → are_even (length kinds) (first ∷ others) ≡ true → wrong_from 0 kinds (first ∷ others) ≡ None → AreSpread kinds (first ∷ others)
+spread_items [] first others even right = let h : eqb (length others + 1) 0 ≡ true = (and_both _ _ even).0 in absurd (omega (arith, eqb-true (length others + 1) 0 h))
+spread_items (kind ∷ kinds) first others even right =
+    let n = length (atoms_of first) in
+    let parts = and_both (eqb (length others + 1) (length (kind ∷ kinds))) (list_all (λ item. fits_beside (vector_length first) (vector_length item)) others) even in
+    let size : length kinds ≡ length others = omega (arith, eqb-true (length others + 1) (length (kind ∷ kinds)) parts.0) in
+    let both = right_first 0 kind kinds first others right in
+    let rows : n ≡ rows_for (vector_length first) = rows-first kind first both.0 in
+    let own : length (spread n first).atoms ≡ n = right_length n kind first (vector_length first) both.0 (fits-itself (vector_length first)) rows in
+    let rest = even-spread n 1 (vector_length first) kinds others both.1 size parts.1 rows in
+    let whole = All-cons (λ (c : Contents). length c.atoms ≡ n) (spread n first) (map (spread n) others) own rest in
+    record {
+      columns = record {
+        of_kinds = kinds-spread n 0 (kind ∷ kinds) (first ∷ others) right (omega arith);
+        even = subst (λ m. All (λ (c : Contents). length c.atoms ≡ m) (map (spread n) (first ∷ others))) (sym own) whole;
+      };
+      rows = own;
+    }
+
+under : (limits : Limits) (rows : ℕ) (items : List Tree) → is_beyond limits rows items ≡ false → rows + row_count items ≤ limits.day_rows
+under limits rows items h = go (has_long_symbol limits.symbol items) h
+  where
+    go : (b : Bool) → (b || nat_lt limits.day_rows (rows + row_count items)) ≡ false → rows + row_count items ≤ limits.day_rows
+    go true none = absurd cc
+    go false none = grind (arith, nat_tests)
+
+-- where no test refuses
+all_well : (a b c : Bool) (w : Option ℕ) (x y z v : Verdict) → a ≡ true → b ≡ false → c ≡ false → w ≡ None → cond a (kinds_judged w (cond b y (cond c z v))) x ≡ v
+all_well a b c w x y z v ea eb ec ew = rw (ea, ew, eb, ec) refl
+
+pub passes_items : (limits : Limits) (by : ℕ) (date : ℤ) (rows : ℕ) (now : ℤ) (at : ℕ) (kinds : List Kind) (first : Tree) (others : List Tree) (rolls : Bool) (left : ℕ) (columns : List Contents)
+    → are_even (length kinds) (first ∷ others) ≡ true → wrong_from 0 kinds (first ∷ others) ≡ None → is_past_next_day date now ≡ false → rolls ≡ is_next_day date now → left ≡ cond rolls 0 rows → is_beyond limits left (first ∷ others) ≡ false → columns ≡ columns_of (first ∷ others)
+    → (tables : List (List Kind)) → slice_get tables at ≡ Some kinds
+    → Passes limits by date rows now tables (items_judged limits by date rows now (at, kinds) (first ∷ others)) (record { rolls = rolls; update = e.Upd by at columns })
+passes_items limits by date rows now at kinds first others rolls left columns even right near is left_is free made tables known =
+    let are = spread_items kinds first others even right in
+    let free' : is_beyond limits (cond (is_next_day date now) 0 rows) (first ∷ others) ≡ false = rw (left_is, is) at free in
+    let few = under limits left (first ∷ others) free in
+    record {
+      accepted =
+          all_well (are_even (length kinds) (first ∷ others)) (is_past_next_day date now) (is_beyond limits (cond (is_next_day date now) 0 rows) (first ∷ others)) (wrong_from 0 kinds (first ∷ others)) (refuses r.Length) (refuses r.MoreThanOneDay) (refuses r.Limit)
+          (accepts (roll_due (is_next_day date now) by date ++ e.Upd by at (columns_of (first ∷ others)) ∷ [])) even near free' right
+          ∙ ap₂ (λ b cs. accepts (roll_due b by date ++ e.Upd by at cs ∷ [])) (sym is) (sym made);
+      rolls_then = is;
+      own = refl;
+      update = (kinds, known, rw made are.columns);
+      bounded = rw (← left_is, made, are.rows) few;
+    }
+
+-- what becomes of the items of a table that is found
+pub rules_found : (schema : List Shape) (limits : Limits) (by : ℕ) (date : ℤ) (rows : ℕ) (name : List ℕ) (items given : List Tree) (now : ℤ) (at : ℕ) (kinds : List Kind) (shape : Shape) (result : Result Judged UpdRefusal)
+    → slice_get schema at ≡ Some shape → FindsTable schema name (Some at) → kinds ≡ shape.kinds → given ≡ items → RulesItems limits by date rows now at kinds (timed (time_of_day now) given) result → Rules schema limits by date rows name items now result
+rules_found schema limits by date rows name items given now at kinds shape result known found own same_items = go result
+  where
+    one : found.0 ≡ shape
+    one = cc (found.1, known)
+
+    same : ruling schema limits by date rows name items now ≡ items_judged limits by date rows now (at, kinds) (timed (time_of_day now) given)
+    same = ap (λ o. table_judged name o (λ t. items_judged limits by date rows now t (timed (time_of_day now) items))) (found.2 ∙ ap (λ (x : Shape). Some (at, x.kinds)) one ∙ ap (λ ks. Some (at, ks)) (sym own)) ∙ ap (λ ts. items_judged limits by date rows now (at, kinds) (timed (time_of_day now) ts)) (sym same_items)
+
+    go : (x : Result Judged UpdRefusal) → RulesItems limits by date rows now at kinds (timed (time_of_day now) given) x → Rules schema limits by date rows name items now x
+    go (Ok judged) h =
+        let there : slice_get (map (λ (s : Shape). s.kinds) schema) at ≡ Some kinds = slice_get-map (λ (s : Shape). s.kinds) schema at ∙ rw (known, own) refl in
+        subst (λ v. Passes limits by date rows now (map (λ (s : Shape). s.kinds) schema) v judged) (sym same) (h (map (λ (s : Shape). s.kinds) schema) there)
+    go (Err why) h = subst (λ v. IsRefusal v why) (sym same) h

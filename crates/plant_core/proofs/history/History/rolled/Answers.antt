@@ -1,0 +1,37 @@
+use Rattle.std.proofs.Common.{ap, ◌≡◌, ◌∙◌, ◌++◌, ◌∷◌, [], sym, refl, ℤ, pos, w32, to_z, of_z, rules}
+use Rattle.std.specs.Prelude.{◌+ℤ◌}
+use Rattle.day_rows.specs.Chronicle.{date_of}
+use Rattle.day_rows.specs.Day.{Opened}
+use Rattle.plant_core.specs.History.{Past}
+use Rattle.plant_core.proofs.HistoryLemmas.{history-rolled, entries-rolled, date_of-chronicle}
+use Rattle.plant_core.proofs.history.History.rolled.Goals as goal
+
+pub invariant_of-result : goal.invariant_of-result
+invariant_of-result c =
+    let first : to_z w32 (of_z w32 c.self.inside.first) ≡ c.self.inside.first = search rules in
+    let n : ℤ = to_z w32 (of_z w32 c.next_date-next.result) in
+    let same : n ≡ c.next_date-next.result = search rules in
+    let was : to_z w32 (of_z w32 c.date.result) ≡ c.date.result = search rules in
+    let next = same ∙ c.next_date-next.ensures in
+    let past : Past = record { day = c.self.inside.current.day; by = c.args.by; next = n } in
+    let items : c.in_ok-ended.ended.items ≡ c.self.inside.ended.items ++ past ∷ [] = c.in_ok-ended.ensures ∙ rw (c.deref.ensures.value, c.in_ok-day.ensures) refl in
+    let there : date_of c.args.self.now.first c.args.self.now.entries ≡ c.self.inside.current.day.date = rw (← c.self.view_is) (date_of-chronicle _ _ _ _ c.self.invariant.follow) in
+    rw (first, items) (
+    history-rolled _ _ past c.in_ok-current.current.day _ _ _ _ _ c.self.invariant (ap (λ (o : Opened). o.day.date) c.in_ok-current.ensures)
+    (ap (λ (o : Opened). o.day.kinds) c.in_ok-current.ensures ∙ sym (rw (← c.self.view_is) at c.requires.schema)) (ap (λ (o : Opened). o.day.updates) c.in_ok-current.ensures) (next ∙ ap (λ x. x +ℤ pos 1) (was ∙ c.date.ensures ∙ there)) c.max.ensures c.requires.by
+    )
+
+pub returns : goal.returns
+returns c =
+    let first : to_z w32 (of_z w32 c.self.inside.first) ≡ c.self.inside.first = search rules in
+    let n : ℤ = to_z w32 (of_z w32 c.next_date-next.result) in
+    let same : n ≡ c.next_date-next.result = search rules in
+    let was : to_z w32 (of_z w32 c.date.result) ≡ c.date.result = search rules in
+    let next = same ∙ c.next_date-next.ensures in
+    let past : Past = record { day = c.self.inside.current.day; by = c.args.by; next = n } in
+    let items : c.in_ok-ended.ended.items ≡ c.self.inside.ended.items ++ past ∷ [] = c.in_ok-ended.ensures ∙ rw (c.deref.ensures.value, c.in_ok-day.ensures) refl in
+    let firsts = first ∙ ap (λ h. h.first) c.self.view_is in
+    let kinds = ap (λ (o : Opened). o.day.kinds) c.in_ok-current.ensures ∙ sym c.requires.schema in
+    let entries = entries-rolled _ _ past _ _ _ items (ap (λ (o : Opened). o.day.updates) c.in_ok-current.ensures) (ap (λ h. h.entries) c.self.view_is) (next ∙ ap (λ x. x +ℤ pos 1) (was ∙ c.date.ensures)) in
+    let room = ap (λ (o : Opened). o.room) c.in_ok-current.ensures in
+    λ i. record { first = firsts i; kinds = kinds i; entries = entries i; room = room i }

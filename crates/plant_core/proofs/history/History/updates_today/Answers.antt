@@ -1,0 +1,8 @@
+use Rattle.plant_core.proofs.HistoryLemmas.{today_counted}
+use Rattle.plant_core.proofs.history.History.updates_today.Goals as goal
+
+pub overflow_sub-result : goal.overflow_sub-result
+overflow_sub-result c = (today_counted _ _ _ _ _ _ _ c.self.invariant).below
+
+pub returns : goal.returns
+returns c = rw (← c.self.view_is) (today_counted _ _ _ _ _ _ _ c.self.invariant).updates

@@ -1,0 +1,122 @@
+-- What an access shows of the plant, and what its calls change.
+use Rattle.std.specs.Prelude.{◌≡◌, ℕ, ℤ, ◌+◌, ◌<◌, ◌≤◌, ◌^◌, Bool, true, false, List, [], ◌∷◌, ◌++◌, length, min, drop, Option, Result, Ok, Err}
+use Rattle.q_values.specs.Tree.{Tree, trees}
+use Rattle.q_values.specs.declared.refusal.NoMemory.{NoMemory}
+use Rattle.day_rows.specs.Chronicle.{date_of}
+use Rattle.day_rows.specs.declared.entry.Entry.{Entry}
+use Rattle.plant_core.specs.Frame.{Frame}
+use Rattle.plant_core.specs.Plant.{PlantView, SnapshotView, next_roll, roll_place}
+use Rattle.plant_core.specs.Turns.{IsRefusal}
+use Rattle.plant_core.specs.Verdict.{accepts, is_next_day, verdict}
+use Rattle.plant_core.specs.declared.access.TickTurn.{TickTurn}
+use Rattle.plant_core.specs.declared.access.TickTurn.TheVariants as t
+use Rattle.plant_core.specs.declared.access.UpdTurn.{UpdTurn}
+use Rattle.plant_core.specs.declared.access.UpdTurn.TheVariants.{Logged, Refused}
+use Rattle.plant_core.specs.declared.refusal.UpdRefusal.{UpdRefusal}
+use Rattle.plant_core.specs.declared.request.UpdRequest.{UpdRequest}
+
+-- what an access shows
+pub record AccessView : Type 0 where
+  -- the number of its pass
+  pub by : ℕ
+  pub frame : Frame
+  -- whether nobody else makes entries
+  pub alone : Bool
+  -- the chronicle as far as it has seen it, and the entries of it that it made
+  pub seen : List Entry
+  pub mine : List Entry
+  -- how often a snapshot was asked for, and a tick
+  pub snapshots : ℕ
+  pub ticks : ℕ
+
+-- a count that rose once: it stands still at its type's end
+abbrev pub next_count : ℕ → ℕ
+next_count count = min (count + 1) 18446744073709551615
+
+-- what the access saw more before its own step: nothing, where it is alone
+pub record SeesMore (old : AccessView) (more : List Entry) : Type 0 where
+  pub alone : old.alone ≡ true → more ≡ []
+
+-- an update was logged: the verdict's entries stand at the end, a roll, if there is one, at its place, and last the update
+pub record Logs (old new : AccessView) (table : List ℕ) (items : List Tree) (now : ℤ) (rolled : Option ℕ) (place : ℕ) : Type 0 where
+  pub others : List Entry
+  pub saw : SeesMore old others
+  pub entries : List Entry
+  pub accepted : verdict old.frame old.by (old.seen ++ others) table items now ≡ accepts entries
+  pub rolled_is : rolled ≡ roll_place (length (old.seen ++ others)) entries
+  pub last : place + 1 ≡ length ((old.seen ++ others) ++ entries)
+  pub after : new ≡ record old { seen = (old.seen ++ others) ++ entries; mine = old.mine ++ entries }
+
+-- the access saw what the others made, up to this length, and made nothing; its update was refused
+pub record Looks (old new : AccessView) (table : List ℕ) (items : List Tree) (now : ℤ) (length_now : ℕ) (why : UpdRefusal) : Type 0 where
+  pub others : List Entry
+  pub saw : SeesMore old others
+  pub refused : IsRefusal (verdict old.frame old.by (old.seen ++ others) table items now) why
+  pub length : length_now ≡ length (old.seen ++ others)
+  pub after : new ≡ record old { seen = old.seen ++ others }
+
+-- what a call of `upd` changes and answers
+abbrev pub Updates : AccessView → AccessView → UpdRequest → ℤ → UpdTurn → Type 0
+Updates old new request now (Logged rolled place) = Logs old new request.table (trees request.items) now rolled place
+Updates old new request now (Refused length why) = Looks old new request.table (trees request.items) now length why
+
+-- the date of the moment isn't the one behind the open date: nothing was made
+pub record Waits (old new : AccessView) (now : ℤ) (length_now : ℕ) : Type 0 where
+  pub others : List Entry
+  pub saw : SeesMore old others
+  pub early : is_next_day (date_of old.frame.first (old.seen ++ others)) now ≡ false
+  pub length : length_now ≡ length (old.seen ++ others)
+  pub after : new ≡ record old { seen = old.seen ++ others; ticks = next_count old.ticks }
+
+-- the date of the moment is the one behind the open date: a roll to it was made, at this place
+pub record Rolls (old new : AccessView) (now : ℤ) (place : ℕ) : Type 0 where
+  pub others : List Entry
+  pub saw : SeesMore old others
+  pub due : is_next_day (date_of old.frame.first (old.seen ++ others)) now ≡ true
+  pub at_end : place ≡ length (old.seen ++ others)
+  pub after : new ≡ record old {
+    seen = (old.seen ++ others) ++ next_roll old.frame.first (old.seen ++ others) old.by ∷ [];
+    mine = old.mine ++ next_roll old.frame.first (old.seen ++ others) old.by ∷ [];
+    ticks = next_count old.ticks;
+  }
+
+-- a roll was due, and memory was wanting: nothing was made
+pub record Wants (old new : AccessView) (now : ℤ) : Type 0 where
+  pub others : List Entry
+  pub saw : SeesMore old others
+  pub due : is_next_day (date_of old.frame.first (old.seen ++ others)) now ≡ true
+  pub after : new ≡ record old { seen = old.seen ++ others; ticks = next_count old.ticks }
+
+-- what a call of `tick` changes and answers
+abbrev pub Ticks : AccessView → AccessView → ℤ → TickTurn → Type 0
+Ticks old new now (t.Quiet length) = Waits old new now length
+Ticks old new now (t.Rolled place) = Rolls old new now place
+Ticks old new now t.NoMemory = Wants old new now
+
+-- a snapshot was asked for; the access saw what the others made
+pub record Asks (old new : AccessView) : Type 0 where
+  pub others : List Entry
+  pub saw : SeesMore old others
+  pub after : new ≡ record old { seen = old.seen ++ others; snapshots = next_count old.snapshots }
+
+-- what a call of `snapshot` changes and answers
+abbrev pub Snaps : AccessView → AccessView → Result SnapshotView NoMemory → Type 0
+Snaps old new (Ok snapshot) = Asks old new × (snapshot ≡ record { frame = old.frame; entries = new.seen })
+Snaps old new (Err _) = Asks old new
+
+-- what a plant shows to the one pass that holds it since it had so many entries
+abbrev pub access_of : PlantView → ℕ → ℕ → ℕ → ℕ → AccessView
+access_of plant by began snapshots ticks = record {
+  by = by;
+  frame = plant.frame;
+  alone = true;
+  seen = plant.entries;
+  mine = drop began plant.entries;
+  snapshots = snapshots;
+  ticks = ticks;
+}
+
+-- the pass has a number of its own, and the plant had so many entries when it began
+pub record IsSolo (plant : PlantView) (by began : ℕ) : Type 0 where
+  pub few : by + 1 < 2 ^ 64
+  pub within : began ≤ length plant.entries

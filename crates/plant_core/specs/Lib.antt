@@ -1,0 +1,10 @@
+pub mod Access
+pub mod Chronicle
+pub mod Frame
+pub mod History
+pub mod Items
+pub mod Laws
+pub mod Limit
+pub mod Plant
+pub mod Turns
+pub mod Verdict

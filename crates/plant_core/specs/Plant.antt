@@ -1,0 +1,109 @@
+-- What a plant shows, and what its calls make.
+use Rattle.std.specs.Prelude.{◌≡◌, ◌<◌, ◌+◌, ◌^◌, ◌+ℤ◌, ◌<ℤ◌, ℕ, ℤ, pos, Bool, true, false, if◌then◌else◌, List, [], ◌∷◌, ◌++◌, length, map, Option, Some, None}
+use Rattle.q_values.specs.Limits.{AreLimits}
+use Rattle.q_values.specs.Tree.{Tree}
+use Rattle.q_values.specs.declared.kind.Kind.{Kind}
+use Rattle.q_values.specs.declared.limits.Limits.{Limits}
+use Rattle.day_rows.specs.Chronicle.{date_of}
+use Rattle.day_rows.specs.Day.{Opened, IsUpdate, opened_of}
+use Rattle.day_rows.specs.declared.entry.Entry.{Entry}
+use Rattle.day_rows.specs.declared.entry.Entry.TheVariants as e
+use Rattle.day_rows.specs.declared.schema.Shape.{Shape}
+use Rattle.plant_core.specs.Chronicle.{by_of}
+use Rattle.plant_core.specs.Frame.{Frame}
+use Rattle.plant_core.specs.History.{HistoryView, IsColumn}
+use Rattle.plant_core.specs.Verdict.{accepts, roll_due, verdict}
+
+-- a plant: what stays, the chronicle, and the update that room was made for
+pub record PlantView : Type 0 where
+  pub frame : Frame
+  pub entries : List Entry
+  pub room : List Entry
+
+-- an update that is prepared: the plant's frame and chronicle at its making, whether a roll is due before it, by whom, and
+-- its entry
+pub record PreparedView : Type 0 where
+  pub frame : Frame
+  pub entries : List Entry
+  pub rolls : Bool
+  pub by : ℕ
+  pub entry : Entry
+
+-- a roll that is prepared
+pub record PreparedRollView : Type 0 where
+  pub frame : Frame
+  pub entries : List Entry
+  pub by : ℕ
+
+-- a snapshot of a plant
+pub record SnapshotView : Type 0 where
+  pub frame : Frame
+  pub entries : List Entry
+
+-- the kinds of each table's columns
+abbrev pub kinds_of : List Shape → List (List Kind)
+kinds_of schema = map (λ shape. shape.kinds) schema
+
+-- the roll that is due before a prepared update
+abbrev pub due : PreparedView → List Entry
+due update = roll_due update.rolls update.by (date_of update.frame.first update.entries)
+
+-- the roll of a pass behind a chronicle: to the next date
+abbrev pub next_roll : ℤ → List Entry → ℕ → Entry
+next_roll first entries by = e.Roll by (date_of first entries +ℤ pos 1)
+
+-- the update of a request is prepared: the verdict's entries are a roll, where one is due, and this update
+pub record Prepares (old new : PlantView) (by : ℕ) (table : List ℕ) (items : List Tree) (now : ℤ) (update : PreparedView) : Type 0 where
+  pub accepted : verdict old.frame by old.entries table items now ≡ accepts (due update ++ update.entry ∷ [])
+  pub frame : update.frame ≡ old.frame
+  pub entries : update.entries ≡ old.entries
+  pub own : update.by ≡ by
+  pub early : update.rolls ≡ true → date_of old.frame.first old.entries <ℤ pos 106751
+  pub after : new ≡ record old { room = if update.rolls then old.room else update.entry ∷ [] }
+
+-- where the roll stands, if the entries from a place on begin with one
+abbrev pub roll_place : ℕ → List Entry → Option ℕ
+roll_place place [] = None
+roll_place place (e.Upd by table columns ∷ entries) = None
+roll_place place (e.Roll by date ∷ entries) = Some place
+roll_place place (e.Fault by ∷ entries) = None
+
+-- entries were added, a roll, if they begin with one, at its place, and the last of them at the other
+pub record Adds (old new : PlantView) (entries : List Entry) (rolled : Option ℕ) (place : ℕ) : Type 0 where
+  pub frame : new.frame ≡ old.frame
+  pub whole : new.entries ≡ old.entries ++ entries
+  pub rolled_is : rolled ≡ roll_place (length old.entries) entries
+  pub last : place + 1 ≡ length (old.entries ++ entries)
+
+-- a plant over its dates
+abbrev pub frame_of : List Shape → Limits → HistoryView → Frame
+frame_of schema limits history = record { schema = schema; first = history.first; limits = limits }
+
+abbrev pub plant_of : List Shape → Limits → HistoryView → PlantView
+plant_of schema limits history = record { frame = frame_of schema limits history; entries = history.entries; room = history.room }
+
+-- the dates are of the schema's tables
+pub record IsPlant (schema : List Shape) (limits : Limits) (history : HistoryView) : Type 0 where
+  pub limits_are : AreLimits limits
+  pub kinds_are : history.kinds ≡ kinds_of schema
+
+-- what a prepared update holds: its entry, and the next date with room for it where a roll is due
+pub record IsPrepared (of : PlantView) (by : ℕ) (entry : Entry) (fresh : Option Opened) : Type 0 where
+  pub few : length of.entries < 2 ^ 63
+  pub own : by_of entry ≡ by
+  pub by_few : by + 1 < 2 ^ 64
+  pub update : IsUpdate (kinds_of of.frame.schema) entry
+  pub fresh_is : (opened : Opened) → fresh ≡ Some opened → opened ≡ opened_of (date_of of.frame.first of.entries +ℤ pos 1) (kinds_of of.frame.schema) [] (entry ∷ [])
+
+-- what a prepared roll holds: the dates behind it
+pub record IsPreparedRoll (of : PlantView) (by : ℕ) (next : HistoryView) : Type 0 where
+  pub few : length of.entries < 2 ^ 63
+  pub next_is : next ≡ record { first = of.frame.first; kinds = kinds_of of.frame.schema; entries = of.entries ++ next_roll of.frame.first of.entries by ∷ []; room = [] }
+
+-- a table of the schema has a column of this number, and this kind
+abbrev pub HasColumn : List Shape → ℕ → ℕ → Kind → Type 0
+HasColumn schema = IsColumn (kinds_of schema)
+
+-- the dates of a snapshot are of the schema's tables
+pub record IsSnapshot (schema : List Shape) (history : HistoryView) : Type 0 where
+  pub kinds_are : history.kinds ≡ kinds_of schema

@@ -1,0 +1,187 @@
+//! What becomes of an update.
+ghost use Rattle.std.specs.Prelude.{◌≡◌, ◌<◌, ◌≤◌, ◌+◌, ℕ, [], ◌∷◌, length, map, Some, None, slice_get, MatchOption, IfOk};
+ghost use Rattle.q_values.specs.Tree.{tree, trees};
+ghost use Rattle.q_values.specs.Limits.{AreLimits};
+ghost use Rattle.day_rows.specs.declared.schema.Shape.{Shape};
+ghost use Rattle.day_rows.specs.Day.{AreTableKinds};
+ghost use Rattle.plant_core.specs.Chronicle.{time_of_day};
+ghost use Rattle.std.specs.Str.{bytes_eq};
+ghost use Rattle.plant_core.specs.Items.{timed};
+ghost use Rattle.plant_core.specs.Limit.{is_beyond};
+ghost use Rattle.plant_core.specs.Turns.{IsRefusal, Rules, RulesItems, FindsTable};
+ghost use Rattle.plant_core.specs.Verdict.{is_next_day, is_past_next_day, table_from, refuses};
+
+use crate::items::{
+    are_even, count_atoms, has_long_symbol, is_of_kind, spread_all, time_beside, vector_length,
+    wrong_column,
+};
+use crate::refusal::UpdRefusal;
+use crate::request::UpdRequest;
+use day_rows::{Entry, Kinds, Schema};
+use q_values::{Kind, Limits, Sym, Value};
+use std::alloc::Global;
+
+/// The nanoseconds of a day.
+const DAY: i64 = 86_400_000_000_000;
+
+/// What an update is judged by beside what it says.
+#[derive(Clone, Copy)]
+pub struct Standing {
+    /// The number of the pass that asks.
+    pub by: u64,
+    /// The open date.
+    pub date: i32,
+    /// The rows of the open date.
+    pub rows: u64,
+    /// The moment, in nanoseconds since 2000.01.01.
+    pub moment: i64,
+}
+
+/// An update that may be logged.
+#[derive(Drop)]
+pub struct Judged {
+    /// Whether the next date begins with it.
+    pub rolls: bool,
+    /// Its entry.
+    pub update: Entry,
+}
+
+/// Whether the moment lies in the day behind the date.
+pub fn is_next_day(date: &i32, now: &i64) -> bool
+    ensures { result ≡ is_next_day date.now now.now }
+{
+    now.div_euclid(DAY) == i64::from(*date) + 1
+}
+
+fn is_past_next_day(date: &i32, now: &i64) -> bool
+    ensures { result ≡ is_past_next_day date.now now.now }
+{
+    now.div_euclid(DAY) > i64::from(*date) + 1
+}
+
+fn is_beyond(limits: &Limits, rows: u64, first: &Value, others: &[Value]) -> bool
+    requires { AreLimits limits.now }
+    ensures { result ≡ is_beyond limits.now rows (tree first.now ∷ map tree others.now) }
+{
+    if has_long_symbol(limits.symbol as usize, first, others) {
+        return true;
+    }
+    let more = count_atoms(first) as u64;
+    rows > limits.day_rows || more > limits.day_rows - rows
+}
+
+// The update that items make, which begin with the time; or the first refusal.
+fn judge_items(
+    alloc: Global,
+    limits: &Limits,
+    standing: &Standing,
+    table: u32,
+    kinds: &[Kind],
+    first: &Value,
+    others: &[Value],
+) -> Result<Judged, UpdRefusal>
+    requires lawful { AreLimits limits.now }
+    requires few { length kinds.now ≤ 48 }
+    ensures { RulesItems limits.now standing.now.by standing.now.date standing.now.rows standing.now.moment
+        table kinds.now (tree first.now ∷ map tree others.now) result }
+{
+    if !are_even(kinds.len(), first, others) {
+        return Err(UpdRefusal::Length);
+    }
+    if let Some(column) = wrong_column(kinds, first, others) {
+        return Err(UpdRefusal::WrongType {
+            column: column as u32,
+        });
+    }
+    if is_past_next_day(&standing.date, &standing.moment) {
+        return Err(UpdRefusal::MoreThanOneDay);
+    }
+    let rolls = is_next_day(&standing.date, &standing.moment);
+    let rows = if rolls { 0 } else { standing.rows };
+    if is_beyond(limits, rows, first, others) {
+        return Err(UpdRefusal::Limit);
+    }
+    let columns = spread_all(alloc, count_atoms(first), first, others)?;
+    Ok(Judged {
+        rolls,
+        update: Entry::Upd {
+            by: standing.by,
+            table,
+            columns,
+        },
+    })
+}
+
+// The update that items make, which may want the time; or the first refusal.
+fn judge_timed(
+    alloc: Global,
+    limits: &Limits,
+    standing: &Standing,
+    table: u32,
+    kinds: &[Kind],
+    items: &[Value],
+) -> Result<Judged, UpdRefusal>
+    requires lawful { AreLimits limits.now }
+    requires few { length kinds.now ≤ 48 }
+    ensures { RulesItems limits.now standing.now.by standing.now.date standing.now.rows standing.now.moment
+        table kinds.now (timed (time_of_day standing.now.moment) (map tree items.now)) result }
+{
+    match items {
+        [] => Err(UpdRefusal::Length),
+        [first, others @ ..] => {
+            if is_of_kind(first, Kind::Timespan) {
+                return judge_items(alloc, limits, standing, table, kinds, first, others);
+            }
+            let time = standing.moment.rem_euclid(DAY);
+            let time = time_beside(alloc, time, vector_length(first))?;
+            judge_items(alloc, limits, standing, table, kinds, &time, items)
+        }
+    }
+}
+
+fn has_name(name: &Sym, other: &Sym) -> bool
+    ensures { result ≡ bytes_eq name.now other.now }
+{
+    name.bytes() == other.bytes()
+}
+
+// The place of the table of this name.
+fn table_of(schema: &Schema, name: &Sym) -> Option<usize>
+    ensures { FindsTable schema.now name.now result }
+{
+    for place in 0..schema.len() {
+        if has_name(&schema.at(place).table, name) {
+            return Some(place);
+        }
+    }
+    None
+}
+
+fn no_table(alloc: Global, name: &Sym) -> UpdRefusal
+    ensures { IsRefusal (refuses (UpdRefusal.NoTable name.now)) result }
+{
+    match Sym::copied(alloc, name.bytes()) {
+        Ok(name) => UpdRefusal::NoTable(name),
+        Err(_) => UpdRefusal::NoMemory,
+    }
+}
+
+/// The update that is asked for, as it may be logged; or the first refusal.
+pub fn judge(
+    alloc: Global,
+    schema: &Schema,
+    limits: &Limits,
+    standing: &Standing,
+    request: &UpdRequest,
+) -> Result<Judged, UpdRefusal>
+    requires { AreLimits limits.now }
+    ensures { Rules schema.now limits.now standing.now.by standing.now.date standing.now.rows
+        request.now.table (trees request.now.items) standing.now.moment result }
+{
+    let Some(place) = table_of(schema, &request.table) else {
+        return Err(no_table(alloc, &request.table));
+    };
+    let kinds = schema.at(place).kinds.as_slice();
+    let items = request.items.as_slice();
+    judge_timed(alloc, limits, standing, place as u32, kinds, items)
+}
