@@ -1,0 +1,5 @@
+pub mod Halves
+pub mod Images
+pub mod Layouts
+pub mod Moments
+pub mod Reading

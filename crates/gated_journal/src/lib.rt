@@ -1,0 +1,11 @@
+//! A journal of records on a disk: an append is all or nothing, at whatever moment the disk stops.
+#![tactic(auto)]
+
+mod journal;
+mod payload;
+mod state;
+
+
+pub use journal::Journal;
+pub use payload::Payload;
+pub use state::State;
