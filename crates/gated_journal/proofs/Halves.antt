@@ -28,3 +28,9 @@ module _ (file end : ℕ) (front : List ℕ) (sized : length front ≡ end) wher
     ajar_two old mid new result a changes =
         let stands = ajar_sync front end sized behind result (mid.now file) (new.now file) a.stands changes.changed in
         record { passes = passes_on old mid new file (HasAny front behind) a.passes (passes_one mid new file (Syncing result) (HasAny front behind) changes (ajar_images front end sized behind (new.now file) stands)); stands = stands }
+
+-- a sync by itself
+pub shut_one_sync : {T : Type 0} (front : List ℕ) (end file : ℕ) → length front ≡ end → (old new : DiskView) (result : Result T DiskFault) → Changes old new file (Syncing result) → IsShut (old.now file) front end → StaysShut old new file end front
+shut_one_sync front end file sized old new result changes s =
+    let stands = shut_sync front end sized result (old.now file) (new.now file) s changes.changed in
+    record { passes = passes_one old new file (Syncing result) (HasShut front) changes (shut_images front end sized (new.now file) stands); stands = stands }

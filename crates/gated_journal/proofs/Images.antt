@@ -112,7 +112,7 @@ module _ (front : List ℕ) (end : ℕ) (sized : length front ≡ end) where
             (after ∙ ap (take (length behind)) (after_of file.bytes a.gate a.rest a.bytes) ∙ take_at behind a.rest (length behind) refl);
         }
 
-    put_gate : (bytes : List ℕ) (gate new : ℕ) (rest : List ℕ) → bytes ≡ front ++ gate ∷ (behind ++ rest) → put bytes end (new ∷ []) ≡ front ++ new ∷ (behind ++ rest)
+    pub put_gate : (bytes : List ℕ) (gate new : ℕ) (rest : List ℕ) → bytes ≡ front ++ gate ∷ (behind ++ rest) → put bytes end (new ∷ []) ≡ front ++ new ∷ (behind ++ rest)
     put_gate bytes gate new rest is =
         ap (λ (l : List ℕ). put l end (new ∷ [])) is ∙ put_behind front (gate ∷ (behind ++ rest)) (new ∷ []) end sized ∙ append_assoc front (new ∷ []) (behind ++ rest)
 

@@ -1,3 +1,4 @@
+pub mod Appends
 pub mod Halves
 pub mod Images
 pub mod Layouts
