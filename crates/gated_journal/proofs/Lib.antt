@@ -4,3 +4,5 @@ pub mod Images
 pub mod Layouts
 pub mod Moments
 pub mod Reading
+pub mod Scans
+pub mod Spans

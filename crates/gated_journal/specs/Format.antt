@@ -64,6 +64,10 @@ pub record BreaksAt (file : List ℕ) (count at : ℕ) : Type 0 where
   pub counted : count ≡ length payloads
   pub place : at ≡ length (before_gate payloads)
 
+-- the file begins as a journal does, and has a gate
+abbrev pub HasHeader : List ℕ → Type 0
+HasHeader file = (take 8 file ≡ magic) × (9 ≤ length file)
+
 -- the file begins otherwise, or has no gate
 abbrev pub IsStrange : List ℕ → Type 0
 IsStrange file = (take 8 file ≢ magic) ⊎ (length file < 9)

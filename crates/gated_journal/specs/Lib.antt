@@ -1,4 +1,6 @@
 pub mod Format
 pub mod Journal
+pub mod Load
 pub mod Payload
+pub mod Records
 pub mod Steps

@@ -3,9 +3,13 @@
 
 mod journal;
 mod payload;
+mod records;
+mod refusal;
+mod scan;
 mod state;
-
 
 pub use journal::Journal;
 pub use payload::Payload;
+pub use records::Records;
+pub use refusal::JournalRefusal;
 pub use state::State;
