@@ -2,6 +2,7 @@ pub mod Appends
 pub mod Halves
 pub mod Images
 pub mod Layouts
+pub mod Loads
 pub mod Moments
 pub mod Reading
 pub mod Scans

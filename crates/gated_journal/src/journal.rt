@@ -2,11 +2,17 @@
 ghost use Rattle.std.specs.Prelude.{◌≡◌, ◌≢◌, ◌<◌, ◌≤◌, ◌+◌, ◌^◌, ◌↔◌, ◌++◌, [], ◌∷◌, List, Option, Some, None, ℕ, IsTrue, length, IfOk, OnOk, OnErr};
 ghost use Rattle.outside_api.specs.Disk.{Counts, IsWithin, Passes, put, kept_file};
 ghost use Rattle.gated_journal.specs.Steps.{KeepsShut, KeepsAjar};
+ghost use Rattle.gated_journal.specs.Format.{Reads, IsCorrupt};
+ghost use Rattle.gated_journal.specs.Load.{LoadCounts, IfCorrupt, KeepsImages};
 ghost use Rattle.gated_journal.specs.Journal.{Keeps, IsKept, MayRead, late_of, appended, mended, fresh_bytes};
 
 use crate::payload::Payload;
+use crate::records::Records;
+use crate::refusal::JournalRefusal;
+use crate::scan::scan;
 use crate::state::State;
 use outside_api::{Disk, DiskFault};
+use std::alloc::Global;
 use std::marker::Model;
 
 const OPEN_GATE: u8 = 0xa5;
@@ -58,6 +64,35 @@ impl Journal {
             end: 8,
             state: State::Clean,
         })
+    }
+
+    /// Reads the records of a journal, behind a sync, and gives them with the journal, which is clean. The file reads as
+    /// before. Time and memory go with the size of the file.
+    ///
+    /// The answer is `Corrupt` where the file begins otherwise than a journal or has fewer than nine bytes, with both
+    /// numbers 0, and where a gate is open and no whole record and further gate stand behind it, with the number of the
+    /// records before that gate and its place.
+    pub fn load<D: Disk>(alloc: Global, disk: &mut D, file: u64) -> Result<(Journal, Records), JournalRefusal>
+        ensures records { IfOk result (λ x. IsTrue (D.shown disk.old).tells → Reads ((D.shown disk.old).now file).bytes x.1) }
+        ensures keeps { IfOk result (λ x. Keeps (D.shown disk.new) x.0 x.1 None) }
+        ensures file { IfOk result (λ x. x.0.file ≡ file) }
+        ensures clean { IfOk result (λ x. x.0.state ≡ State.Clean) }
+        ensures corrupt { IfCorrupt result (λ records bytes. IsTrue (D.shown disk.old).tells
+            → IsCorrupt ((D.shown disk.old).now file).bytes records bytes) }
+        ensures synced { OnOk result (IsTrue (D.shown disk.old).tells
+            → (D.shown disk.new).now file ≡ kept_file ((D.shown disk.old).now file).bytes) }
+        ensures bytes { IsTrue (D.shown disk.old).tells → ((D.shown disk.new).now file).bytes ≡ ((D.shown disk.old).now file).bytes }
+        ensures any_moment { KeepsImages (D.shown disk.old) (D.shown disk.new) file }
+        ensures counts { LoadCounts (D.shown disk.old) (D.shown disk.new) result }
+    {
+        let bytes = read_whole(alloc, disk, file)?;
+        let (end, spans) = scan(alloc, bytes.as_slice())?;
+        let journal = Journal {
+            file,
+            end: end as u64,
+            state: State::Clean,
+        };
+        Ok((journal, Records::of(bytes, spans)))
     }
 
     /// Whether the last append or mend succeeded. Else the journal has to be mended before the next append.
@@ -134,6 +169,24 @@ impl Journal {
         self.state = State::Clean;
         Ok(())
     }
+}
+
+// The bytes of a file, behind a sync.
+fn read_whole<D: Disk>(alloc: Global, disk: &mut D, file: u64) -> Result<Vec<u8>, JournalRefusal>
+    ensures bytes { IfOk result (λ b. IsTrue (D.shown disk.old).tells → b.items ≡ ((D.shown disk.old).now file).bytes) }
+    ensures small { IfOk result (λ b. length b.items < 2 ^ 63) }
+    ensures synced { OnOk result (IsTrue (D.shown disk.old).tells
+        → (D.shown disk.new).now file ≡ kept_file ((D.shown disk.old).now file).bytes) }
+    ensures same { IsTrue (D.shown disk.old).tells → ((D.shown disk.new).now file).bytes ≡ ((D.shown disk.old).now file).bytes }
+    ensures any_moment { KeepsImages (D.shown disk.old) (D.shown disk.new) file }
+    ensures counts { LoadCounts (D.shown disk.old) (D.shown disk.new) result }
+    ensures no_corrupt { IfCorrupt result (λ _ _. ⊥) }
+{
+    disk.sync(file)?;
+    let size = disk.size(file)?;
+    let mut bytes = vec![in alloc; 0; size as usize]?;
+    disk.read(file, 0, bytes.as_mut_slice())?;
+    Ok(bytes)
 }
 
 // Writes behind the last gate, and syncs.
