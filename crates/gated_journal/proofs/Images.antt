@@ -8,6 +8,7 @@ use Rattle.gated_journal.specs.Format.{open_gate}
 use Rattle.gated_journal.specs.Journal.{IsShut, IsAjar, StartsFrom}
 use Rattle.gated_journal.specs.Steps.{HasShut, HasAny}
 use Rattle.gated_journal.proofs.Layouts.{put_behind}
+use Rattle.gated_journal.proofs.Moments.{All-append}
 
 -- an image agrees with reads in a stretch that no write since the last sync met
 pub stretch : (file : FileState) (image : List ℕ) (at n : ℕ) → IsImage file image → at + n ≤ file.least → at + n ≤ length file.bytes → ((k : ℕ) → at ≤ k → k < at + n → IsOutside k file.unsynced) → take n (drop at image) ≡ take n (drop at file.bytes)
@@ -25,6 +26,9 @@ stretch file image at n is long within outside =
 pub below_all : (k place : ℕ) (ranges : List (ℕ × ℕ)) → k < place → StartsFrom place ranges → IsOutside k ranges
 below_all k place [] less starts = tt
 below_all k place (range ∷ ranges) less starts = (inl (omega (arith, less, starts.0)), below_all k place ranges less starts.1)
+
+starts_push : (place at n : ℕ) (ranges : List (ℕ × ℕ)) → place ≤ at → StartsFrom place ranges → StartsFrom place (ranges ++ (at, n) ∷ [])
+starts_push place at n ranges le starts = All-append (λ (range : ℕ × ℕ). place ≤ range.0) ranges ((at, n) ∷ []) starts (le, tt)
 
 -- a list in three parts by its parts' bytes
 pub joined : (bytes front behind : List ℕ) (end : ℕ) → length front ≡ end → end < length bytes → take end bytes ≡ front → take (length behind) (drop (end + 1) bytes) ≡ behind → bytes ≡ front ++ get_or bytes end 0 ∷ (behind ++ drop (length behind) (drop (end + 1) bytes))
@@ -61,11 +65,11 @@ module _ (front : List ℕ) (end : ℕ) (sized : length front ≡ end) where
   pub shut_write : {T : Type 0} (more : List ℕ) (result : Result T DiskFault) (old new : FileState) → IsShut old front end → Writing (end + 1) more result old new → IsShut new front end
   shut_write more (Ok x) old new s w =
       subst (λ (f : FileState). IsShut f front end) (sym w)
-        (shut_by old (written old (end + 1) (length more) (put old.bytes (end + 1) more)) s (take_put old.bytes more (end + 1) (shut_long old s)) (omega arith) (omega arith, s.unsynced))
+        (shut_by old (written old (end + 1) (length more) (put old.bytes (end + 1) more)) s (take_put old.bytes more (end + 1) (shut_long old s)) (omega arith) (starts_push (end + 1) (end + 1) (length more) old.unsynced (omega arith) s.unsynced))
   shut_write more (Err e) old new s (inl same) = subst (λ (f : FileState). IsShut f front end) (sym same) s
   shut_write more (Err e) old new s (inr torn) =
       subst (λ (f : FileState). IsShut f front end) (sym torn.2)
-        (shut_by old (written old (end + 1) (length more) torn.0) s torn.1.before (omega arith) (omega arith, s.unsynced))
+        (shut_by old (written old (end + 1) (length more) torn.0) s torn.1.before (omega arith) (starts_push (end + 1) (end + 1) (length more) old.unsynced (omega arith) s.unsynced))
 
   shut_kept : (old : FileState) → IsShut old front end → IsShut (kept_file old.bytes) front end
   shut_kept old s = record { gate = s.gate; shut = s.shut; bytes = s.bytes; long = shut_long old s; unsynced = tt }
@@ -117,7 +121,7 @@ module _ (front : List ℕ) (end : ℕ) (sized : length front ≡ end) where
         ap (λ (l : List ℕ). put l end (new ∷ [])) is ∙ put_behind front (gate ∷ (behind ++ rest)) (new ∷ []) end sized ∙ append_assoc front (new ∷ []) (behind ++ rest)
 
     ajar_at : (old : FileState) (gate : ℕ) (bytes rest : List ℕ) → IsAjar old front end behind → bytes ≡ front ++ gate ∷ (behind ++ rest) → IsAjar (written old end 1 bytes) front end behind
-    ajar_at old gate bytes rest a is = record { gate = gate; rest = rest; bytes = is; long = a.long; unsynced = (inl (omega arith, omega arith), a.unsynced) }
+    ajar_at old gate bytes rest a is = record { gate = gate; rest = rest; bytes = is; long = a.long; unsynced = All-append Spared old.unsynced ((end, 1) ∷ []) a.unsynced (inl (omega arith, omega arith), tt) }
 
     torn_gate : (old : FileState) (torn : List ℕ) → IsAjar old front end behind → IsTorn end 1 old.bytes torn → torn ≡ front ++ get_or torn end 0 ∷ (behind ++ drop (length behind) (drop (end + 1) torn))
     torn_gate old torn a t =

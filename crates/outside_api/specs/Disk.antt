@@ -73,7 +73,7 @@ put old at bytes = take at old ++ bytes ++ drop (at + length bytes) old
 
 -- behind a write of n bytes at a place, after which reads give these bytes
 abbrev pub written : FileState → ℕ → ℕ → List ℕ → FileState
-written old at n bytes = record old { bytes = bytes; unsynced = (at, n) ∷ old.unsynced; greatest = max old.greatest (at + n) }
+written old at n bytes = record old { bytes = bytes; unsynced = old.unsynced ++ (at, n) ∷ []; greatest = max old.greatest (at + n) }
 
 -- after a write of n bytes that failed midway: any bytes in the range, and the others as before
 pub record IsTorn (at n : ℕ) (old torn : List ℕ) : Type 0 where

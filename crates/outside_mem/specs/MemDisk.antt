@@ -1,0 +1,58 @@
+-- What a disk in memory is seen as, and how its script decides its calls.
+use Rattle.std.specs.Prelude.{◌≡◌, ◌≢◌, ◌⊎◌, ◌^◌, ◌+◌, ◌-◌, ◌≤◌, ℕ, zero, suc, Bool, true, List, [], ◌∷◌, drop, length, take, Option, Some, None, Result, Ok, Err}
+use Rattle.outside_api.specs.Counts.{counted}
+use Rattle.outside_api.specs.Disk.{FileState, DiskView, IsImage, empty_file, kept_file}
+use Rattle.outside_api.specs.declared.disk.DiskFault.{DiskFault}
+use Rattle.outside_mem.specs.declared.calling.Calling.{Calling}
+use Rattle.outside_mem.specs.declared.calling.Calling.TheVariants.{Succeeds, FailsUndone, FailsDone}
+
+pub record MemDiskView : Type 0 where
+  pub shown : DiskView
+  -- how its next calls go
+  pub callings : List Calling
+  -- how many calls are left before it stops
+  pub left : Option ℕ
+  -- how often memory was wanting
+  pub short : ℕ
+
+-- a disk whose files were never written
+abbrev pub new_disk : List Calling → Option ℕ → MemDiskView
+new_disk callings left = record {
+  shown = record { faults = 0; tells = true; now = λ _. empty_file; past = [] };
+  callings = callings;
+  left = left;
+  short = 0;
+}
+
+-- how the next call goes
+abbrev pub next_calling : Option ℕ → List Calling → Calling
+next_calling (Some zero) callings = FailsUndone
+next_calling (Some (suc n)) [] = Succeeds
+next_calling (Some (suc n)) (calling ∷ callings) = calling
+next_calling None [] = Succeeds
+next_calling None (calling ∷ callings) = calling
+
+-- one call less
+abbrev pub fewer : Option ℕ → Option ℕ
+fewer (Some zero) = Some zero
+fewer (Some (suc n)) = Some n
+fewer None = None
+
+-- a call succeeds only where it is to, and fails only where it is to or where memory is wanting
+abbrev pub Goes : {T : Type 0} → MemDiskView → MemDiskView → Result T DiskFault → Type 0
+Goes old new (Ok _) = (next_calling old.left old.callings ≡ Succeeds) × (new.short ≡ old.short)
+Goes old new (Err _) = ((next_calling old.left old.callings ≢ Succeeds) × (new.short ≡ old.short)) ⊎ (new.short ≡ counted old.short 1)
+
+-- the same of a call that takes no memory
+abbrev pub GoesFreely : {T : Type 0} → MemDiskView → MemDiskView → Result T DiskFault → Type 0
+GoesFreely old new (Ok _) = (next_calling old.left old.callings ≡ Succeeds) × (new.short ≡ old.short)
+GoesFreely old new (Err _) = (next_calling old.left old.callings ≢ Succeeds) × (new.short ≡ old.short)
+
+-- the script is read on by one call
+pub record PlaysOn (old new : MemDiskView) : Type 0 where
+  pub callings : new.callings ≡ drop 1 old.callings
+  pub left : new.left ≡ fewer old.left
+
+-- each file holds, all of it kept, an image of what it held
+abbrev pub AreImages : (ℕ → FileState) → (ℕ → FileState) → Type 0
+AreImages old new = (number : ℕ) → (image : List ℕ) × IsImage (old number) image × (new number ≡ kept_file image)

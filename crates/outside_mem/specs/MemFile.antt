@@ -1,0 +1,15 @@
+-- A file in memory, and the files of a disk in memory.
+use Rattle.std.specs.Prelude.{◌≡◌, ◌≢◌, ◌<◌, ◌≤◌, ◌+◌, ◌^◌, ◌==◌, ℕ, List, [], ◌∷◌, length, if◌then◌else◌}
+use Rattle.std.specs.List.{AllByRecursion}
+use Rattle.outside_api.specs.Disk.{FileState, IsImage, empty_file}
+use Rattle.outside_mem.specs.declared.files.Numbered.{Numbered}
+
+-- the file of this number: the first one that has it, or one that was never written
+unfoldable pub file_in : List Numbered → ℕ → FileState
+file_in [] number = empty_file
+file_in (entry ∷ entries) number = if entry.number == number then entry.file else file_in entries number
+
+-- this file has changed so, and no other has
+pub record ChangesFile (old new : ℕ → FileState) (number : ℕ) (file : FileState) : Type 0 where
+  pub changed : new number ≡ file
+  pub others : (k : ℕ) → k ≢ number → new k ≡ old k
