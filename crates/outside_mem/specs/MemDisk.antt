@@ -1,13 +1,18 @@
 -- What a disk in memory is seen as, and how its script decides its calls.
-use Rattle.std.specs.Prelude.{◌≡◌, ◌≢◌, ◌⊎◌, ◌^◌, ◌+◌, ◌-◌, ◌≤◌, ℕ, zero, suc, Bool, true, List, [], ◌∷◌, drop, length, take, Option, Some, None, Result, Ok, Err}
+use Rattle.std.specs.Prelude.{◌≡◌, ◌≢◌, ◌⊎◌, ◌^◌, ◌+◌, ◌-◌, ◌≤◌, ℕ, zero, suc, Bool, true, List, [], ◌∷◌, map, drop, length, take, Option, Some, None, Result, Ok, Err}
 use Rattle.outside_api.specs.Counts.{counted}
 use Rattle.outside_api.specs.Disk.{FileState, DiskView, IsImage, empty_file, kept_file}
 use Rattle.outside_api.specs.declared.disk.DiskFault.{DiskFault}
+use Rattle.outside_mem.specs.MemFile.{file_in}
+use Rattle.outside_mem.specs.declared.files.Numbered.{Numbered}
 use Rattle.outside_mem.specs.declared.calling.Calling.{Calling}
 use Rattle.outside_mem.specs.declared.calling.Calling.TheVariants.{Succeeds, FailsUndone, FailsDone}
 
 pub record MemDiskView : Type 0 where
-  pub shown : DiskView
+  pub faults : ℕ
+  -- its files, and those of each moment before
+  pub files : List Numbered
+  pub past : List (List Numbered)
   -- how its next calls go
   pub callings : List Calling
   -- how many calls are left before it stops
@@ -15,14 +20,13 @@ pub record MemDiskView : Type 0 where
   -- how often memory was wanting
   pub short : ℕ
 
+-- what it shows: all
+abbrev pub shown_by : MemDiskView → DiskView
+shown_by disk = record { faults = disk.faults; tells = true; now = file_in disk.files; past = map file_in disk.past }
+
 -- a disk whose files were never written
 abbrev pub new_disk : List Calling → Option ℕ → MemDiskView
-new_disk callings left = record {
-  shown = record { faults = 0; tells = true; now = λ _. empty_file; past = [] };
-  callings = callings;
-  left = left;
-  short = 0;
-}
+new_disk callings left = record { faults = 0; files = []; past = []; callings = callings; left = left; short = 0 }
 
 -- how the next call goes
 abbrev pub next_calling : Option ℕ → List Calling → Calling

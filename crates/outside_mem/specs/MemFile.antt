@@ -1,5 +1,5 @@
 -- A file in memory, and the files of a disk in memory.
-use Rattle.std.specs.Prelude.{◌≡◌, ◌≢◌, ◌<◌, ◌≤◌, ◌+◌, ◌^◌, ◌==◌, ℕ, List, [], ◌∷◌, length, if◌then◌else◌}
+use Rattle.std.specs.Prelude.{◌≡◌, ◌≢◌, ◌<◌, ◌≤◌, ◌+◌, ◌^◌, ◌==◌, ℕ, List, [], ◌∷◌, length, get_or, if◌then◌else◌}
 use Rattle.std.specs.List.{AllByRecursion}
 use Rattle.outside_api.specs.Disk.{FileState, IsImage, empty_file}
 use Rattle.outside_mem.specs.declared.files.Numbered.{Numbered}
@@ -13,3 +13,14 @@ file_in (entry ∷ entries) number = if entry.number == number then entry.file e
 pub record ChangesFile (old new : ℕ → FileState) (number : ℕ) (file : FileState) : Type 0 where
   pub changed : new number ≡ file
   pub others : (k : ℕ) → k ≢ number → new k ≡ old k
+
+-- no entry before this place has the number
+abbrev pub IsAbsentBefore : List Numbered → ℕ → ℕ → Type 0
+IsAbsentBefore entries number i = (k : ℕ) (d : Numbered) → k < i → k < length entries → (get_or entries k d).number ≢ number
+
+-- the first entry of this number stands at this place
+abbrev pub IsFirst : List Numbered → ℕ → ℕ → Type 0
+IsFirst entries number i = IsAbsentBefore entries number i × ((d : Numbered) → (get_or entries i d).number ≡ number)
+
+abbrev pub IsAbsent : List Numbered → ℕ → Type 0
+IsAbsent entries number = IsAbsentBefore entries number (length entries)
