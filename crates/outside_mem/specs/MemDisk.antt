@@ -1,5 +1,5 @@
 -- What a disk in memory is seen as, and how its script decides its calls.
-use Rattle.std.specs.Prelude.{◌≡◌, ◌≢◌, ◌⊎◌, ◌^◌, ◌+◌, ◌-◌, ◌≤◌, ℕ, zero, suc, Bool, true, List, [], ◌∷◌, map, drop, length, take, Option, Some, None, Result, Ok, Err}
+use Rattle.std.specs.Prelude.{◌≡◌, ◌≢◌, ◌⊎◌, ◌^◌, ◌+◌, ◌-◌, ◌≤◌, ◌==◌, ℕ, if◌then◌else◌, Bool, true, List, [], ◌∷◌, map, drop, length, take, Option, Some, None, Result, Ok, Err}
 use Rattle.outside_api.specs.Counts.{counted}
 use Rattle.outside_api.specs.Disk.{FileState, DiskView, IsImage, empty_file, kept_file}
 use Rattle.outside_api.specs.declared.disk.DiskFault.{DiskFault}
@@ -28,18 +28,18 @@ shown_by disk = record { faults = disk.faults; tells = true; now = file_in disk.
 abbrev pub new_disk : List Calling → Option ℕ → MemDiskView
 new_disk callings left = record { faults = 0; files = []; past = []; callings = callings; left = left; short = 0 }
 
+abbrev pub first_calling : List Calling → Calling
+first_calling [] = Succeeds
+first_calling (calling ∷ callings) = calling
+
 -- how the next call goes
 abbrev pub next_calling : Option ℕ → List Calling → Calling
-next_calling (Some zero) callings = FailsUndone
-next_calling (Some (suc n)) [] = Succeeds
-next_calling (Some (suc n)) (calling ∷ callings) = calling
-next_calling None [] = Succeeds
-next_calling None (calling ∷ callings) = calling
+next_calling (Some n) callings = if n == 0 then FailsUndone else first_calling callings
+next_calling None callings = first_calling callings
 
 -- one call less
 abbrev pub fewer : Option ℕ → Option ℕ
-fewer (Some zero) = Some zero
-fewer (Some (suc n)) = Some n
+fewer (Some n) = Some (n - 1)
 fewer None = None
 
 -- a call succeeds only where it is to, and fails only where it is to or where memory is wanting
