@@ -198,3 +198,24 @@ held_fresh file at is = held_clean file 8 at [] (sym length-before_none) tt (sub
 pub put_fresh : put [] 0 (0x71 ∷ 0x74 ∷ 0x70 ∷ 0x6c ∷ 0x61 ∷ 0x6e ∷ 0x74 ∷ 0x31 ∷ 0 ∷ []) ≡ fresh_bytes
 unfolding before_gate spelled
 put_fresh = refl
+
+-- with some records, where it has been so with some
+module _ (old new : DiskView) (was is : JournalView) (same : new.tells ≡ old.tells) where
+  none_of : (state : State) (file : FileState) (front : List ℕ) (end : ℕ) (late : Option (List ℕ)) → state ≡ Clean → Stands state file front end late → late ≡ None
+  none_of Clean file front end None clean s = refl
+  none_of Clean file front end (Some payload) clean s = absurd s
+  none_of BodyFailed file front end late clean s = absurd (cc)
+  none_of GateFailed file front end late clean s = absurd (cc)
+
+  pub kept_on : (grown : List (List ℕ) → List (List ℕ)) (late : Option (List ℕ)) → was.state ≡ Clean → ((records : List (List ℕ)) → Keeps old was records None → Keeps new is (grown records) late) → IsKept old was → IsKept new is
+  kept_on grown late clean step kept tells =
+      let k = kept (subst (λ (b : Bool). IsTrue b) same tells) in
+      let none = none_of was.state (old.now was.file) (before_gate k.0) was.end k.1 clean k.2.stands in
+      let h = subst (λ (l : Option (List ℕ)). Holds was (old.now was.file) k.0 l) none k.2 in
+      (grown k.0, late, step k.0 (λ t. h) tells)
+
+  pub kept_still : ((records : List (List ℕ)) (late : Option (List ℕ)) → Keeps old was records late → Keeps new is records late) → IsKept old was → IsKept new is
+  kept_still step kept tells = let k = kept (subst (λ (b : Bool). IsTrue b) same tells) in (k.0, k.1, step k.0 k.1 (λ t. k.2) tells)
+
+  pub kept_mended : ((records : List (List ℕ)) (late : Option (List ℕ)) → Keeps old was records late → Keeps new is records None) → IsKept old was → IsKept new is
+  kept_mended step kept tells = let k = kept (subst (λ (b : Bool). IsTrue b) same tells) in (k.0, None, step k.0 k.1 (λ t. k.2) tells)

@@ -52,6 +52,7 @@ impl Journal {
     pub fn fresh<D: Disk>(disk: &mut D, file: u64) -> Result<Journal, DiskFault>
         ensures journal { IfOk result (λ j. j ≡ record { file = file; end = 8; state = State.Clean }) }
         ensures keeps { IfOk result (λ j. Keeps (D.shown disk.new) j [] None) }
+        ensures kept { IfOk result (λ j. IsKept (D.shown disk.new) j) }
         ensures bytes { OnOk result (IsTrue (D.shown disk.old).tells → (D.shown disk.new).now file ≡ kept_file fresh_bytes) }
         ensures any_moment { IsTrue (D.shown disk.old).tells → Passes (D.shown disk.old) (D.shown disk.new) file (λ _. Unit {0}) }
         ensures counts { Counts (D.shown disk.old) (D.shown disk.new) result }
@@ -75,6 +76,7 @@ impl Journal {
     pub fn load<D: Disk>(alloc: Global, disk: &mut D, file: u64) -> Result<(Journal, Records), JournalRefusal>
         ensures records { IfOk result (λ x. IsTrue (D.shown disk.old).tells → Reads ((D.shown disk.old).now file).bytes x.1) }
         ensures keeps { IfOk result (λ x. Keeps (D.shown disk.new) x.0 x.1 None) }
+        ensures kept { IfOk result (λ x. IsKept (D.shown disk.new) x.0) }
         ensures file { IfOk result (λ x. x.0.file ≡ file) }
         ensures clean { IfOk result (λ x. x.0.state ≡ State.Clean) }
         ensures corrupt { IfCorrupt result (λ records bytes. IsTrue (D.shown disk.old).tells
@@ -121,6 +123,7 @@ impl Journal {
 
         ensures bytes { OnOk result (IsTrue (D.shown disk.old).tells → (D.shown disk.new).now self.old.file
             ≡ kept_file (appended ((D.shown disk.old).now self.old.file).bytes self.old.end payload.now.bytes)) }
+        ensures kept { IsKept (D.shown disk.new) self.new }
         ensures clean { OnOk result (self.new.state ≡ State.Clean) }
         ensures unclean { OnErr result (self.new.state ≢ State.Clean) }
         ensures file { self.new.file ≡ self.old.file }
@@ -154,6 +157,7 @@ impl Journal {
 
         ensures bytes { OnOk result (IsTrue (D.shown disk.old).tells → (D.shown disk.new).now self.old.file
             ≡ kept_file (mended self.old.state ((D.shown disk.old).now self.old.file).bytes self.old.end)) }
+        ensures kept { IsKept (D.shown disk.new) self.new }
         ensures clean { OnOk result (self.new.state ≡ State.Clean) }
         ensures unclean { OnErr result (self.new.state ≢ State.Clean) }
         ensures same { self.new ≡ record self.old { state = self.new.state } }

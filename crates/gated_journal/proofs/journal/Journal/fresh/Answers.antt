@@ -1,4 +1,4 @@
-use Rattle.std.proofs.Common.{◌≡◌, ◌∷◌, [], List, ℕ, Bool, IsTrue, subst, sym, ap, ◌∙◌, take}
+use Rattle.std.proofs.Common.{◌≡◌, ◌∷◌, [], List, ℕ, Bool, IsTrue, subst, sym, ap, ◌∙◌, take, None}
 use Rattle.outside_api.specs.Disk.{DiskView, FileState, Passes, IsImage, Cutting, Writing, Syncing, put, kept_file, cut_to, written}
 use Rattle.gated_journal.specs.Journal.{fresh_bytes}
 use Rattle.gated_journal.proofs.Moments.{passes_one, passes_on}
@@ -50,3 +50,6 @@ returns-clause-keeps g c tells''' =
     let bytes : ((g.D.Disk.shown c.write_at.new.self).now c.args.file).bytes ≡ fresh_bytes =
     ap (λ (f : FileState). f.bytes) wrote ∙ ap (λ (f : FileState). put f.bytes 0 (0x71 ∷ 0x74 ∷ 0x70 ∷ 0x6c ∷ 0x61 ∷ 0x6e ∷ 0x74 ∷ 0x31 ∷ 0 ∷ [])) cut ∙ put_fresh in
     held_fresh c.args.file _ ((c.in_ok-sync.ensures.changes tells'').changed ∙ ap kept_file bytes)
+
+pub returns-clause-kept : goal.returns-clause-kept
+returns-clause-kept g c tells = ([], None, returns-clause-keeps g c tells)

@@ -16,3 +16,6 @@ returns-clause-keeps g c tells =
       (c.in_ok-bytes.ensures.synced tells' ∙ ap kept_file (sym (same ∙ c.in_ok-bytes.ensures.bytes tells')))
       (subst (λ (l : List (List ℕ)). Reads c.as_slice.result.now l) (sym records) c.in_ok-end.ensures.reads)
       (c.in_ok-end.ensures.end ∙ ap (λ (l : List (List ℕ)). length (before_gate l)) (sym records))
+
+pub returns-clause-kept : goal.returns-clause-kept
+returns-clause-kept g c tells = (c.of.result, None, returns-clause-keeps g c tells)
