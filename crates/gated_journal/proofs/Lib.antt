@@ -7,3 +7,4 @@ pub mod Moments
 pub mod Reading
 pub mod Scans
 pub mod Spans
+pub mod Unique

@@ -1,5 +1,6 @@
 pub mod Format
 pub mod Journal
+pub mod Laws
 pub mod Load
 pub mod Payload
 pub mod Records

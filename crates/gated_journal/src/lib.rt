@@ -2,6 +2,7 @@
 #![tactic(auto)]
 
 mod journal;
+mod laws;
 mod payload;
 mod records;
 mod refusal;
@@ -9,6 +10,7 @@ mod scan;
 mod state;
 
 pub use journal::Journal;
+pub use laws::reads_in_one_way;
 pub use payload::Payload;
 pub use records::Records;
 pub use refusal::JournalRefusal;
