@@ -1,9 +1,9 @@
 -- An append and a mend, seen at each moment and at their end.
-use Rattle.std.proofs.Common.{◌≡◌, ◌≢◌, inl, inr, ◌⊎◌, ℕ, ◌+◌, ◌≤◌, ◌<◌, Bool, IsTrue, List, [], ◌∷◌, ◌++◌, length, refl, sym, ◌∙◌, ap, subst, arith, Result, Ok, Err, Option, Some, None, OnErr}
+use Rattle.std.proofs.Common.{◌≡◌, inl, inr, ◌⊎◌, ℕ, ◌+◌, Bool, IsTrue, List, [], ◌∷◌, ◌++◌, length, refl, sym, ◌∙◌, subst, arith, Result, Ok, Err, Option, Some, None, OnErr}
 use Rattle.std.specs.List.{AllByRecursion}
 use Rattle.outside_api.specs.Disk.{FileState, DiskView, IsImage, Changes, Syncing, Passes, put, kept_file}
 use Rattle.outside_api.specs.declared.disk.DiskFault.{DiskFault}
-use Rattle.gated_journal.specs.Format.{open_gate, closed_gate, spelled, before_gate, IsPayload, Reads}
+use Rattle.gated_journal.specs.Format.{open_gate, closed_gate, spelled, before_gate, IsPayload}
 use Rattle.gated_journal.specs.Journal.{IsShut, IsAjar, Stands, MayRead, Holds, Keeps, IsKept, body, JournalView, fresh_bytes}
 use Rattle.gated_journal.specs.Steps.{HasShut, HasAny, StaysShut, StaysAjar, KeepsShut, KeepsAjar}
 use Rattle.gated_journal.specs.declared.state.State.{State}
@@ -62,30 +62,30 @@ module _ (file end : ℕ) (records : List (List ℕ)) where
   module _ (payload : List ℕ) (one : IsPayload payload) where
     -- the second half, behind a first one that succeeded
     pub ajar : (state : State) (old mid new : DiskView) → mid.tells ≡ old.tells → mid.now file ≡ kept_file (put (old.now file).bytes (end + 1) (body payload)) → KeepsAjar mid new file end
-      → Keeps old (view_of file end state) records None → IsTrue old.tells → StaysAjar mid new file end (before_gate records) (body payload)
+        → Keeps old (view_of file end state) records None → IsTrue old.tells → StaysAjar mid new file end (before_gate records) (body payload)
     ajar state old mid new same is keeps_ajar keeps tells =
         let h = keeps tells in
         keeps_ajar (told mid old (sym same) tells) (before_gate records) (body payload) (sym h.end)
-          (subst (λ (f : FileState). IsAjar f (before_gate records) end (body payload)) (sym is)
-            (staged (before_gate records) end (sym h.end) (body payload) (old.now file) (shut_of state (old.now file) (before_gate records) end h.stands)))
+        (subst (λ (f : FileState). IsAjar f (before_gate records) end (body payload)) (sym is)
+        (staged (before_gate records) end (sym h.end) (body payload) (old.now file) (shut_of state (old.now file) (before_gate records) end h.stands)))
 
     pub gate_failed : (state : State) (old mid new : DiskView) → mid.tells ≡ old.tells → new.tells ≡ mid.tells → (IsTrue old.tells → mid.now file ≡ kept_file (put (old.now file).bytes (end + 1) (body payload))) → KeepsAjar mid new file end
-      → Keeps old (view_of file end state) records None → Keeps new (view_of file end GateFailed) records (Some payload)
+        → Keeps old (view_of file end state) records None → Keeps new (view_of file end GateFailed) records (Some payload)
     gate_failed state old mid new same same' is keeps_ajar keeps tells =
         let t = told old new (same' ∙ same) tells in
         let a = ajar state old mid new same (is t) keeps_ajar keeps t in
         held_ajar payload one (new.now file) (keeps t).end (keeps t).sized a.stands
 
     pub gate_moments : (state : State) (old mid new : DiskView) → mid.tells ≡ old.tells → KeepsShut old mid file end → (IsTrue old.tells → mid.now file ≡ kept_file (put (old.now file).bytes (end + 1) (body payload))) → KeepsAjar mid new file end
-      → Keeps old (view_of file end state) records None → IsTrue old.tells → Passes old new file (MayRead records (Some payload))
+        → Keeps old (view_of file end state) records None → IsTrue old.tells → Passes old new file (MayRead records (Some payload))
     gate_moments state old mid new same shut is keeps_ajar keeps tells =
         passes_on old mid new file (MayRead records (Some payload)) (body_moments state old mid payload shut keeps tells)
-          (passes_weaker mid new file (HasAny (before_gate records) (body payload)) (MayRead records (Some payload)) (λ image has. reads_any records payload image (keeps tells).sized one has)
-            (ajar state old mid new same (is tells) keeps_ajar keeps tells).passes)
+        (passes_weaker mid new file (HasAny (before_gate records) (body payload)) (MayRead records (Some payload)) (λ image has. reads_any records payload image (keeps tells).sized one has)
+        (ajar state old mid new same (is tells) keeps_ajar keeps tells).passes)
 
     pub added : (state : State) (old mid new : DiskView) → mid.tells ≡ old.tells → new.tells ≡ mid.tells → (IsTrue old.tells → mid.now file ≡ kept_file (put (old.now file).bytes (end + 1) (body payload)))
-      → (IsTrue mid.tells → new.now file ≡ kept_file (put (mid.now file).bytes end (open_gate ∷ [])))
-      → Keeps old (view_of file end state) records None → Keeps new (view_of file (end + length (body payload)) Clean) (records ++ payload ∷ []) None
+        → (IsTrue mid.tells → new.now file ≡ kept_file (put (mid.now file).bytes end (open_gate ∷ [])))
+        → Keeps old (view_of file end state) records None → Keeps new (view_of file (end + length (body payload)) Clean) (records ++ payload ∷ []) None
     added state old mid new same same' is opens keeps tells =
         let t = told old new (same' ∙ same) tells in
         let h = keeps t in
@@ -94,7 +94,7 @@ module _ (file end : ℕ) (records : List (List ℕ)) where
         subst (λ (f : FileState). IsAjar f (before_gate records) end (body payload)) (sym (is t)) (staged (before_gate records) end (sym h.end) (body payload) (old.now file) s) in
         let split = put_gate (before_gate records) end (sym h.end) (body payload) (mid.now file).bytes a.gate open_gate a.rest a.bytes in
         let shut = subst (λ (f : FileState). IsShut f (before_gate (records ++ payload ∷ [])) (end + length (body payload))) (sym (opens (told mid old (sym same) t)))
-          (opened records payload end (mid.now file).bytes a.gate a.rest h.end split) in
+        (opened records payload end (mid.now file).bytes a.gate a.rest h.end split) in
         held_clean file (end + length (body payload)) (new.now file) (records ++ payload ∷ []) (length-push records payload end h.end) (sized_push records payload h.sized one) shut
 
   -- a sync of a file whose last gate is shut
@@ -125,7 +125,7 @@ module _ (file end : ℕ) (records : List (List ℕ)) where
     pub mending_moments : (old new : DiskView) → KeepsAjar old new file end → Keeps old (view_of file end GateFailed) records (Some payload) → IsTrue old.tells → Passes old new file (MayRead records (Some payload))
     mending_moments old new ajar_stays keeps tells =
         passes_weaker old new file (HasAny (before_gate records) (body payload)) (MayRead records (Some payload)) (λ image has. reads_any records payload image (keeps tells).sized (keeps tells).stands.0 has)
-          (mending old new ajar_stays keeps tells).passes
+        (mending old new ajar_stays keeps tells).passes
 
     pub mending_failed : (old new : DiskView) → KeepsAjar old new file end → new.tells ≡ old.tells → Keeps old (view_of file end GateFailed) records (Some payload) → Keeps new (view_of file end GateFailed) records (Some payload)
     mending_failed old new ajar_stays same keeps tells =

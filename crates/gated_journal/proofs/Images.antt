@@ -1,6 +1,6 @@
 -- What a stop leaves of a journal's file behind each device call.
-use Rattle.std.proofs.Common.{◌≡◌, ◌≢◌, ◌⊎◌, inl, inr, ⊎_elim, ℕ, ◌+◌, ◌-◌, ◌≤◌, ◌<◌, max, List, [], ◌∷◌, ◌++◌, length, get_or, take, drop, refl, sym, ◌∙◌, ap, subst, arith, append_assoc, length-append, length-take, length-drop, take-append-drop, Result, Ok, Err}
-use Rattle.std.proofs.lemmas.List.{take_at, drop_at, take_all, drop_all, drop_more, append-nil, drop-drop, get_or-take, get_or-drop, ext_get_or}
+use Rattle.std.proofs.Common.{◌≡◌, ◌≢◌, ◌⊎◌, inl, inr, ⊎_elim, ℕ, ◌+◌, ◌≤◌, ◌<◌, List, [], ◌∷◌, ◌++◌, length, get_or, take, drop, refl, sym, ◌∙◌, ap, subst, arith, append_assoc, length-append, length-take, length-drop, take-append-drop, Result, Ok, Err}
+use Rattle.std.proofs.lemmas.List.{take_at, drop_at, drop_more, get_or-take, get_or-drop, ext_get_or}
 use Rattle.std.specs.List.{AllByRecursion}
 use Rattle.outside_api.specs.declared.disk.DiskFault.{DiskFault}
 use Rattle.outside_api.specs.Disk.{FileState, IsImage, IsOutside, IsTorn, Writing, Syncing, put, written, kept_file}
@@ -16,11 +16,11 @@ stretch file image at n is long within outside =
     let here : length (take n (drop at image)) ≡ n = omega (arith, length-take n (drop at image), length-drop at image, is.no_shorter) in
     let there : length (take n (drop at file.bytes)) ≡ n = omega (arith, length-take n (drop at file.bytes), length-drop at file.bytes) in
     ext_get_or 0 (take n (drop at image)) (take n (drop at file.bytes)) (here ∙ sym there)
-      (λ k less.
-        let below : k < n = omega (arith, less, here) in
-        get_or-take n (drop at image) k 0 below ∙ get_or-drop at image k 0
-        ∙ is.agrees (at + k) (omega (arith, below, long)) (outside (at + k) (omega arith) (omega (arith, below)))
-        ∙ sym (get_or-take n (drop at file.bytes) k 0 below ∙ get_or-drop at file.bytes k 0))
+    (λ k less.
+    let below : k < n = omega (arith, less, here) in
+    get_or-take n (drop at image) k 0 below ∙ get_or-drop at image k 0
+    ∙ is.agrees (at + k) (omega (arith, below, long)) (outside (at + k) (omega arith) (omega (arith, below)))
+    ∙ sym (get_or-take n (drop at file.bytes) k 0 below ∙ get_or-drop at file.bytes k 0))
 
 -- a place below all ranges lies in none
 pub below_all : (k place : ℕ) (ranges : List (ℕ × ℕ)) → k < place → StartsFrom place ranges → IsOutside k ranges
@@ -65,11 +65,11 @@ module _ (front : List ℕ) (end : ℕ) (sized : length front ≡ end) where
   pub shut_write : {T : Type 0} (more : List ℕ) (result : Result T DiskFault) (old new : FileState) → IsShut old front end → Writing (end + 1) more result old new → IsShut new front end
   shut_write more (Ok x) old new s w =
       subst (λ (f : FileState). IsShut f front end) (sym w)
-        (shut_by old (written old (end + 1) (length more) (put old.bytes (end + 1) more)) s (take_put old.bytes more (end + 1) (shut_long old s)) (omega arith) (starts_push (end + 1) (end + 1) (length more) old.unsynced (omega arith) s.unsynced))
+      (shut_by old (written old (end + 1) (length more) (put old.bytes (end + 1) more)) s (take_put old.bytes more (end + 1) (shut_long old s)) (omega arith) (starts_push (end + 1) (end + 1) (length more) old.unsynced (omega arith) s.unsynced))
   shut_write more (Err e) old new s (inl same) = subst (λ (f : FileState). IsShut f front end) (sym same) s
   shut_write more (Err e) old new s (inr torn) =
       subst (λ (f : FileState). IsShut f front end) (sym torn.2)
-        (shut_by old (written old (end + 1) (length more) torn.0) s torn.1.before (omega arith) (starts_push (end + 1) (end + 1) (length more) old.unsynced (omega arith) s.unsynced))
+      (shut_by old (written old (end + 1) (length more) torn.0) s torn.1.before (omega arith) (starts_push (end + 1) (end + 1) (length more) old.unsynced (omega arith) s.unsynced))
 
   shut_kept : (old : FileState) → IsShut old front end → IsShut (kept_file old.bytes) front end
   shut_kept old s = record { gate = s.gate; shut = s.shut; bytes = s.bytes; long = shut_long old s; unsynced = tt }
@@ -113,7 +113,7 @@ module _ (front : List ℕ) (end : ℕ) (sized : length front ≡ end) where
           gate = get_or image end 0;
           rest = drop (length behind) (drop (end + 1) image);
           split = joined image front behind end sized (omega (arith, is.no_shorter, a.long)) (before ∙ front_of file.bytes a.gate a.rest a.bytes)
-            (after ∙ ap (take (length behind)) (after_of file.bytes a.gate a.rest a.bytes) ∙ take_at behind a.rest (length behind) refl);
+              (after ∙ ap (take (length behind)) (after_of file.bytes a.gate a.rest a.bytes) ∙ take_at behind a.rest (length behind) refl);
         }
 
     pub put_gate : (bytes : List ℕ) (gate new : ℕ) (rest : List ℕ) → bytes ≡ front ++ gate ∷ (behind ++ rest) → put bytes end (new ∷ []) ≡ front ++ new ∷ (behind ++ rest)
@@ -126,7 +126,7 @@ module _ (front : List ℕ) (end : ℕ) (sized : length front ≡ end) where
     torn_gate : (old : FileState) (torn : List ℕ) → IsAjar old front end behind → IsTorn end 1 old.bytes torn → torn ≡ front ++ get_or torn end 0 ∷ (behind ++ drop (length behind) (drop (end + 1) torn))
     torn_gate old torn a t =
         joined torn front behind end sized (omega (arith, t.no_shorter, length_of old.bytes a.gate a.rest a.bytes)) (t.before ∙ front_of old.bytes a.gate a.rest a.bytes)
-          (ap (take (length behind)) (t.after ∙ after_of old.bytes a.gate a.rest a.bytes) ∙ take_at behind a.rest (length behind) refl)
+        (ap (take (length behind)) (t.after ∙ after_of old.bytes a.gate a.rest a.bytes) ∙ take_at behind a.rest (length behind) refl)
 
     -- whatever became of a write of the gate
     pub ajar_write : {T : Type 0} (gate : ℕ) (result : Result T DiskFault) (old new : FileState) → IsAjar old front end behind → Writing end (gate ∷ []) result old new → IsAjar new front end behind
@@ -135,7 +135,7 @@ module _ (front : List ℕ) (end : ℕ) (sized : length front ≡ end) where
     ajar_write gate (Err e) old new a (inl same) = subst (λ (f : FileState). IsAjar f front end behind) (sym same) a
     ajar_write gate (Err e) old new a (inr torn) =
         subst (λ (f : FileState). IsAjar f front end behind) (sym torn.2)
-          (ajar_at old (get_or torn.0 end 0) torn.0 (drop (length behind) (drop (end + 1) torn.0)) a (torn_gate old torn.0 a torn.1))
+        (ajar_at old (get_or torn.0 end 0) torn.0 (drop (length behind) (drop (end + 1) torn.0)) a (torn_gate old torn.0 a torn.1))
 
     ajar_kept : (old : FileState) → IsAjar old front end behind → IsAjar (kept_file old.bytes) front end behind
     ajar_kept old a = record { gate = a.gate; rest = a.rest; bytes = a.bytes; long = length_of old.bytes a.gate a.rest a.bytes; unsynced = tt }

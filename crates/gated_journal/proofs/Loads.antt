@@ -1,9 +1,9 @@
 -- What a load leaves.
-use Rattle.std.proofs.Common.{◌≡◌, ◌⊎◌, inl, inr, ℕ, ◌+◌, ◌≤◌, ◌<◌, List, [], ◌∷◌, ◌++◌, length, take, sym, ◌∙◌, ap, subst, arith, append_assoc, length-append, Result, Ok, Err, None}
+use Rattle.std.proofs.Common.{◌≡◌, ◌⊎◌, inl, inr, ℕ, ◌+◌, List, [], ◌∷◌, ◌++◌, length, take, sym, ◌∙◌, ap, subst, arith, append_assoc, length-append, Result, Ok, Err, None}
 use Rattle.std.proofs.lemmas.List.{take_at, ext_get_or}
 use Rattle.outside_api.specs.declared.disk.DiskFault.{DiskFault}
 use Rattle.outside_api.specs.Disk.{FileState, DiskView, IsImage, Changes, Passes, Syncing, kept_file}
-use Rattle.gated_journal.specs.Format.{open_gate, before_gate, Reads, IsEnd}
+use Rattle.gated_journal.specs.Format.{before_gate, Reads, IsEnd}
 use Rattle.gated_journal.specs.Journal.{IsShut, Holds}
 use Rattle.gated_journal.specs.declared.state.State.TheVariants.{Clean}
 use Rattle.gated_journal.proofs.Moments.{passes_one, passes_on, passes_still}
@@ -43,4 +43,4 @@ shut_of_rest bytes front (gate ∷ rest) end sized split ends =
 pub held_loaded : (file end : ℕ) (at : FileState) (bytes : List ℕ) (records : List (List ℕ)) → at ≡ kept_file bytes → Reads bytes records → end ≡ length (before_gate records) → Holds (view_of file end Clean) at records None
 held_loaded file end at bytes records is reads place =
     held_clean file end at records place reads.sized
-      (subst (λ (f : FileState). IsShut f (before_gate records) end) (sym is) (shut_of_rest bytes (before_gate records) reads.rest end (sym place) reads.split reads.ends))
+    (subst (λ (f : FileState). IsShut f (before_gate records) end) (sym is) (shut_of_rest bytes (before_gate records) reads.rest end (sym place) reads.split reads.ends))

@@ -26,7 +26,7 @@ passes_on old mid new file P a b = record {
   goes_on = b.goes_on ∙ ap (λ (l : List Files). l ++ b.moments) a.goes_on ∙ append_assoc (old.past ++ old.now ∷ []) a.moments b.moments;
   images = All-append (λ (files : Files). (image : List ℕ) → IsImage (files file) image → P image) a.moments b.moments a.images b.images;
   others = All-append (λ (files : Files). (k : ℕ) → k ≢ file → files k ≡ old.now k) a.moments b.moments a.others
-    (All_weaker (λ (files : Files). (k : ℕ) → k ≢ file → files k ≡ mid.now k) (λ (files : Files). (k : ℕ) → k ≢ file → files k ≡ old.now k) b.moments
+      (All_weaker (λ (files : Files). (k : ℕ) → k ≢ file → files k ≡ mid.now k) (λ (files : Files). (k : ℕ) → k ≢ file → files k ≡ old.now k) b.moments
       (λ files same k apart. same k apart ∙ a.others_now k apart) b.others);
   others_now = λ k apart. b.others_now k apart ∙ a.others_now k apart;
 }
@@ -56,7 +56,7 @@ passes_weaker old new file P Q f a = record {
   moments = a.moments;
   goes_on = a.goes_on;
   images = All_weaker (λ (files : Files). (image : List ℕ) → IsImage (files file) image → P image) (λ (files : Files). (image : List ℕ) → IsImage (files file) image → Q image) a.moments
-    (λ files here image is. f image (here image is)) a.images;
+      (λ files here image is. f image (here image is)) a.images;
   others = a.others;
   others_now = a.others_now;
 }

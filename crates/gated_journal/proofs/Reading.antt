@@ -1,11 +1,11 @@
 -- Which records a file holds by its parts.
-use Rattle.std.proofs.Common.{◌≡◌, ◌≢◌, inl, inr, ℕ, ◌+◌, ◌≤◌, ◌<◌, List, [], ◌∷◌, ◌++◌, length, take, refl, sym, ◌∙◌, ap, subst, arith, append_assoc, length-append, Some, None}
+use Rattle.std.proofs.Common.{◌≡◌, inl, inr, ℕ, ◌+◌, List, [], ◌∷◌, ◌++◌, length, take, sym, ◌∙◌, ap, arith, append_assoc, length-append, Some}
 use Rattle.std.proofs.lemmas.Bool.{cases_eq}
 use Rattle.std.proofs.lemmas.List.{take_at, append-nil}
 use Rattle.std.specs.List.{AllByRecursion}
-use Rattle.outside_api.specs.Disk.{FileState, IsImage, put, kept_file}
+use Rattle.outside_api.specs.Disk.{put, kept_file}
 use Rattle.gated_journal.specs.Format.{open_gate, closed_gate, magic, measured, spelled, before_gate, IsPayload, Reads}
-use Rattle.gated_journal.specs.Journal.{IsShut, IsAjar, MayRead, body}
+use Rattle.gated_journal.specs.Journal.{IsShut, MayRead, body}
 use Rattle.gated_journal.specs.Steps.{HasShut, HasAny}
 use Rattle.gated_journal.proofs.Moments.{All-append}
 

@@ -1,9 +1,9 @@
 -- A scan of a journal's bytes, gate by gate.
-use Rattle.std.proofs.Common.{◌≡◌, inr, ℕ, ◌+◌, ◌≤◌, ◌<◌, List, [], ◌∷◌, ◌++◌, length, get_or, take, drop, map, refl, sym, ◌∙◌, ap, subst, arith, append_assoc, length-append, length-take, length-drop, take-append-drop}
+use Rattle.std.proofs.Common.{◌≡◌, inr, ℕ, ◌+◌, ◌≤◌, ◌<◌, List, [], ◌∷◌, ◌++◌, length, get_or, take, drop, refl, sym, ◌∙◌, ap, subst, arith, append_assoc, length-append, length-take, length-drop, take-append-drop}
 use Rattle.std.proofs.lemmas.List.{drop_more, drop-drop, map_push, length-map}
 use Rattle.std.specs.Int.{w32, to_le_bytes}
 use Rattle.std.specs.List.{AllByRecursion}
-use Rattle.gated_journal.specs.Format.{open_gate, magic, measured, spelled, before_gate, longest_payload, IsPayload, HasHeader, IsBroken, BreaksAt, IsCorrupt}
+use Rattle.gated_journal.specs.Format.{open_gate, measured, spelled, before_gate, longest_payload, IsPayload, HasHeader, IsBroken, IsCorrupt}
 use Rattle.gated_journal.specs.Records.{bytes_in, payloads_in}
 use Rattle.gated_journal.specs.declared.records.Span.{Span}
 use Rattle.gated_journal.proofs.Reading.{before_gate-push, sized_push}

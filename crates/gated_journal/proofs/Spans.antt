@@ -1,5 +1,5 @@
 -- Payloads in a text of bytes, when there is more of them.
-use Rattle.std.proofs.Common.{◌≡◌, ℕ, ◌+◌, ◌≤◌, List, [], ◌∷◌, ◌++◌, length, take, drop, map, refl, sym, ◌∙◌, ap, subst, arith, length-append, length-drop}
+use Rattle.std.proofs.Common.{◌≡◌, ℕ, ◌≤◌, List, [], ◌∷◌, ◌++◌, length, take, drop, refl, sym, ◌∙◌, ap, subst, arith, length-append, length-drop}
 use Rattle.std.proofs.lemmas.List.{take-append-le, drop-append-le, drop_at, map_push, take_all}
 use Rattle.gated_journal.specs.Records.{bytes_in, payloads_in, IsInside, AreInside}
 use Rattle.gated_journal.specs.declared.records.Span.{Span}
@@ -35,4 +35,4 @@ pub inside_all : (bytes payload all : List ℕ) (spans new : List Span) (start :
 inside_all bytes payload all spans new start inside at is grows =
     let size = ap length is ∙ length-append bytes payload in
     subst (λ (l : List Span). AreInside (length all) l) (sym grows)
-      (inside_push (length all) spans (record { start = start; len = length payload }) (inside_more (length bytes) (length all) spans (omega (arith, size)) inside) (omega (arith, size, at)))
+    (inside_push (length all) spans (record { start = start; len = length payload }) (inside_more (length bytes) (length all) spans (omega (arith, size)) inside) (omega (arith, size, at)))

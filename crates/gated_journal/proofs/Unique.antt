@@ -1,10 +1,10 @@
 -- Two readings of one file are one.
-use Rattle.std.proofs.Common.{◌≡◌, ◌≢◌, ◌⊎◌, inl, inr, ⊎_elim, ℕ, ◌+◌, ◌≤◌, ◌<◌, ◌^◌, List, [], ◌∷◌, ◌++◌, length, take, drop, refl, sym, ◌∙◌, ap, subst, arith, append_assoc, length-append}
+use Rattle.std.proofs.Common.{◌≡◌, ◌⊎◌, inl, inr, ⊎_elim, ℕ, ◌+◌, ◌≤◌, ◌<◌, List, [], ◌∷◌, ◌++◌, length, take, drop, refl, sym, ◌∙◌, ap, subst, arith, append_assoc, length-append}
 use Rattle.std.proofs.lemmas.List.{append_cancel_left, take_at, drop_at}
 use Rattle.std.proofs.lemmas.Nat.{from_le_bytes-to_le_bytes_4}
 use Rattle.std.specs.Int.{w32, to_le_bytes, from_le_bytes}
 use Rattle.std.specs.List.{AllByRecursion}
-use Rattle.gated_journal.specs.Format.{open_gate, magic, measured, spelled, before_gate, longest_payload, IsPayload, IsEnd, IsBroken, Reads, BreaksAt, IsCorrupt, IsStrange}
+use Rattle.gated_journal.specs.Format.{open_gate, magic, measured, spelled, before_gate, longest_payload, IsPayload, IsEnd, IsBroken, Reads, IsCorrupt, IsStrange}
 
 -- the number that stands before a payload
 size_of : (payload rest : List ℕ) → IsPayload payload → from_le_bytes w32 (take 4 (measured payload ++ rest)) ≡ length payload
@@ -30,8 +30,8 @@ no_record (gate ∷ rest) payload more is some same (inr (opens, bad)) =
     let size : from_le_bytes w32 (take 4 rest) ≡ length payload = ap (λ (l : List ℕ). from_le_bytes w32 (take 4 l)) tail ∙ size_of payload more is in
     let long : length rest ≡ 4 + length payload + length more = omega (arith, ap length tail, length-append (measured payload) more) in
     ⊎_elim (λ (short : length rest < 4). omega (arith, short, long))
-      (λ (other : _). ⊎_elim (λ (cut : length rest ≤ 4 + from_le_bytes w32 (take 4 rest)). omega (arith, cut, size, long, some))
-        (λ (off : _). ⊎_elim (λ (none : from_le_bytes w32 (take 4 rest) ≡ 0). omega (arith, none, size, is.0)) (λ (large : longest_payload < from_le_bytes w32 (take 4 rest)). omega (arith, large, size, is.1)) off) other) bad
+    (λ (other : _). ⊎_elim (λ (cut : length rest ≤ 4 + from_le_bytes w32 (take 4 rest)). omega (arith, cut, size, long, some))
+    (λ (off : _). ⊎_elim (λ (none : from_le_bytes w32 (take 4 rest) ≡ 0). omega (arith, none, size, is.0)) (λ (large : longest_payload < from_le_bytes w32 (take 4 rest)). omega (arith, large, size, is.1)) off) other) bad
 
 same_payload : (a b more other : List ℕ) → IsPayload a → IsPayload b → measured a ++ more ≡ measured b ++ other → (a ≡ b) × (more ≡ other)
 same_payload a b more other is is' same =
@@ -62,7 +62,7 @@ same_file : (file : List ℕ) (payloads others : List (List ℕ)) (r s : List �
 unfolding before_gate
 same_file file payloads others r s sa sb er es one two =
     same_stop payloads others r s sa sb er es
-      (append_cancel_left magic (spelled payloads ++ r) (spelled others ++ s) (sym (append_assoc magic (spelled payloads) r) ∙ sym one ∙ two ∙ append_assoc magic (spelled others) s))
+    (append_cancel_left magic (spelled payloads ++ r) (spelled others ++ s) (sym (append_assoc magic (spelled payloads) r) ∙ sym one ∙ two ∙ append_assoc magic (spelled others) s))
 
 -- a file with a gate is not strange
 no_stranger : (file : List ℕ) (payloads : List (List ℕ)) (r : List ℕ) → Stops r → file ≡ before_gate payloads ++ r → IsStrange file → ⊥

@@ -1,5 +1,5 @@
 -- How a journal and its file stand to each other.
-use Rattle.std.specs.Prelude.{◌≡◌, ◌≢◌, ◌⊎◌, ◌<◌, ◌≤◌, ℕ, ◌+◌, IsTrue, List, [], ◌∷◌, ◌++◌, length, take, Option, Some, None}
+use Rattle.std.specs.Prelude.{◌≡◌, ◌≢◌, ◌⊎◌, ◌≤◌, ℕ, ◌+◌, IsTrue, List, [], ◌∷◌, ◌++◌, length, take, Option, Some, None}
 use Rattle.std.specs.List.{AllByRecursion}
 use Rattle.outside_api.specs.Disk.{FileState, IsImage, DiskView, put}
 use Rattle.gated_journal.specs.Format.{Reads, IsPayload, before_gate, measured, open_gate, closed_gate}

@@ -1,5 +1,5 @@
 -- What a load leaves, and when it is refused.
-use Rattle.std.specs.Prelude.{◌≡◌, ◌⊎◌, ℕ, IsTrue, List, Result, Ok, Err, ⊤}
+use Rattle.std.specs.Prelude.{◌≡◌, ◌⊎◌, ℕ, IsTrue, Result, Ok, Err, ⊤}
 use Rattle.outside_api.specs.Counts.{counted}
 use Rattle.outside_api.specs.Disk.{DiskView, IsImage, Passes}
 use Rattle.gated_journal.specs.declared.refusal.JournalRefusal.{JournalRefusal}

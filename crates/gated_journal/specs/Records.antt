@@ -1,5 +1,5 @@
 -- The payloads that stand in one text of bytes.
-use Rattle.std.specs.Prelude.{◌≤◌, ◌+◌, ℕ, List, length, map, take, drop}
+use Rattle.std.specs.Prelude.{◌≤◌, ◌+◌, ℕ, List, map, take, drop}
 use Rattle.std.specs.List.{AllByRecursion}
 use Rattle.gated_journal.specs.declared.records.Span.{Span}
 

@@ -1,6 +1,6 @@
 -- What the two halves of an append leave, each a write and a sync.
-use Rattle.std.specs.Prelude.{◌≡◌, ◌≢◌, ℕ, ◌+◌, IsTrue, List, ◌∷◌, ◌++◌, length}
-use Rattle.outside_api.specs.Disk.{FileState, DiskView, Passes}
+use Rattle.std.specs.Prelude.{◌≡◌, ◌≢◌, ℕ, IsTrue, List, ◌∷◌, ◌++◌, length}
+use Rattle.outside_api.specs.Disk.{DiskView, Passes}
 use Rattle.gated_journal.specs.Format.{open_gate}
 use Rattle.gated_journal.specs.Journal.{IsShut, IsAjar}
 

@@ -16,7 +16,9 @@ use std::alloc::Global;
 use std::marker::Model;
 
 const OPEN_GATE: u8 = 0xa5;
+
 const CLOSED_GATE: u8 = 0;
+
 const EMPTY: [u8; 9] = *b"qtplant1\0";
 
 /// Records in a file of a disk. A record counts once the gate before it is open, and a gate is opened by a write of its
@@ -73,7 +75,11 @@ impl Journal {
     /// The answer is `Corrupt` where the file begins otherwise than a journal or has fewer than nine bytes, with both
     /// numbers 0, and where a gate is open and no whole record and further gate stand behind it, with the number of the
     /// records before that gate and its place.
-    pub fn load<D: Disk>(alloc: Global, disk: &mut D, file: u64) -> Result<(Journal, Records), JournalRefusal>
+    pub fn load<D: Disk>(
+        alloc: Global,
+        disk: &mut D,
+        file: u64,
+    ) -> Result<(Journal, Records), JournalRefusal>
         ensures records { IfOk result (λ x. IsTrue (D.shown disk.old).tells → Reads ((D.shown disk.old).now file).bytes x.1) }
         ensures keeps { IfOk result (λ x. Keeps (D.shown disk.new) x.0 x.1 None) }
         ensures kept { IfOk result (λ x. IsKept (D.shown disk.new) x.0) }
@@ -186,7 +192,7 @@ fn read_whole<D: Disk>(alloc: Global, disk: &mut D, file: u64) -> Result<Vec<u8>
     ensures counts { LoadCounts (D.shown disk.old) (D.shown disk.new) result }
     ensures no_corrupt { IfCorrupt result (λ _ _. ⊥) }
 {
-    disk.sync(file)?;
+    disk.sync(file)?; // from here on a stop leaves what is read
     let size = disk.size(file)?;
     let mut bytes = vec![in alloc; 0; size as usize]?;
     disk.read(file, 0, bytes.as_mut_slice())?;

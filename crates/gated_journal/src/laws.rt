@@ -7,5 +7,4 @@ pub fn reads_in_one_way()
     ensures once { ReadsOnce }
     ensures not_both { NeverBoth }
     ensures corrupt_once { CorruptOnce }
-{
-}
+{}

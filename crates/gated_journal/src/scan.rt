@@ -11,7 +11,9 @@ use crate::refusal::JournalRefusal;
 use std::alloc::Global;
 
 const MAGIC: [u8; 8] = *b"qtplant1";
+
 const OPEN_GATE: u8 = 0xa5;
+
 const LONGEST_PAYLOAD: u32 = 2_147_483_647;
 
 // Whether the bytes begin as a journal does, and have a gate.

@@ -1,12 +1,12 @@
 -- What a disk in memory is seen as, and how its script decides its calls.
-use Rattle.std.specs.Prelude.{◌≡◌, ◌≢◌, ◌⊎◌, ◌^◌, ◌+◌, ◌-◌, ◌≤◌, ◌==◌, ℕ, if◌then◌else◌, Bool, true, List, [], ◌∷◌, map, drop, length, take, Option, Some, None, Result, Ok, Err}
+use Rattle.std.specs.Prelude.{◌≡◌, ◌≢◌, ◌⊎◌, ◌-◌, ◌==◌, ℕ, if◌then◌else◌, true, List, [], ◌∷◌, map, drop, Option, Some, None, Result, Ok, Err}
 use Rattle.outside_api.specs.Counts.{counted}
-use Rattle.outside_api.specs.Disk.{FileState, DiskView, IsImage, empty_file, kept_file}
+use Rattle.outside_api.specs.Disk.{FileState, DiskView, IsImage, kept_file}
 use Rattle.outside_api.specs.declared.disk.DiskFault.{DiskFault}
 use Rattle.outside_mem.specs.MemFile.{file_in}
 use Rattle.outside_mem.specs.declared.files.Numbered.{Numbered}
 use Rattle.outside_mem.specs.declared.calling.Calling.{Calling}
-use Rattle.outside_mem.specs.declared.calling.Calling.TheVariants.{Succeeds, FailsUndone, FailsDone}
+use Rattle.outside_mem.specs.declared.calling.Calling.TheVariants.{Succeeds, FailsUndone}
 
 pub record MemDiskView : Type 0 where
   pub faults : ℕ

@@ -1,7 +1,6 @@
 -- A file in memory, and the files of a disk in memory.
-use Rattle.std.specs.Prelude.{◌≡◌, ◌≢◌, ◌<◌, ◌≤◌, ◌+◌, ◌^◌, ◌==◌, ℕ, List, [], ◌∷◌, length, get_or, if◌then◌else◌}
-use Rattle.std.specs.List.{AllByRecursion}
-use Rattle.outside_api.specs.Disk.{FileState, IsImage, empty_file}
+use Rattle.std.specs.Prelude.{◌≡◌, ◌≢◌, ◌<◌, ◌==◌, ℕ, List, [], ◌∷◌, length, get_or, if◌then◌else◌}
+use Rattle.outside_api.specs.Disk.{FileState, empty_file}
 use Rattle.outside_mem.specs.declared.files.Numbered.{Numbered}
 
 -- the file of this number: the first one that has it, or one that was never written

@@ -1,5 +1,6 @@
 //! A disk in memory.
 ghost use Rattle.std.specs.Prelude.{◌≡◌, ◌<◌, ◌≤◌, ◌+◌, ◌^◌, [], ◌∷◌, Option, None, Some, IfOk, OnOk, OnErr, IsTrue, length, take, drop};
+ghost use Rattle.outside_api.specs.Counts.{counted};
 ghost use Rattle.outside_mem.specs.MemFile.{file_in};
 ghost use Rattle.outside_mem.specs.MemDisk.{new_disk, shown_by, next_calling, PlaysOn, AreImages};
 
@@ -104,6 +105,21 @@ impl MemDisk {
         self.short
     }
 
+    fn fault(&mut self) -> DiskFault
+        ensures { self.new ≡ record self.old { faults = counted self.old.faults 1 } }
+    {
+        self.faults = self.faults.saturating_add(1);
+        DiskFault
+    }
+
+    // A fault for want of memory.
+    fn short_fault(&mut self) -> DiskFault
+        ensures { self.new ≡ record self.old { faults = counted self.old.faults 1; short = counted self.old.short 1 } }
+    {
+        self.short = self.short.saturating_add(1);
+        self.fault()
+    }
+
     // How this call goes.
     fn next(&mut self) -> Calling
         ensures calling { result ≡ next_calling self.old.left self.old.callings }
@@ -138,8 +154,7 @@ impl Disk for MemDisk {
         ensures goes { GoesFreely self.old self.new result }
     {
         if self.next() != Calling::Succeeds {
-            self.faults = self.faults.saturating_add(1);
-            return Err(DiskFault);
+            return Err(self.fault());
         }
         Ok(self.files.bytes_of(file).len() as u64)
     }
@@ -154,8 +169,7 @@ impl Disk for MemDisk {
         ensures goes { GoesFreely self.old self.new result }
     {
         if self.next() != Calling::Succeeds {
-            self.faults = self.faults.saturating_add(1);
-            return Err(DiskFault);
+            return Err(self.fault());
         }
         let bytes = self.files.bytes_of(file);
         copy_from(bytes, at as usize, buf);
@@ -173,22 +187,16 @@ impl Disk for MemDisk {
         let calling = self.next();
         self.past.push(&self.files);
         if calling == Calling::FailsUndone {
-            self.faults = self.faults.saturating_add(1);
-            return Err(DiskFault);
+            return Err(self.fault());
         }
         if at >= SIZE_LIMIT || bytes.len() as u64 >= SIZE_LIMIT - at {
-            self.short = self.short.saturating_add(1);
-            self.faults = self.faults.saturating_add(1);
-            return Err(DiskFault);
+            return Err(self.short_fault());
         }
         if self.files.write(self.alloc, file, at, bytes).is_err() {
-            self.short = self.short.saturating_add(1);
-            self.faults = self.faults.saturating_add(1);
-            return Err(DiskFault);
+            return Err(self.short_fault());
         }
         if calling == Calling::FailsDone {
-            self.faults = self.faults.saturating_add(1);
-            return Err(DiskFault);
+            return Err(self.fault());
         }
         Ok(())
     }
@@ -203,13 +211,11 @@ impl Disk for MemDisk {
         let calling = self.next();
         self.past.push(&self.files);
         if calling == Calling::FailsUndone {
-            self.faults = self.faults.saturating_add(1);
-            return Err(DiskFault);
+            return Err(self.fault());
         }
         self.files.cut(file, size);
         if calling == Calling::FailsDone {
-            self.faults = self.faults.saturating_add(1);
-            return Err(DiskFault);
+            return Err(self.fault());
         }
         Ok(())
     }
@@ -223,8 +229,7 @@ impl Disk for MemDisk {
         let calling = self.next();
         self.past.push(&self.files);
         if calling != Calling::Succeeds {
-            self.faults = self.faults.saturating_add(1);
-            return Err(DiskFault);
+            return Err(self.fault());
         }
         self.files.sync(file);
         Ok(())

@@ -1,5 +1,5 @@
-use Rattle.std.proofs.Common.{◌≡◌, Bool, IsTrue, subst, sym, ◌∙◌}
-use Rattle.gated_journal.proofs.Loads.{WasThere, synced, still}
+use Rattle.std.proofs.Common.{Bool, IsTrue, subst, sym}
+use Rattle.gated_journal.proofs.Loads.{synced, still}
 use Rattle.gated_journal.proofs.journal.read_whole.Goals as goal
 
 pub returns-in_err-sync-clause-any_moment : goal.returns-in_err-sync-clause-any_moment

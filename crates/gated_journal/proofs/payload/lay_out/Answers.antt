@@ -1,4 +1,4 @@
-use Rattle.std.proofs.Common.{◌≡◌, ℕ, ◌+◌, ◌++◌, [], ◌∷◌, List, length, drop, ap, sym, ◌∙◌, arith}
+use Rattle.std.proofs.Common.{◌≡◌, ℕ, ◌+◌, ◌++◌, [], ◌∷◌, List, length, drop, ap, ◌∙◌, arith}
 use Rattle.std.specs.Int.{w32, to_le_bytes}
 use Rattle.outside_api.specs.Disk.{put}
 use Rattle.gated_journal.proofs.Layouts.{puts}

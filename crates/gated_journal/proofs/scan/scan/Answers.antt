@@ -1,11 +1,11 @@
-use Rattle.std.proofs.Common.{rules, ◌≡◌, ◌∷◌, ◌++◌, ◌+◌, ◌-◌, ◌<◌, ◌≤◌, [], length, length-drop, sym, ap, subst, arith, ◌∙◌, drop, take, List, ℕ, refl}
+use Rattle.std.proofs.Common.{◌≡◌, ◌∷◌, ◌++◌, ◌+◌, ◌-◌, ◌<◌, ◌≤◌, length, length-drop, sym, ap, subst, arith, ◌∙◌, drop, take, List, ℕ}
 use Rattle.std.proofs.lemmas.List.{take_all}
 use Rattle.std.specs.Int.{w32, to_le_bytes}
 use Rattle.std.specs.List.{AllByRecursion}
 use Rattle.gated_journal.specs.Format.{IsBroken, before_gate, open_gate, HasHeader, IsPayload}
 use Rattle.gated_journal.specs.Records.{payloads_in, AreInside}
 use Rattle.gated_journal.specs.declared.records.Span.{Span}
-use Rattle.gated_journal.proofs.Scans.{begins, length-before_none, broken, grown, split_on, place_on, within_on, sized_on}
+use Rattle.gated_journal.proofs.Scans.{begins, length-before_none, broken, split_on, place_on, within_on, sized_on}
 use Rattle.gated_journal.proofs.Spans.{inside_push}
 use Rattle.gated_journal.proofs.scan.scan.Goals as goal
 
@@ -31,7 +31,7 @@ returns-in_default-clause-corrupt c =
     let bytes = c.args.bytes.now in
     let at = c.loop-at.at in
     broken bytes c.loop-at.spans.items at i.within i.split i.place i.sized c.loop-at-test.true (length c.as_slice.result.now) (ap length c.as_slice.ensures.value)
-      (subst (λ (l : List ℕ). IsBroken (open_gate ∷ l)) (rest_of bytes (at + 1) (omega (arith, i.within))) c.in_default.ensures.none)
+    (subst (λ (l : List ℕ). IsBroken (open_gate ∷ l)) (rest_of bytes (at + 1) (omega (arith, i.within))) c.in_default.ensures.none)
 
 pub loop-at-preserved : goal.loop-at-preserved
 loop-at-preserved c =
@@ -50,9 +50,9 @@ loop-at-preserved c =
     record {
       within = fits;
       split = split_on bytes spans at i.within i.split i.place i.sized o len long m.some m.small measure
-        ∙ ap (λ (l : List Span). before_gate (payloads_in bytes l) ++ drop (at + (len + 5)) bytes) (sym e);
+          ∙ ap (λ (l : List Span). before_gate (payloads_in bytes l) ++ drop (at + (len + 5)) bytes) (sym e);
       place = place_on bytes spans at i.within i.split i.place i.sized o len long m.some m.small measure
-        ∙ ap (λ (l : List Span). length (before_gate (payloads_in bytes l))) (sym e);
+          ∙ ap (λ (l : List Span). length (before_gate (payloads_in bytes l))) (sym e);
       sized = subst (λ (l : List Span). AllByRecursion IsPayload (payloads_in bytes l)) (sym e) (sized_on bytes spans at i.within i.split i.place i.sized o len long m.some m.small measure);
       inside = subst (λ (l : List Span). AreInside (length bytes) l) (sym e) (inside_push (length bytes) spans (record { start = at + 5; len = len }) i.inside (omega (arith, fits)));
     }

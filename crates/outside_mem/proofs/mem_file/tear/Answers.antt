@@ -1,4 +1,4 @@
-use Rattle.std.proofs.Common.{◌≡◌, ℕ, ◌∙◌, arith, get_or}
+use Rattle.std.proofs.Common.{◌∙◌}
 use Rattle.outside_mem.proofs.FileLemmas.{outside_at}
 use Rattle.outside_mem.proofs.mem_file.tear.Goals as goal
 

@@ -1,5 +1,5 @@
-use Rattle.std.proofs.Common.{◌≡◌, ◌∷◌, [], List, ℕ, Bool, IsTrue, subst, sym, ap, ◌∙◌, take, None}
-use Rattle.outside_api.specs.Disk.{DiskView, FileState, Passes, IsImage, Cutting, Writing, Syncing, put, kept_file, cut_to, written}
+use Rattle.std.proofs.Common.{◌≡◌, ◌∷◌, [], List, ℕ, Bool, IsTrue, subst, sym, ap, ◌∙◌, None}
+use Rattle.outside_api.specs.Disk.{FileState, put, kept_file}
 use Rattle.gated_journal.specs.Journal.{fresh_bytes}
 use Rattle.gated_journal.proofs.Moments.{passes_one, passes_on}
 use Rattle.gated_journal.proofs.Appends.{held_fresh, put_fresh}

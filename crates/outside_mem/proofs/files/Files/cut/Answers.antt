@@ -1,6 +1,6 @@
-use Rattle.std.proofs.Common.{◌≡◌, ◌≤◌, ◌<◌, ap, ◌∙◌, [], List, ℕ, length, take, min, refl, subst, sym, arith}
+use Rattle.std.proofs.Common.{◌≡◌, ◌≤◌, ◌<◌, ap, ◌∙◌, List, ℕ, length, refl, subst, sym, arith}
 use Rattle.outside_api.specs.Disk.{FileState, cut_to, empty_file}
-use Rattle.outside_mem.specs.MemFile.{IsFirst, file_in}
+use Rattle.outside_mem.specs.MemFile.{IsFirst}
 use Rattle.outside_mem.specs.declared.files.Numbered.{Numbered}
 use Rattle.outside_mem.proofs.FileLemmas.{file_at, changes_over, changes_absent, absent_bytes}
 use Rattle.outside_mem.proofs.files.Files.cut.Goals as goal

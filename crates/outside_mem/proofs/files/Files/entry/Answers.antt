@@ -1,4 +1,4 @@
-use Rattle.std.proofs.Common.{◌≡◌, ap, ◌∙◌, List}
+use Rattle.std.proofs.Common.{ap, ◌∙◌, List}
 use Rattle.outside_mem.specs.MemFile.{file_in}
 use Rattle.outside_mem.specs.declared.files.Numbered.{Numbered}
 use Rattle.outside_mem.proofs.FileLemmas.{file_in-push}

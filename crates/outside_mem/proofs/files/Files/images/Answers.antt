@@ -1,7 +1,5 @@
-use Rattle.std.proofs.Common.{◌≡◌, ◌++◌, ◌∷◌, ◌<◌, ◌≤◌, ◌+◌, [], List, take, length, get_or, refl, sym, ap, subst, ◌∙◌, arith}
+use Rattle.std.proofs.Common.{◌≡◌, ◌++◌, ◌∷◌, ◌<◌, ◌+◌, [], List, take, length, get_or, refl, sym, ap, subst, ◌∙◌, arith}
 use Rattle.std.proofs.lemmas.List.{take_more, take_all}
-use Rattle.outside_mem.specs.MemDisk.{AreImages}
-use Rattle.outside_mem.specs.MemFile.{file_in}
 use Rattle.outside_mem.specs.declared.files.Numbered.{Numbered}
 use Rattle.outside_mem.proofs.FileLemmas.{AllImaged, imaged, imaged_push}
 use Rattle.outside_mem.proofs.files.Files.images.Goals as goal
@@ -20,7 +18,7 @@ loop-entry-preserved c =
     let front : take (i + 1) all ≡ take i all ++ x ∷ [] = take_more all i x less ∙ ap (λ (e : Numbered). take i all ++ e ∷ []) (sym here) in
     let step = imaged_push (take i all) c.loop-entry.entries.items x (record { number = x.number; file = c.of.result }) c.in_ok-image.image.items c.loop-entry.invariant refl c.in_ok-image.ensures.image c.of.ensures in
     subst (λ (l : List Numbered). AllImaged (take (i + 1) all) l) (sym c.in_ok-push.ensures.items)
-      (subst (λ (l : List Numbered). AllImaged l (c.loop-entry.entries.items ++ record { number = x.number; file = c.of.result } ∷ [])) (sym front) step)
+    (subst (λ (l : List Numbered). AllImaged l (c.loop-entry.entries.items ++ record { number = x.number; file = c.of.result } ∷ [])) (sym front) step)
 
 pub returns : goal.returns
 returns c =

@@ -1,4 +1,4 @@
-use Rattle.std.proofs.Common.{◌≡◌, ◌<◌, ap, ◌∙◌, List, length, refl, subst, sym}
+use Rattle.std.proofs.Common.{◌<◌, ◌∙◌, List, length, refl, subst}
 use Rattle.outside_api.specs.Disk.{FileState, kept_file}
 use Rattle.outside_mem.specs.MemFile.{IsFirst}
 use Rattle.outside_mem.specs.declared.files.Numbered.{Numbered}

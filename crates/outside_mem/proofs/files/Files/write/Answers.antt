@@ -1,6 +1,6 @@
-use Rattle.std.proofs.Common.{◌≡◌, ◌≤◌, ◌<◌, ap, ◌∙◌, List, length, refl, subst, sym, OnOk, Result, Ok, Err}
+use Rattle.std.proofs.Common.{◌≤◌, ◌<◌, ◌∙◌, List, length, subst, sym, OnOk, Result, Ok, Err}
 use Rattle.outside_api.specs.Disk.{FileState, written, put}
-use Rattle.outside_mem.specs.MemFile.{IsFirst, file_in, ChangesFile}
+use Rattle.outside_mem.specs.MemFile.{IsFirst}
 use Rattle.outside_mem.specs.declared.files.Numbered.{Numbered}
 use Rattle.outside_mem.proofs.FileLemmas.{file_at, changes_over}
 use Rattle.outside_mem.proofs.files.Files.write.Goals as goal
@@ -23,7 +23,7 @@ returns-clause-ok c =
     let less = subst (λ (l : List Numbered). c.in_ok-i.i < length l) (sym c.self.view_is) c.in_ok-i.ensures.within in
     let first = subst (λ (l : List Numbered). IsFirst l c.args.number c.in_ok-i.i) (sym c.self.view_is) c.in_ok-i.ensures.first in
     on_ok c.write.result _ _
-      (changes_over c.args.self.now es c.entry.new.self c.args.number c.in_ok-i.i c.index_mut.result.now c.write.new.self
-        (λ (f : FileState). written f c.args.at (length c.args.bytes.now) (put f.bytes c.args.at c.args.bytes.now))
-        c.in_ok-i.ensures.same c.self.view_is less first c.index_mut.ensures.value)
-      c.write.ensures.ok
+    (changes_over c.args.self.now es c.entry.new.self c.args.number c.in_ok-i.i c.index_mut.result.now c.write.new.self
+    (λ (f : FileState). written f c.args.at (length c.args.bytes.now) (put f.bytes c.args.at c.args.bytes.now))
+    c.in_ok-i.ensures.same c.self.view_is less first c.index_mut.ensures.value)
+    c.write.ensures.ok
