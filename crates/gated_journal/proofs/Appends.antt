@@ -9,7 +9,7 @@ use Rattle.gated_journal.specs.Steps.{HasShut, HasAny, StaysShut, StaysAjar, Kee
 use Rattle.gated_journal.specs.declared.state.State.{State}
 use Rattle.gated_journal.specs.declared.state.State.TheVariants.{Clean, BodyFailed, GateFailed}
 use Rattle.gated_journal.proofs.Moments.{passes_on, passes_weaker}
-use Rattle.gated_journal.proofs.Images.{shut_images, ajar_images, put_gate, staged, closed}
+use Rattle.gated_journal.proofs.Images.{shut_images, shut_bytes, ajar_images, put_gate, staged, closed}
 use Rattle.gated_journal.proofs.Halves.{shut_one_sync}
 use Rattle.gated_journal.proofs.Reading.{reads_shut, reads_any, sized_push, length-push, opened}
 
@@ -31,10 +31,10 @@ holds_shut file end at records is sized s image i = reads_shut records image siz
 
 -- a shut gate, as a clean journal or one whose body failed holds it
 pub held_clean : (file end : ℕ) (at : FileState) (records : List (List ℕ)) → end ≡ length (before_gate records) → AllByRecursion IsPayload records → IsShut at (before_gate records) end → Holds (view_of file end Clean) at records None
-held_clean file end at records is sized s = record { end = is; sized = sized; stands = s; images = holds_shut file end at records is sized s }
+held_clean file end at records is sized s = record { end = is; sized = sized; stands = s; reads = reads_shut records at.bytes sized (shut_bytes (before_gate records) end (sym is) at s); images = holds_shut file end at records is sized s }
 
 pub held_failed : (file end : ℕ) (at : FileState) (records : List (List ℕ)) → end ≡ length (before_gate records) → AllByRecursion IsPayload records → IsShut at (before_gate records) end → Holds (view_of file end BodyFailed) at records None
-held_failed file end at records is sized s = record { end = is; sized = sized; stands = s; images = holds_shut file end at records is sized s }
+held_failed file end at records is sized s = record { end = is; sized = sized; stands = s; reads = reads_shut records at.bytes sized (shut_bytes (before_gate records) end (sym is) at s); images = holds_shut file end at records is sized s }
 
 module _ (file end : ℕ) (records : List (List ℕ)) where
   told : (old new : DiskView) → new.tells ≡ old.tells → IsTrue new.tells → IsTrue old.tells
@@ -57,7 +57,7 @@ module _ (file end : ℕ) (records : List (List ℕ)) where
 
   held_ajar : (payload : List ℕ) → IsPayload payload → (at : FileState) → end ≡ length (before_gate records) → AllByRecursion IsPayload records → IsAjar at (before_gate records) end (body payload) → Holds (view_of file end GateFailed) at records (Some payload)
   held_ajar payload one at is sized a =
-      record { end = is; sized = sized; stands = (one, a); images = λ image i. reads_any records payload image sized one (ajar_images (before_gate records) end (sym is) (body payload) at a image i) }
+      record { end = is; sized = sized; stands = (one, a); reads = reads_any records payload at.bytes sized one (record { gate = a.gate; rest = a.rest; split = a.bytes }); images = λ image i. reads_any records payload image sized one (ajar_images (before_gate records) end (sym is) (body payload) at a image i) }
 
   module _ (payload : List ℕ) (one : IsPayload payload) where
     -- the second half, behind a first one that succeeded

@@ -53,6 +53,15 @@ module _ (front : List ℕ) (end : ℕ) (sized : length front ≡ end) where
         split = sym (take-append-drop (end + 1) image) ∙ ap (λ (l : List ℕ). l ++ drop (end + 1) image) (same ∙ s.bytes) ∙ append_assoc front (s.gate ∷ []) (drop (end + 1) image);
       }
 
+  -- so is what reads give
+  pub shut_bytes : (file : FileState) → IsShut file front end → HasShut front file.bytes
+  shut_bytes file s = record {
+    gate = s.gate;
+    rest = drop (end + 1) file.bytes;
+    shut = s.shut;
+    split = sym (take-append-drop (end + 1) file.bytes) ∙ ap (λ (l : List ℕ). l ++ drop (end + 1) file.bytes) s.bytes ∙ append_assoc front (s.gate ∷ []) (drop (end + 1) file.bytes);
+  }
+
   -- whatever was written behind the gate, whether that failed or not
   shut_by : (old new : FileState) → IsShut old front end → take (end + 1) new.bytes ≡ take (end + 1) old.bytes → old.least ≤ new.least → StartsFrom (end + 1) new.unsynced → IsShut new front end
   shut_by old new s same long starts = record { gate = s.gate; shut = s.shut; bytes = same ∙ s.bytes; long = omega (arith, s.long, long); unsynced = starts }

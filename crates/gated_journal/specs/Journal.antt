@@ -55,6 +55,7 @@ pub record Holds (journal : JournalView) (file : FileState) (records : List (Lis
   pub end : journal.end ≡ length (before_gate records)
   pub sized : AllByRecursion IsPayload records
   pub stands : Stands journal.state file (before_gate records) journal.end late
+  pub reads : MayRead records late file.bytes
   pub images : (image : List ℕ) → IsImage file image → MayRead records late image
 
 -- the same of the journal's file on a disk, where the disk tells
