@@ -1,4 +1,5 @@
 pub mod Counts
+pub mod Disk
 pub mod Link
 pub mod Outside
 pub mod Told

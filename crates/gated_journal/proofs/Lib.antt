@@ -1,0 +1,10 @@
+pub mod Appends
+pub mod Halves
+pub mod Images
+pub mod Layouts
+pub mod Loads
+pub mod Moments
+pub mod Reading
+pub mod Scans
+pub mod Spans
+pub mod Unique

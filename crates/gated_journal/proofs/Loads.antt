@@ -1,0 +1,46 @@
+-- What a load leaves.
+use Rattle.std.proofs.Common.{◌≡◌, ◌⊎◌, inl, inr, ℕ, ◌+◌, List, [], ◌∷◌, ◌++◌, length, take, sym, ◌∙◌, ap, subst, arith, append_assoc, length-append, Result, Ok, Err, None}
+use Rattle.std.proofs.lemmas.List.{take_at, ext_get_or}
+use Rattle.outside_api.specs.declared.disk.DiskFault.{DiskFault}
+use Rattle.outside_api.specs.Disk.{FileState, DiskView, IsImage, Changes, Passes, Syncing, kept_file}
+use Rattle.gated_journal.specs.Format.{before_gate, Reads, IsEnd}
+use Rattle.gated_journal.specs.Journal.{IsShut, Holds}
+use Rattle.gated_journal.specs.declared.state.State.TheVariants.{Clean}
+use Rattle.gated_journal.proofs.Moments.{passes_one, passes_on, passes_still}
+use Rattle.gated_journal.proofs.Appends.{view_of, held_clean}
+
+-- a file of which everything is kept has one image
+pub kept_image : (bytes image : List ℕ) → IsImage (kept_file bytes) image → image ≡ bytes
+kept_image bytes image is =
+    ext_get_or 0 image bytes (omega (arith, is.no_shorter, is.no_longer)) (λ k less. is.agrees k (omega (arith, less, is.no_longer)) tt)
+
+abbrev pub WasThere : FileState → List ℕ → Type 0
+WasThere file image = IsImage file image ⊎ (image ≡ file.bytes)
+
+sync_images : {T : Type 0} (result : Result T DiskFault) (old new : FileState) → Syncing result old new → (image : List ℕ) → IsImage new image → WasThere old image
+sync_images (Ok x) old new w image is = inr (kept_image old.bytes image (subst (λ (f : FileState). IsImage f image) w is))
+sync_images (Err e) old new w image is = inl (subst (λ (f : FileState). IsImage f image) w is)
+
+pub synced : {T : Type 0} (old new : DiskView) (file : ℕ) (result : Result T DiskFault) → Changes old new file (Syncing result) → Passes old new file (WasThere (old.now file))
+synced old new file result changes = passes_one old new file (Syncing result) (WasThere (old.now file)) changes (sync_images result (old.now file) (new.now file) changes.changed)
+
+pub still : (old mid new : DiskView) (file : ℕ) (P : List ℕ → Type 0) → Passes old mid file P → (new.now ≡ mid.now) × (new.past ≡ mid.past) → Passes old new file P
+still old mid new file P a same = passes_on old mid new file P a (passes_still mid new file P same.0 same.1)
+
+shut_of_rest : (bytes front rest : List ℕ) (end : ℕ) → length front ≡ end → bytes ≡ front ++ rest → IsEnd rest → IsShut (kept_file bytes) front end
+shut_of_rest bytes front [] end sized split ends = absurd ends
+shut_of_rest bytes front (gate ∷ rest) end sized split ends =
+    let size : length (front ++ gate ∷ []) ≡ end + 1 = omega (arith, length-append front (gate ∷ []), sized) in
+    record {
+      gate = gate;
+      shut = ends;
+      bytes = ap (take (end + 1)) (split ∙ sym (append_assoc front (gate ∷ []) rest)) ∙ take_at (front ++ gate ∷ []) rest (end + 1) size;
+      long = omega (arith, ap length split, length-append front (gate ∷ rest), sized);
+      unsynced = tt;
+    }
+
+-- a file that holds these records, all of it kept
+pub held_loaded : (file end : ℕ) (at : FileState) (bytes : List ℕ) (records : List (List ℕ)) → at ≡ kept_file bytes → Reads bytes records → end ≡ length (before_gate records) → Holds (view_of file end Clean) at records None
+held_loaded file end at bytes records is reads place =
+    held_clean file end at records place reads.sized
+    (subst (λ (f : FileState). IsShut f (before_gate records) end) (sym is) (shut_of_rest bytes (before_gate records) reads.rest end (sym place) reads.split reads.ends))

@@ -1,0 +1,226 @@
+// A journal: its records in a file, and how they are added.
+ghost use Rattle.std.specs.Prelude.{◌≡◌, ◌≢◌, ◌<◌, ◌≤◌, ◌+◌, ◌^◌, ◌↔◌, ◌++◌, [], ◌∷◌, List, Option, Some, None, ℕ, IsTrue, length, IfOk, OnOk, OnErr};
+ghost use Rattle.outside_api.specs.Disk.{Counts, IsWithin, Passes, put, kept_file};
+ghost use Rattle.gated_journal.specs.Steps.{KeepsShut, KeepsAjar};
+ghost use Rattle.gated_journal.specs.Format.{Reads, IsCorrupt};
+ghost use Rattle.gated_journal.specs.Load.{LoadCounts, IfCorrupt, KeepsImages};
+ghost use Rattle.gated_journal.specs.Journal.{Keeps, IsKept, MayRead, late_of, appended, mended, fresh_bytes};
+
+use crate::payload::Payload;
+use crate::records::Records;
+use crate::refusal::JournalRefusal;
+use crate::scan::scan;
+use crate::state::State;
+use outside_api::{Disk, DiskFault};
+use std::alloc::Global;
+use std::marker::Model;
+
+const OPEN_GATE: u8 = 0xa5;
+
+const CLOSED_GATE: u8 = 0;
+
+const EMPTY: [u8; 9] = *b"qtplant1\0";
+
+/// Records in a file of a disk. A record counts once the gate before it is open, and a gate is opened by a write of its
+/// own, behind a sync of the record and of the closed gate that stands behind it.
+///
+/// The journal doesn't hold the disk: each call is given it, and nobody else may write the journal's file. Where the
+/// disk tells what it holds, `Keeps` says which records the file has, now and in each image that a stop may leave.
+#[derive(Debug, Drop)]
+pub struct Journal {
+    file: u64,
+    end: u64,
+    state: State,
+}
+
+impl Model for Journal {
+    ghost use Rattle.std.specs.Prelude.{◌<◌, ◌^◌};
+    ghost use Rattle.gated_journal.specs.Journal.{JournalView};
+
+    ghost Value = { JournalView };
+
+    ghost view = { λ j. record { file = j.file; end = j.end; state = j.state } };
+
+    ghost invariant = { λ j. j.end < 2 ^ 63 };
+}
+
+impl Journal {
+    ghost use Rattle.gated_journal.specs.Journal.{JournalView};
+
+    /// Makes the file an empty journal, whatever it held: cuts it to nothing, writes the magic and a closed gate, and
+    /// syncs. It takes no memory.
+    ///
+    /// A stop within this call may leave any bytes in the file.
+    pub fn fresh<D: Disk>(disk: &mut D, file: u64) -> Result<Journal, DiskFault>
+        ensures journal { IfOk result (λ j. j ≡ record { file = file; end = 8; state = State.Clean }) }
+        ensures keeps { IfOk result (λ j. Keeps (D.shown disk.new) j [] None) }
+        ensures kept { IfOk result (λ j. IsKept (D.shown disk.new) j) }
+        ensures bytes { OnOk result (IsTrue (D.shown disk.old).tells → (D.shown disk.new).now file ≡ kept_file fresh_bytes) }
+        ensures any_moment { IsTrue (D.shown disk.old).tells → Passes (D.shown disk.old) (D.shown disk.new) file (λ _. Unit {0}) }
+        ensures counts { Counts (D.shown disk.old) (D.shown disk.new) result }
+    {
+        disk.cut(file, 0)?;
+        disk.write_at(file, 0, &EMPTY)?;
+        disk.sync(file)?;
+        Ok(Journal {
+            file,
+            end: 8,
+            state: State::Clean,
+        })
+    }
+
+    /// Reads the records of a journal, behind a sync, and gives them with the journal, which is clean. The file reads as
+    /// before. Time and memory go with the size of the file.
+    ///
+    /// The answer is `Corrupt` where the file begins otherwise than a journal or has fewer than nine bytes, with both
+    /// numbers 0, and where a gate is open and no whole record and further gate stand behind it, with the number of the
+    /// records before that gate and its place.
+    pub fn load<D: Disk>(
+        alloc: Global,
+        disk: &mut D,
+        file: u64,
+    ) -> Result<(Journal, Records), JournalRefusal>
+        ensures records { IfOk result (λ x. IsTrue (D.shown disk.old).tells → Reads ((D.shown disk.old).now file).bytes x.1) }
+        ensures keeps { IfOk result (λ x. Keeps (D.shown disk.new) x.0 x.1 None) }
+        ensures kept { IfOk result (λ x. IsKept (D.shown disk.new) x.0) }
+        ensures file { IfOk result (λ x. x.0.file ≡ file) }
+        ensures clean { IfOk result (λ x. x.0.state ≡ State.Clean) }
+        ensures corrupt { IfCorrupt result (λ records bytes. IsTrue (D.shown disk.old).tells
+            → IsCorrupt ((D.shown disk.old).now file).bytes records bytes) }
+        ensures synced { OnOk result (IsTrue (D.shown disk.old).tells
+            → (D.shown disk.new).now file ≡ kept_file ((D.shown disk.old).now file).bytes) }
+        ensures bytes { IsTrue (D.shown disk.old).tells → ((D.shown disk.new).now file).bytes ≡ ((D.shown disk.old).now file).bytes }
+        ensures any_moment { KeepsImages (D.shown disk.old) (D.shown disk.new) file }
+        ensures counts { LoadCounts (D.shown disk.old) (D.shown disk.new) result }
+    {
+        let bytes = read_whole(alloc, disk, file)?;
+        let (end, spans) = scan(alloc, bytes.as_slice())?;
+        let journal = Journal {
+            file,
+            end: end as u64,
+            state: State::Clean,
+        };
+        Ok((journal, Records::of(bytes, spans)))
+    }
+
+    /// Whether the last append or mend succeeded. Else the journal has to be mended before the next append.
+    pub fn is_clean(&self) -> bool
+        ensures { IsTrue result ↔ (self.now.state ≡ State.Clean) }
+    {
+        self.state == State::Clean
+    }
+
+    /// Adds a record: four calls of the disk, no memory, and no copy of the payload.
+    ///
+    /// After a fault the records are as before, and the journal isn't clean.
+    pub fn append<D: Disk>(&mut self, disk: &mut D, payload: &Payload) -> Result<(), DiskFault>
+        requires clean { self.old.state ≡ State.Clean }
+        requires some { 0 < length payload.now.bytes }
+        requires kept { IsKept (D.shown disk.old) self.old }
+
+        ensures added { OnOk result ((records : List (List ℕ)) → Keeps (D.shown disk.old) self.old records None
+            → Keeps (D.shown disk.new) self.new (records ++ payload.now.bytes ∷ []) None) }
+        ensures failed { OnErr result ((records : List (List ℕ)) → Keeps (D.shown disk.old) self.old records None
+            → Keeps (D.shown disk.new) self.new records (late_of self.new.state payload.now.bytes)) }
+
+        // At each moment of the call each image has the records from before it, or these and the new one.
+        ensures any_moment { (records : List (List ℕ)) → Keeps (D.shown disk.old) self.old records None → IsTrue (D.shown disk.old).tells
+            → Passes (D.shown disk.old) (D.shown disk.new) self.old.file (MayRead records (Some payload.now.bytes)) }
+
+        ensures bytes { OnOk result (IsTrue (D.shown disk.old).tells → (D.shown disk.new).now self.old.file
+            ≡ kept_file (appended ((D.shown disk.old).now self.old.file).bytes self.old.end payload.now.bytes)) }
+        ensures kept { IsKept (D.shown disk.new) self.new }
+        ensures clean { OnOk result (self.new.state ≡ State.Clean) }
+        ensures unclean { OnErr result (self.new.state ≢ State.Clean) }
+        ensures file { self.new.file ≡ self.old.file }
+        ensures counts { Counts (D.shown disk.old) (D.shown disk.new) result }
+    {
+        let body = payload.body();
+        self.state = State::BodyFailed;
+        write_behind(disk, self.file, self.end, body)?;
+        self.state = State::GateFailed;
+        write_gate(disk, self.file, self.end, OPEN_GATE)?;
+        self.state = State::Clean;
+        self.end += body.len() as u64;
+        Ok(())
+    }
+
+    /// Makes the journal clean, with the records that it had. Where the last gate may stand open it is closed and synced;
+    /// else the file is synced. It takes no memory.
+    ///
+    /// After a fault the journal isn't clean.
+    pub fn mend<D: Disk>(&mut self, disk: &mut D) -> Result<(), DiskFault>
+        requires { IsKept (D.shown disk.old) self.old }
+
+        ensures mended { OnOk result ((records : List (List ℕ)) (late : Option (List ℕ)) → Keeps (D.shown disk.old) self.old records late
+            → Keeps (D.shown disk.new) self.new records None) }
+        ensures failed { OnErr result ((records : List (List ℕ)) (late : Option (List ℕ)) → Keeps (D.shown disk.old) self.old records late
+            → Keeps (D.shown disk.new) self.new records late) }
+
+        // At each moment of the call each image has what one before it might have.
+        ensures any_moment { (records : List (List ℕ)) (late : Option (List ℕ)) → Keeps (D.shown disk.old) self.old records late
+            → IsTrue (D.shown disk.old).tells → Passes (D.shown disk.old) (D.shown disk.new) self.old.file (MayRead records late) }
+
+        ensures bytes { OnOk result (IsTrue (D.shown disk.old).tells → (D.shown disk.new).now self.old.file
+            ≡ kept_file (mended self.old.state ((D.shown disk.old).now self.old.file).bytes self.old.end)) }
+        ensures kept { IsKept (D.shown disk.new) self.new }
+        ensures clean { OnOk result (self.new.state ≡ State.Clean) }
+        ensures unclean { OnErr result (self.new.state ≢ State.Clean) }
+        ensures same { self.new ≡ record self.old { state = self.new.state } }
+        ensures counts { Counts (D.shown disk.old) (D.shown disk.new) result }
+    {
+        match self.state {
+            State::GateFailed => write_gate(disk, self.file, self.end, CLOSED_GATE)?,
+            State::Clean | State::BodyFailed => {
+                self.state = State::BodyFailed;
+                disk.sync(self.file)?;
+            }
+        }
+        self.state = State::Clean;
+        Ok(())
+    }
+}
+
+// The bytes of a file, behind a sync.
+fn read_whole<D: Disk>(alloc: Global, disk: &mut D, file: u64) -> Result<Vec<u8>, JournalRefusal>
+    ensures bytes { IfOk result (λ b. IsTrue (D.shown disk.old).tells → b.items ≡ ((D.shown disk.old).now file).bytes) }
+    ensures small { IfOk result (λ b. length b.items < 2 ^ 63) }
+    ensures synced { OnOk result (IsTrue (D.shown disk.old).tells
+        → (D.shown disk.new).now file ≡ kept_file ((D.shown disk.old).now file).bytes) }
+    ensures same { IsTrue (D.shown disk.old).tells → ((D.shown disk.new).now file).bytes ≡ ((D.shown disk.old).now file).bytes }
+    ensures any_moment { KeepsImages (D.shown disk.old) (D.shown disk.new) file }
+    ensures counts { LoadCounts (D.shown disk.old) (D.shown disk.new) result }
+    ensures no_corrupt { IfCorrupt result (λ _ _. ⊥) }
+{
+    disk.sync(file)?; // from here on a stop leaves what is read
+    let size = disk.size(file)?;
+    let mut bytes = vec![in alloc; 0; size as usize]?;
+    disk.read(file, 0, bytes.as_mut_slice())?;
+    Ok(bytes)
+}
+
+// Writes behind the last gate, and syncs.
+fn write_behind<D: Disk>(disk: &mut D, file: u64, end: u64, body: &[u8]) -> Result<(), DiskFault>
+    requires small { end < 2 ^ 63 }
+    requires within { IsWithin (D.shown disk.old) file (end + 1) 0 }
+    ensures small { OnOk result (end + 1 + length body.now < 2 ^ 63) }
+    ensures shut { KeepsShut (D.shown disk.old) (D.shown disk.new) file end }
+    ensures kept { OnOk result (IsTrue (D.shown disk.old).tells →
+        (D.shown disk.new).now file ≡ kept_file (put ((D.shown disk.old).now file).bytes (end + 1) body.now)) }
+    ensures counts { Counts (D.shown disk.old) (D.shown disk.new) result }
+{
+    disk.write_at(file, end + 1, body)?;
+    disk.sync(file)
+}
+
+// Writes the last gate, and syncs.
+fn write_gate<D: Disk>(disk: &mut D, file: u64, end: u64, gate: u8) -> Result<(), DiskFault>
+    requires within { IsWithin (D.shown disk.old) file end 0 }
+    ensures ajar { KeepsAjar (D.shown disk.old) (D.shown disk.new) file end }
+    ensures kept { OnOk result (IsTrue (D.shown disk.old).tells →
+        (D.shown disk.new).now file ≡ kept_file (put ((D.shown disk.old).now file).bytes end (gate ∷ []))) }
+    ensures counts { Counts (D.shown disk.old) (D.shown disk.new) result }
+{
+    disk.write_at(file, end, &[gate])?;
+    disk.sync(file)
+}

@@ -1,0 +1,91 @@
+// The payload of a record, as an append writes it.
+ghost use Rattle.std.specs.Prelude.{◌≡◌, ◌<◌, ◌≤◌, ◌+◌, ◌++◌, [], ◌∷◌, length, take, drop, IfOk};
+ghost use Rattle.gated_journal.specs.Format.{longest_payload, measured, closed_gate};
+ghost use Rattle.outside_api.specs.Disk.{put};
+
+use q_values::NoMemory;
+use std::alloc::Global;
+use std::marker::Model;
+
+/// The payload of a record, with room for so many bytes. It stands between its length and a closed gate, so that one
+/// write sends all three and copies nothing.
+#[derive(Drop)]
+pub struct Payload {
+    buffer: Vec<u8>,
+    len: usize,
+}
+
+impl Model for Payload {
+    ghost use Rattle.std.specs.Prelude.{◌≡◌, ◌<◌, ◌≤◌, ◌+◌, ◌-◌, ◌++◌, [], ◌∷◌, length, take, drop};
+    ghost use Rattle.gated_journal.specs.Format.{longest_payload, measured, closed_gate};
+    ghost use Rattle.gated_journal.specs.Payload.{PayloadView};
+
+    ghost Value = { PayloadView };
+
+    ghost view = { λ p. record { bytes = take p.len (drop 4 p.buffer.items); room = length p.buffer.items - 5 } };
+
+    ghost invariant = { λ p. (p.len + 5 ≤ length p.buffer.items) × (length p.buffer.items ≤ longest_payload + 5)
+        × (0 < p.len → take (p.len + 5) p.buffer.items ≡ measured (take p.len (drop 4 p.buffer.items)) ++ closed_gate ∷ []) };
+}
+
+impl Payload {
+    /// An empty payload with room for so many bytes, at most 2,147,483,647.
+    pub fn with_room(alloc: Global, room: u32) -> Result<Payload, NoMemory>
+        requires { room ≤ longest_payload }
+        ensures bytes { IfOk result (λ p. p.bytes ≡ []) }
+        ensures room { IfOk result (λ p. p.room ≡ room) }
+    {
+        Ok(Payload {
+            buffer: vec![in alloc; 0; room as usize + 5]?,
+            len: 0,
+        })
+    }
+
+    /// The payload is these bytes, from 1 to its room. It takes no memory.
+    pub fn fill(&mut self, bytes: &[u8])
+        requires some { 0 < length bytes.now }
+        requires within { length bytes.now ≤ self.old.room }
+        ensures bytes { self.new.bytes ≡ bytes.now }
+        ensures room { self.new.room ≡ self.old.room }
+    {
+        let len = bytes.len();
+        lay_out(self.buffer.as_mut_slice(), bytes);
+        self.len = len;
+    }
+
+    /// The number of its bytes.
+    pub fn len(&self) -> usize
+        ensures { result ≡ length self.now.bytes }
+    {
+        self.len
+    }
+
+    // Its length, its bytes and a closed gate.
+    pub fn body(&self) -> &[u8]
+        requires { 0 < length self.now.bytes }
+        ensures body { result.now ≡ measured self.now.bytes ++ closed_gate ∷ [] }
+        ensures within { length self.now.bytes ≤ longest_payload }
+    {
+        &self.buffer[..self.len + 5]
+    }
+}
+
+// Puts bytes at a place of the buffer.
+fn put_at(buffer: &mut [u8], at: usize, bytes: &[u8])
+    requires { at + length bytes.now ≤ length buffer.old }
+    ensures { buffer.new ≡ put buffer.old at bytes.now }
+{
+    buffer[at..at + bytes.len()].copy_from_slice(bytes);
+}
+
+// Puts the length, the bytes and a closed gate at the front of the buffer.
+fn lay_out(buffer: &mut [u8], bytes: &[u8])
+    requires within { length bytes.now + 5 ≤ length buffer.old }
+    requires short { length bytes.now ≤ longest_payload }
+    ensures { buffer.new ≡ (measured bytes.now ++ closed_gate ∷ []) ++ drop (length bytes.now + 5) buffer.old }
+{
+    let size = bytes.len();
+    put_at(buffer, 0, &(size as u32).to_le_bytes());
+    put_at(buffer, 4, bytes);
+    put_at(buffer, size + 4, &[0]);
+}

@@ -1,0 +1,137 @@
+-- Ranges of a file in memory, and files by their number.
+use Rattle.std.proofs.Common.{◌≡◌, ◌≢◌, ◌⊎◌, inl, inr, ◌<◌, ◌≤◌, ◌+◌, ℕ, zero, suc, List, [], ◌∷◌, ◌++◌, length, get_or, set, refl, sym, ◌∙◌, ap, subst, arith}
+use Rattle.std.proofs.lemmas.Bool.{cases_eq}
+use Rattle.std.proofs.lemmas.Bool.Decides.{nat_tests}
+use Rattle.outside_api.specs.Disk.{IsOutside, IsImage, FileState, empty_file, kept_file}
+use Rattle.outside_mem.specs.MemFile.{file_in, ChangesFile, IsFirst, IsAbsent, IsAbsentBefore}
+use Rattle.outside_mem.specs.MemDisk.{AreImages}
+use Rattle.outside_mem.specs.declared.files.Numbered.{Numbered}
+
+-- a place outside all ranges lies outside each
+pub outside_at : (j : ℕ) (ranges : List (ℕ × ℕ)) (i : ℕ) (d : ℕ × ℕ) → i < length ranges → IsOutside j ranges → (j < (get_or ranges i d).0) ⊎ ((get_or ranges i d).0 + (get_or ranges i d).1 ≤ j)
+outside_at j [] i d less all = absurd (omega arith)
+outside_at j (range ∷ ranges) zero d less all = all.0
+outside_at j (range ∷ ranges) (suc i) d less all = outside_at j ranges i d (omega arith) all.1
+
+file_in-here : (e : Numbered) (es : List Numbered) (n : ℕ) → e.number ≡ n → file_in (e ∷ es) n ≡ e.file
+unfolding file_in
+file_in-here e es n is = rw (is) (grind (arith, nat_tests))
+
+file_in-there : (e : Numbered) (es : List Numbered) (n : ℕ) → e.number ≢ n → file_in (e ∷ es) n ≡ file_in es n
+unfolding file_in
+file_in-there e es n apart = grind (arith, nat_tests)
+
+later : (e : Numbered) (es : List Numbered) (n i : ℕ) → IsAbsentBefore (e ∷ es) n (suc i) → IsAbsentBefore es n i
+later e es n i absent k d less within = absent (suc k) d (omega arith) (omega arith)
+
+-- the first of a number is its file
+pub file_in-first : (es : List Numbered) (n i : ℕ) (d : Numbered) → i < length es → IsFirst es n i → file_in es n ≡ (get_or es i d).file
+file_in-first [] n i d less first = absurd (omega arith)
+file_in-first (e ∷ es) n zero d less first = file_in-here e es n (first.1 d)
+file_in-first (e ∷ es) n (suc i) d less first =
+    file_in-there e es n (first.0 0 d (omega arith) (omega arith)) ∙ file_in-first es n i d (omega arith) (later e es n i first.0, first.1)
+
+pub file_in-absent : (es : List Numbered) (n : ℕ) → IsAbsent es n → file_in es n ≡ empty_file
+unfolding file_in
+file_in-absent [] n absent = refl
+file_in-absent (e ∷ es) n absent = file_in-there e es n (absent 0 e (omega arith) (omega arith)) ∙ file_in-absent es n (later e es n (length es) absent)
+
+-- an empty file more changes nothing
+pub file_in-push : (es : List Numbered) (e : Numbered) → e.file ≡ empty_file → (k : ℕ) → file_in (es ++ e ∷ []) k ≡ file_in es k
+unfolding file_in
+file_in-push [] e is k = elim (cases_eq e.number k) [
+  | inl same ↦ file_in-here e [] k same ∙ is
+  | inr apart ↦ file_in-there e [] k apart
+]
+file_in-push (x ∷ es) e is k = elim (cases_eq x.number k) [
+  | inl same ↦ file_in-here x (es ++ e ∷ []) k same ∙ sym (file_in-here x es k same)
+  | inr apart ↦ file_in-there x (es ++ e ∷ []) k apart ∙ file_in-push es e is k ∙ sym (file_in-there x es k apart)
+]
+
+pub first_push : (es : List Numbered) (e : Numbered) (n : ℕ) → IsAbsent es n → e.number ≡ n → IsFirst (es ++ e ∷ []) n (length es)
+first_push [] e n absent is = ((λ k d less within. absurd (omega arith)), (λ d. is))
+first_push (x ∷ es) e n absent is =
+    let rest = first_push es e n (later x es n (length es) absent) is in
+    (go rest.0, rest.1)
+  where
+    go : IsAbsentBefore (es ++ e ∷ []) n (length es) → IsAbsentBefore (x ∷ (es ++ e ∷ [])) n (suc (length es))
+    go before zero d less within = absent zero d (omega arith) (omega arith)
+    go before (suc k) d less within = before k d (omega arith) (omega arith)
+
+-- another file at the first of a number
+pub changes_first : (es : List Numbered) (n i : ℕ) (e : Numbered) → i < length es → IsFirst es n i → e.number ≡ n → ChangesFile (file_in es) (file_in (set es i e)) n e.file
+changes_first [] n i e less first is = absurd (omega arith)
+changes_first (x ∷ es) n zero e less first is = record {
+  changed = file_in-here e es n is;
+  others = λ k apart. file_in-there e es k (λ same. apart (sym same ∙ is)) ∙ sym (file_in-there x es k (λ same. apart (sym same ∙ first.1 x)));
+}
+changes_first (x ∷ es) n (suc i) e less first is =
+    let rest = changes_first es n i e (omega arith) (later x es n i first.0, first.1) is in
+    let apart_x : x.number ≢ n = first.0 0 x (omega arith) (omega arith) in
+    record {
+      changed = file_in-there x (set es i e) n apart_x ∙ rest.changed;
+      others = λ k apart. elim (cases_eq x.number k) [
+        | inl same ↦ file_in-here x (set es i e) k same ∙ sym (file_in-here x es k same)
+        | inr not ↦ file_in-there x (set es i e) k not ∙ rest.others k apart ∙ sym (file_in-there x es k not)
+      ];
+    }
+
+-- the entry at the first place of a number has its file
+pub file_at : (es now : List Numbered) (n i : ℕ) (e : Numbered) → es ≡ now → i < length es → IsFirst es n i → e ≡ get_or es i e → e.file ≡ file_in now n
+file_at es now n i e same less first is = ap (λ (x : Numbered). x.file) is ∙ sym (file_in-first es n i e less first) ∙ ap (λ (l : List Numbered). file_in l n) same
+
+pub changes_at : (es now : List Numbered) (n i : ℕ) (e : Numbered) (old new : FileState) → es ≡ now → i < length es → IsFirst es n i → e ≡ get_or es i e → old ≡ new → ChangesFile (file_in now) (file_in (set es i (record { number = e.number; file = old }))) n new
+changes_at es now n i e old new same less first is sets =
+    let number : e.number ≡ n = ap (λ (x : Numbered). x.number) is ∙ first.1 e in
+    let step = changes_first es n i (record { number = e.number; file = old }) less first number in
+    record {
+      changed = step.changed ∙ sets;
+      others = λ k apart. step.others k apart ∙ ap (λ (l : List Numbered). file_in l k) same;
+    }
+
+-- a file that isn't there is left as it is
+pub changes_absent : (es now : List Numbered) (n : ℕ) (step : FileState → FileState) → es ≡ now → IsAbsent es n → step empty_file ≡ empty_file → ChangesFile (file_in now) (file_in now) n (step (file_in now n))
+changes_absent es now n step same absent still =
+    let none : file_in now n ≡ empty_file = ap (λ (l : List Numbered). file_in l n) (sym same) ∙ file_in-absent es n absent in
+    record { changed = none ∙ sym still ∙ ap step (sym none); others = λ k apart. refl }
+
+pub absent_bytes : (es now : List Numbered) (n : ℕ) → es ≡ now → IsAbsent es n → [] ≡ (file_in now n).bytes
+absent_bytes es now n same absent = sym (ap (λ (l : List Numbered). (file_in l n).bytes) (sym same) ∙ ap (λ (f : FileState). f.bytes) (file_in-absent es n absent))
+
+-- a write of the first of a number, in files that read as others do
+pub changes_over : (old es now : List Numbered) (n i : ℕ) (e : Numbered) (made : FileState) (step : FileState → FileState) → ((k : ℕ) → file_in now k ≡ file_in old k) → es ≡ now → i < length es → IsFirst es n i → e ≡ get_or es i e → made ≡ step e.file
+    → ChangesFile (file_in old) (file_in (set es i (record { number = e.number; file = made }))) n (step (file_in old n))
+changes_over old es now n i e made step reads same less first is sets =
+    let made_is : made ≡ step (file_in old n) = sets ∙ ap step (file_at es now n i e same less first is ∙ reads n) in
+    let changes = changes_at es now n i e made (step (file_in old n)) same less first is made_is in
+    record { changed = changes.changed; others = λ k apart. changes.others k apart ∙ reads k }
+
+-- entries of the same numbers, whose files are images
+abbrev pub AllImaged : List Numbered → List Numbered → Type 0
+AllImaged [] [] = Unit {0}
+AllImaged [] (y ∷ ys) = ⊥
+AllImaged (x ∷ xs) [] = ⊥
+AllImaged (x ∷ xs) (y ∷ ys) = (y.number ≡ x.number) × ((image : List ℕ) × IsImage x.file image × (y.file ≡ kept_file image)) × AllImaged xs ys
+
+pub imaged_push : (xs ys : List Numbered) (x y : Numbered) (image : List ℕ) → AllImaged xs ys → y.number ≡ x.number → IsImage x.file image → y.file ≡ kept_file image → AllImaged (xs ++ x ∷ []) (ys ++ y ∷ [])
+imaged_push [] [] x y image all number is kept = (number, (image, is, kept), tt)
+imaged_push [] (b ∷ ys) x y image all number is kept = absurd all
+imaged_push (a ∷ xs) [] x y image all number is kept = absurd all
+imaged_push (a ∷ xs) (b ∷ ys) x y image all number is kept = (all.0, all.1, imaged_push xs ys x y image all.2 number is kept)
+
+pub imaged : (xs ys : List Numbered) → AllImaged xs ys → AreImages (file_in xs) (file_in ys)
+unfolding file_in
+imaged [] [] all k = ([], record { no_shorter = omega arith; no_longer = omega arith; agrees = λ j less outside. refl }, refl)
+imaged [] (b ∷ ys) all k = absurd all
+imaged (a ∷ xs) [] all k = absurd all
+imaged (a ∷ xs) (b ∷ ys) all k = elim (cases_eq a.number k) [
+  | inl same ↦
+      let here = file_in-here a xs k same in
+      let there = file_in-here b ys k (all.0 ∙ same) in
+      (all.1.0, subst (λ (f : FileState). IsImage f all.1.0) (sym here) all.1.1, there ∙ all.1.2)
+  | inr apart ↦
+      let rest = imaged xs ys all.2 k in
+      let here = file_in-there a xs k apart in
+      let there = file_in-there b ys k (λ same. apart (sym all.0 ∙ same)) in
+      (rest.0, subst (λ (f : FileState). IsImage f rest.0) (sym here) rest.1, there ∙ rest.2)
+]

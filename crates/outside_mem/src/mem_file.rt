@@ -1,0 +1,159 @@
+// A file in memory.
+ghost use Rattle.std.specs.Prelude.{◌≡◌, ◌⊎◌, ◌<◌, ◌≤◌, ◌+◌, ◌^◌, ℕ, length, take, drop, slice_index, IfOk, OnOk, OnErr, [], ◌∷◌};
+ghost use Rattle.std.specs.List.{AllByRecursion};
+ghost use Rattle.outside_api.specs.Disk.{put, IsOutside};
+
+use crate::calling::Leaving;
+use q_values::NoMemory;
+use std::alloc::Global;
+use std::marker::Model;
+
+#[derive(Drop)]
+pub struct MemFile {
+    bytes: Vec<u8>,
+    unsynced: Vec<(u64, u64)>,
+    least: u64,
+    greatest: u64,
+}
+
+impl Model for MemFile {
+    ghost use Rattle.std.specs.Prelude.{◌≤◌, ◌<◌, ◌^◌, ◌+◌, length};
+    ghost use Rattle.std.specs.List.{AllByRecursion};
+    ghost use Rattle.outside_api.specs.Disk.{FileState};
+
+    ghost Value = { FileState };
+
+    ghost view = { λ f. record { bytes = f.bytes.items; unsynced = f.unsynced.items; least = f.least; greatest = f.greatest } };
+
+    ghost invariant = { λ f. (f.least ≤ length f.bytes.items) × (length f.bytes.items ≤ f.greatest) × (f.greatest < 2 ^ 63)
+        × AllByRecursion (λ range. range.0 + range.1 < 2 ^ 63) f.unsynced.items };
+}
+
+impl MemFile {
+    ghost use Rattle.outside_api.specs.Disk.{FileState, IsImage, empty_file, kept_file, written, cut_to};
+
+    pub fn new(alloc: Global) -> MemFile
+        ensures { result ≡ empty_file }
+    {
+        MemFile {
+            bytes: Vec::new(alloc),
+            unsynced: Vec::new(alloc),
+            least: 0,
+            greatest: 0,
+        }
+    }
+
+    // A file that holds these bytes, all of them kept.
+    pub fn of(alloc: Global, bytes: Vec<u8>) -> MemFile
+        requires { length bytes.items < 2 ^ 63 }
+        ensures { result ≡ kept_file bytes.items }
+    {
+        let size = bytes.as_slice().len() as u64;
+        MemFile {
+            bytes,
+            unsynced: Vec::new(alloc),
+            least: size,
+            greatest: size,
+        }
+    }
+
+    pub fn bytes(&self) -> &[u8]
+        ensures bytes { result.now ≡ self.now.bytes }
+        ensures small { length result.now < 2 ^ 63 }
+    {
+        self.bytes.as_slice()
+    }
+
+    // A refused call changes nothing.
+    pub fn write(&mut self, at: u64, bytes: &[u8]) -> Result<(), NoMemory>
+        requires within { at ≤ length self.old.bytes }
+        requires small { at + length bytes.now < 2 ^ 63 }
+        ensures ok { OnOk result (self.new ≡ written self.old at (length bytes.now) (put self.old.bytes at bytes.now)) }
+        ensures err { OnErr result (self.new ≡ self.old) }
+    {
+        let size = bytes.len() as u64;
+        self.unsynced.reserve(1)?;
+        write_over(&mut self.bytes, at as usize, bytes)?;
+        self.unsynced.push_reserved((at, size));
+        self.greatest = self.greatest.max(at + size);
+        Ok(())
+    }
+
+    pub fn cut(&mut self, size: u64)
+        requires { size ≤ length self.old.bytes }
+        ensures { self.new ≡ cut_to size self.old }
+    {
+        self.bytes.truncate(size as usize);
+        self.least = self.least.min(size);
+    }
+
+    pub fn sync(&mut self)
+        ensures { self.new ≡ kept_file self.old.bytes }
+    {
+        let size = self.bytes.as_slice().len() as u64;
+        self.unsynced.clear();
+        self.least = size;
+        self.greatest = size;
+    }
+
+    // What a stop leaves of it.
+    pub fn image(&self, alloc: Global, leaving: Leaving) -> Result<Vec<u8>, NoMemory>
+        ensures image { IfOk result (λ v. IsImage self.now v.items) }
+        ensures small { IfOk result (λ v. length v.items < 2 ^ 63) }
+    {
+        match leaving {
+            Leaving::Whole => Ok(Vec::from_slice(alloc, self.bytes.as_slice())?),
+            Leaving::Torn(byte) => {
+                let mut torn = Vec::from_slice(alloc, self.bytes.as_slice())?;
+                tear(torn.as_mut_slice(), self.unsynced.as_slice(), byte);
+                Ok(torn)
+            }
+            Leaving::Shortest => Ok(Vec::from_slice(
+                alloc,
+                &self.bytes.as_slice()[..self.least as usize],
+            )?),
+        }
+    }
+}
+
+// Puts bytes at a place, over what is there and past the end. A refused call changes nothing.
+fn write_over(old: &mut Vec<u8>, at: usize, bytes: &[u8]) -> Result<(), NoMemory>
+    requires { at ≤ length old.old.items }
+    ensures ok { OnOk result (old.new.items ≡ put old.old.items at bytes.now) }
+    ensures err { OnErr result (old.new.items ≡ old.old.items) }
+{
+    let room = old.as_slice().len() - at;
+    let over = room.min(bytes.len());
+    let (front, rest) = bytes.split_at(over);
+    old.extend_from_slice(rest)?;
+    put_at(old.as_mut_slice(), at, front);
+    Ok(())
+}
+
+fn put_at(buffer: &mut [u8], at: usize, bytes: &[u8])
+    requires { at + length bytes.now ≤ length buffer.old }
+    ensures { buffer.new ≡ put buffer.old at bytes.now }
+{
+    buffer[at..at + bytes.len()].copy_from_slice(bytes);
+}
+
+// Puts a byte throughout these ranges.
+fn tear(bytes: &mut [u8], ranges: &[(u64, u64)], byte: u8)
+    requires { AllByRecursion (λ range. range.0 + range.1 < 2 ^ 63) ranges.now }
+    ensures length { length bytes.new ≡ length bytes.old }
+    ensures others { (k : ℕ) → IsOutside k ranges.now → slice_index bytes.new k ≡ slice_index bytes.old k }
+{
+    for (at, size) in ranges {
+        tear_one(bytes, *at, *at + *size, byte);
+    }
+}
+
+fn tear_one(bytes: &mut [u8], from: u64, to: u64, byte: u8)
+    ensures length { length bytes.new ≡ length bytes.old }
+    ensures others { (k : ℕ) → (k < from) ⊎ (to ≤ k) → slice_index bytes.new k ≡ slice_index bytes.old k }
+{
+    let end = to.min(bytes.len() as u64);
+    for k in from..end {
+        bytes[k as usize] = byte;
+    }
+}
