@@ -1,0 +1,8 @@
+//! The verbs of the query language over whole columns, exact at nulls, at the ends of kinds and at zero divisors.
+#![tactic(auto)]
+
+mod kinds;
+mod verb;
+
+pub use kinds::{result_kind, result_kind1};
+pub use verb::{Verb, Verb1};
