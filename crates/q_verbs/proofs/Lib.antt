@@ -1,0 +1,2 @@
+pub mod WrapLemmas
+pub mod ZipLemmas

@@ -1,1 +1,4 @@
 pub mod Kinds
+pub mod Loops
+pub mod Numbers
+pub mod Places

@@ -2,6 +2,8 @@
 #![tactic(auto)]
 
 mod kinds;
+mod number;
+mod operation;
 mod verb;
 
 pub use kinds::{result_kind, result_kind1};

@@ -1,0 +1,32 @@
+-- Two lists side by side.
+use Rattle.std.proofs.Common.{◌≡◌, ℕ, ◌+◌, ◌<◌, ◌++◌, List, [], ◌∷◌, length, get_or, take, map, refl, sym, ap, ◌∙◌, arith, zero, suc, add-one}
+use Rattle.std.specs.Simd.Lanes.{zip2}
+
+-- one more place
+zip2_suc : {X Y Z : Type 0} (f : X → Y → Z) (xs : List X) (ys : List Y) (i : ℕ) (d : X) (e : Y) → i < length xs → i < length ys → zip2 f (take (suc i) xs) (take (suc i) ys) ≡ zip2 f (take i xs) (take i ys) ++ f (get_or xs i d) (get_or ys i e) ∷ []
+zip2_suc f [] ys i d e p q = absurd (omega arith)
+zip2_suc f (a ∷ xs) [] i d e p q = absurd (omega arith)
+zip2_suc f (a ∷ xs) (b ∷ ys) zero d e p q = refl
+zip2_suc f (a ∷ xs) (b ∷ ys) (suc i) d e p q = ap (λ l. f a b ∷ l) (zip2_suc f xs ys i d e (omega arith) (omega arith))
+
+pub zip2_more : {X Y Z : Type 0} (f : X → Y → Z) (xs : List X) (ys : List Y) (i : ℕ) (d : X) (e : Y) → i < length xs → i < length ys → zip2 f (take (i + 1) xs) (take (i + 1) ys) ≡ zip2 f (take i xs) (take i ys) ++ f (get_or xs i d) (get_or ys i e) ∷ []
+zip2_more f xs ys i d e p q = rw add-one (zip2_suc f xs ys i d e p q)
+
+-- lists whose items are worth the same give the same
+pub zip2_through : {X Y W V : Type 0} (f : W → W → V) (g : X → W) (h : Y → W) (xs us : List X) (ys vs : List Y) → map g xs ≡ map h ys → map g us ≡ map h vs → zip2 (λ x u. f (g x) (g u)) xs us ≡ zip2 (λ y v. f (h y) (h v)) ys vs
+zip2_through {W = W} f g h xs us ys vs d e = zip2_of_mapped g xs us ∙ ap (λ l. zip2 f l (map g us)) d ∙ ap (zip2 f (map h ys)) e ∙ sym (zip2_of_mapped h ys vs)
+  where
+    zip2_of_mapped : {A : Type 0} (k : A → W) (ps qs : List A) → zip2 (λ a b. f (k a) (k b)) ps qs ≡ zip2 f (map k ps) (map k qs)
+    zip2_of_mapped k [] qs = refl
+    zip2_of_mapped k (p ∷ ps) [] = refl
+    zip2_of_mapped k (p ∷ ps) (q ∷ qs) = ap (λ l. f (k p) (k q) ∷ l) (zip2_of_mapped k ps qs)
+
+pub map-zip2 : {X Y Z V : Type 0} (m : Z → V) (f : X → Y → Z) (xs : List X) (ys : List Y) → map m (zip2 f xs ys) ≡ zip2 (λ x y. m (f x y)) xs ys
+map-zip2 m f [] ys = refl
+map-zip2 m f (x ∷ xs) [] = refl
+map-zip2 m f (x ∷ xs) (y ∷ ys) = ap (λ l. m (f x y) ∷ l) (map-zip2 m f xs ys)
+
+pub zip2_same : {X Y Z : Type 0} (f g : X → Y → Z) (xs : List X) (ys : List Y) → ((x : X) (y : Y) → f x y ≡ g x y) → zip2 f xs ys ≡ zip2 g xs ys
+zip2_same f g [] ys e = refl
+zip2_same f g (x ∷ xs) [] e = refl
+zip2_same f g (x ∷ xs) (y ∷ ys) e = ap (λ h. h ∷ zip2 f xs ys) (e x y) ∙ ap (λ l. g x y ∷ l) (zip2_same f g xs ys e)
