@@ -1,2 +1,3 @@
+pub mod WorthLemmas
 pub mod WrapLemmas
 pub mod ZipLemmas

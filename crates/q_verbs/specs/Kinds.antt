@@ -48,6 +48,10 @@ is_temporal x = is x k.Timestamp || is x k.Month || is x k.Date || is_length x
 abbrev pub is_number : Kind → Bool
 is_number x = not (is x k.Symbol) && not (is x k.Character)
 
+-- the kinds of numbers that a verb computes
+abbrev pub is_computed : Kind → Bool
+is_computed x = is x k.Short || is x k.Integer || is x k.Long || is_temporal x
+
 -- the left side has the kind a, the right side the kind b
 abbrev pub are : Kind → Kind → Kind → Kind → Bool
 are a b left right = is left a && is right b

@@ -1,9 +1,26 @@
 -- Values beside one another, as the loops over columns of 64 bits take them.
-use Rattle.std.specs.Prelude.{ℕ, ℤ, Option, option_map}
+use Rattle.std.specs.Prelude.{ℕ, ℤ, List, Option, option_map}
 use Rattle.std.specs.Int.{w64, int_wrap}
-use Rattle.q_verbs.specs.Numbers.{number_in}
+use Rattle.q_values.specs.declared.atom.Atom.{Atom}
+use Rattle.q_values.specs.declared.kind.Kind.{Kind}
+use Rattle.q_verbs.specs.declared.wide.Wide.{Wide}
+use Rattle.q_verbs.specs.declared.wide.Wide.TheVariants.{Lent, Made}
+use Rattle.q_verbs.specs.Numbers.{Worth, numeric, number_in, written}
 use Rattle.q_verbs.specs.Places.{Operation, of_both}
 
 -- an operation's result in 64 bits, of two numbers or nulls
 abbrev pub computed : Operation → ℤ → ℤ → Option ℤ
 computed f x y = option_map (int_wrap w64) (of_both f (number_in w64 x) (number_in w64 y))
+
+-- what a number of 64 bits, or its null, is worth
+abbrev pub worth_in_64 : ℤ → Worth
+worth_in_64 x = numeric (number_in w64 x)
+
+-- what the operation makes of what two values are worth, in this kind
+abbrev pub given : Kind → Operation → Worth → Worth → Atom
+given kind f x y = written kind (of_both f x.number y.number)
+
+-- a column of 64 bits, as it was lent or made
+abbrev pub wide_items : Wide → List ℤ
+wide_items (Lent xs) = xs.now
+wide_items (Made xs) = xs.items

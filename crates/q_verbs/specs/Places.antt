@@ -75,6 +75,18 @@ operation v.Lesser left right = lesser_of
 operation v.Greater left right = greater_of
 operation _ left right = λ x y. None
 
+-- the verbs that compute a number
+abbrev pub computes : Verb → Bool
+computes v.Add = true
+computes v.Sub = true
+computes v.Mul = true
+computes v.Div = true
+computes v.Mod = true
+computes v.Xbar = true
+computes v.Lesser = true
+computes v.Greater = true
+computes _ = false
+
 -- a null on a side gives the null
 abbrev pub of_both : Operation → Option ℤ → Option ℤ → Option ℤ
 of_both f None y = None

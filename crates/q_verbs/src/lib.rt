@@ -5,6 +5,7 @@ mod kinds;
 mod number;
 mod operation;
 mod verb;
+mod wide;
 
 pub use kinds::{result_kind, result_kind1};
 pub use verb::{Verb, Verb1};
