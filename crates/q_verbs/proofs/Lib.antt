@@ -1,3 +1,4 @@
 pub mod WorthLemmas
 pub mod WrapLemmas
+pub mod WrittenLemmas
 pub mod ZipLemmas

@@ -13,8 +13,8 @@ pub zip2_more : {X Y Z : Type 0} (f : X → Y → Z) (xs : List X) (ys : List Y)
 zip2_more f xs ys i d e p q = rw add-one (zip2_suc f xs ys i d e p q)
 
 -- lists whose items are worth the same give the same
-pub zip2_through : {X Y W V : Type 0} (f : W → W → V) (g : X → W) (h : Y → W) (xs us : List X) (ys vs : List Y) → map g xs ≡ map h ys → map g us ≡ map h vs → zip2 (λ x u. f (g x) (g u)) xs us ≡ zip2 (λ y v. f (h y) (h v)) ys vs
-zip2_through {W = W} f g h xs us ys vs d e = zip2_of_mapped g xs us ∙ ap (λ l. zip2 f l (map g us)) d ∙ ap (zip2 f (map h ys)) e ∙ sym (zip2_of_mapped h ys vs)
+pub zip2_through : {X Y W V : Type 0} (f : W → W → V) (g : X → W) (h : Y → W) (xs ys : List X) (us vs : List Y) → map g xs ≡ map h us → map g ys ≡ map h vs → zip2 (λ x y. f (g x) (g y)) xs ys ≡ zip2 (λ u v. f (h u) (h v)) us vs
+zip2_through {W = W} f g h xs ys us vs d e = zip2_of_mapped g xs ys ∙ ap (λ l. zip2 f l (map g ys)) d ∙ ap (zip2 f (map h us)) e ∙ sym (zip2_of_mapped h us vs)
   where
     zip2_of_mapped : {A : Type 0} (k : A → W) (ps qs : List A) → zip2 (λ a b. f (k a) (k b)) ps qs ≡ zip2 f (map k ps) (map k qs)
     zip2_of_mapped k [] qs = refl

@@ -1,6 +1,7 @@
 //! The verbs of the query language over whole columns, exact at nulls, at the ends of kinds and at zero divisors.
 #![tactic(auto)]
 
+mod arithmetic;
 mod kinds;
 mod number;
 mod operation;
