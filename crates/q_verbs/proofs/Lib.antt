@@ -1,3 +1,4 @@
+pub mod OrderLemmas
 pub mod WorthLemmas
 pub mod WrapLemmas
 pub mod WrittenLemmas

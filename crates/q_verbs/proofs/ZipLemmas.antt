@@ -1,5 +1,6 @@
 -- Two lists side by side.
-use Rattle.std.proofs.Common.{◌≡◌, ℕ, ◌+◌, ◌<◌, ◌++◌, List, [], ◌∷◌, length, get_or, take, map, refl, sym, ap, ◌∙◌, arith, zero, suc, add-one}
+use Rattle.std.proofs.Common.{◌≡◌, ℕ, ◌+◌, ◌<◌, ◌++◌, List, [], ◌∷◌, length, get_or, take, map, refl, sym, ap, ◌∙◌, arith, zero, suc, add-one, Some, slice_get}
+use Rattle.std.proofs.lemmas.Option.{get_or_from_slice_get}
 use Rattle.std.specs.Simd.Lanes.{zip2}
 
 -- one more place
@@ -30,3 +31,16 @@ pub zip2_same : {X Y Z : Type 0} (f g : X → Y → Z) (xs : List X) (ys : List 
 zip2_same f g [] ys e = refl
 zip2_same f g (x ∷ xs) [] e = refl
 zip2_same f g (x ∷ xs) (y ∷ ys) e = ap (λ h. h ∷ zip2 f xs ys) (e x y) ∙ ap (λ l. g x y ∷ l) (zip2_same f g xs ys e)
+
+-- one more place, where calls read the items
+pub zip2_more_read : {X Y Z : Type 0} (f : X → Y → Z) (xs : List X) (ys : List Y) (i : ℕ) (x : X) (y : Y) → i < length xs → i < length ys → slice_get xs i ≡ Some x → slice_get ys i ≡ Some y → zip2 f (take (i + 1) xs) (take (i + 1) ys) ≡ zip2 f (take i xs) (take i ys) ++ f x y ∷ []
+zip2_more_read f xs ys i x y p q d e =
+    zip2_more f xs ys i x y p q
+    ∙ ap (λ a. zip2 f (take i xs) (take i ys) ++ f a (get_or ys i y) ∷ []) (get_or_from_slice_get xs i x x d)
+    ∙ ap (λ b. zip2 f (take i xs) (take i ys) ++ f x b ∷ []) (get_or_from_slice_get ys i y y e)
+
+-- mapped lists
+pub zip2-mapped : {X Y Z : Type 0} (f : Y → Y → Z) (g : X → Y) (xs ys : List X) → zip2 f (map g xs) (map g ys) ≡ zip2 (λ x y. f (g x) (g y)) xs ys
+zip2-mapped f g [] ys = refl
+zip2-mapped f g (x ∷ xs) [] = refl
+zip2-mapped f g (x ∷ xs) (y ∷ ys) = ap (λ l. f (g x) (g y) ∷ l) (zip2-mapped f g xs ys)
