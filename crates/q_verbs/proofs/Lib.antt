@@ -1,3 +1,5 @@
+pub mod ChoiceLemmas
+pub mod KindLemmas
 pub mod OrderLemmas
 pub mod WorthLemmas
 pub mod WrapLemmas

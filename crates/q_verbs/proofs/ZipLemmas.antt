@@ -44,3 +44,10 @@ pub zip2-mapped : {X Y Z : Type 0} (f : Y → Y → Z) (g : X → Y) (xs ys : Li
 zip2-mapped f g [] ys = refl
 zip2-mapped f g (x ∷ xs) [] = refl
 zip2-mapped f g (x ∷ xs) (y ∷ ys) = ap (λ l. f (g x) (g y) ∷ l) (zip2-mapped f g xs ys)
+
+-- one more place, where the items were read by their places
+pub zip2_more_at : {X Y Z : Type 0} (f : X → Y → Z) (xs : List X) (ys : List Y) (i : ℕ) (x : X) (y : Y) → i < length xs → i < length ys → x ≡ get_or xs i x → y ≡ get_or ys i y → zip2 f (take (i + 1) xs) (take (i + 1) ys) ≡ zip2 f (take i xs) (take i ys) ++ f x y ∷ []
+zip2_more_at f xs ys i x y p q d e =
+    zip2_more f xs ys i x y p q
+    ∙ ap (λ a. zip2 f (take i xs) (take i ys) ++ f a (get_or ys i y) ∷ []) (sym d)
+    ∙ ap (λ b. zip2 f (take i xs) (take i ys) ++ f x b ∷ []) (sym e)

@@ -122,7 +122,7 @@ is_choice _ = false
 -- the lesser or the greater of two values of one kind
 abbrev pub chosen : Verb → Atom → Atom → Atom
 chosen v.Lesser x y = if is_le (worth_cmp (worth x) (worth y)) then x else y
-chosen v.Greater x y = if is_le (worth_cmp (worth x) (worth y)) then y else x
+chosen v.Greater x y = if is_ge (worth_cmp (worth x) (worth y)) then x else y
 chosen _ x y = x
 
 -- the verbs that work place by place

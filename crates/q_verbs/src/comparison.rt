@@ -19,7 +19,7 @@ use std::alloc::{AllocError, Global};
 use std::cmp::Ordering;
 
 // A relation between two values, told by their order.
-trait Relation {
+pub(crate) trait Relation {
     ghost relates: { Ordering → Bool };
 
     fn holds(order: Ordering) -> bool
@@ -74,7 +74,7 @@ impl Relation for Above {
     }
 }
 
-struct AtMost;
+pub(crate) struct AtMost;
 
 impl Relation for AtMost {
     ghost use Rattle.std.specs.Ordering.{is_le};
@@ -86,7 +86,7 @@ impl Relation for AtMost {
     }
 }
 
-struct AtLeast;
+pub(crate) struct AtLeast;
 
 impl Relation for AtLeast {
     ghost use Rattle.std.specs.Ordering.{is_ge};

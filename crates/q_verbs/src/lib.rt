@@ -2,6 +2,7 @@
 #![tactic(auto)]
 
 mod arithmetic;
+mod choice;
 mod comparison;
 mod kinds;
 mod number;
