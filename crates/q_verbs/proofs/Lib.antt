@@ -1,6 +1,8 @@
 pub mod ChoiceLemmas
 pub mod KindLemmas
 pub mod OrderLemmas
+pub mod RowLemmas
+pub mod ValueLemmas
 pub mod WorthLemmas
 pub mod WrapLemmas
 pub mod WrittenLemmas

@@ -2,6 +2,7 @@
 #![tactic(auto)]
 
 mod arithmetic;
+mod by_place;
 mod choice;
 mod comparison;
 mod kinds;
@@ -10,5 +11,6 @@ mod operation;
 mod verb;
 mod wide;
 
+pub use by_place::binary;
 pub use kinds::{result_kind, result_kind1};
 pub use verb::{Verb, Verb1};
