@@ -2,6 +2,7 @@ pub mod ChoiceLemmas
 pub mod KindLemmas
 pub mod OrderLemmas
 pub mod RowLemmas
+pub mod TotalLemmas
 pub mod ValueLemmas
 pub mod WorthLemmas
 pub mod WrapLemmas

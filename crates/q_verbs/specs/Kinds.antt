@@ -52,6 +52,10 @@ is_number x = not (is x k.Symbol) && not (is x k.Character)
 abbrev pub is_computed : Kind → Bool
 is_computed x = is x k.Short || is x k.Integer || is x k.Long || is_temporal x
 
+-- the kinds of a sum
+abbrev pub is_total : Kind → Bool
+is_total x = is x k.Integer || is x k.Long || is x k.Timespan
+
 -- the left side has the kind a, the right side the kind b
 abbrev pub are : Kind → Kind → Kind → Kind → Bool
 are a b left right = is left a && is right b

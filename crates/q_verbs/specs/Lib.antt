@@ -1,3 +1,4 @@
+pub mod Aggregates
 pub mod Kinds
 pub mod Loops
 pub mod Numbers

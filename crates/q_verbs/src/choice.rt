@@ -12,7 +12,7 @@ use crate::verb::Verb;
 use q_values::{Column, NoMemory, Vector};
 use std::alloc::{AllocError, Global};
 
-fn choose_item<P: Relation, T: Number>(x: T, y: T) -> T
+pub(crate) fn choose_item<P: Relation, T: Number>(x: T, y: T) -> T
     ensures { result ≡ (if P.relates (worth_cmp (numeric (T.number x)) (numeric (T.number y))) then x else y) }
 {
     if P::holds(order_of(&x.widened(), &y.widened())) {

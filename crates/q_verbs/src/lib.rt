@@ -5,9 +5,11 @@ mod arithmetic;
 mod by_place;
 mod choice;
 mod comparison;
+mod ends;
 mod kinds;
 mod number;
 mod operation;
+mod totals;
 mod verb;
 mod wide;
 

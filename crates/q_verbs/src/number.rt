@@ -94,7 +94,7 @@ pub(crate) trait Reduced: Copy {
         ensures { result ≡ of value };
 }
 
-fn low_32(x: &i64) -> i32
+pub(crate) fn low_32(x: &i64) -> i32
     ensures { result ≡ int_wrap w32 x.now }
 {
     ((x.cast_unsigned() % 0x1_0000_0000) as u32).cast_signed()
