@@ -1,4 +1,6 @@
+pub mod AggregateLemmas
 pub mod ChoiceLemmas
+pub mod ChosenLemmas
 pub mod KindLemmas
 pub mod OrderLemmas
 pub mod RowLemmas

@@ -1,6 +1,7 @@
 //! The verbs of the query language over whole columns, exact at nulls, at the ends of kinds and at zero divisors.
 #![tactic(auto)]
 
+mod aggregation;
 mod arithmetic;
 mod by_place;
 mod choice;
@@ -13,6 +14,7 @@ mod totals;
 mod verb;
 mod wide;
 
+pub use aggregation::aggregate;
 pub use by_place::binary;
 pub use kinds::{result_kind, result_kind1};
 pub use verb::{Verb, Verb1};
