@@ -1,7 +1,9 @@
 pub mod AggregateLemmas
+pub mod AmongLemmas
 pub mod ChoiceLemmas
 pub mod ChosenLemmas
 pub mod KindLemmas
+pub mod MapLemmas
 pub mod OrderLemmas
 pub mod RowLemmas
 pub mod TotalLemmas

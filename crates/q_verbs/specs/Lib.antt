@@ -3,3 +3,4 @@ pub mod Kinds
 pub mod Loops
 pub mod Numbers
 pub mod Places
+pub mod Tests

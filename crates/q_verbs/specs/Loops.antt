@@ -1,11 +1,12 @@
 -- Values beside one another, as the loops over columns of 64 bits take them.
-use Rattle.std.specs.Prelude.{ℕ, ℤ, List, Option, option_map}
+use Rattle.std.specs.Prelude.{ℕ, ℤ, List, Option, option_map, if◌then◌else◌}
+use Rattle.std.specs.Int.RustNames.{int_lt}
 use Rattle.std.specs.Int.{w64, int_wrap}
 use Rattle.q_values.specs.declared.atom.Atom.{Atom}
 use Rattle.q_values.specs.declared.kind.Kind.{Kind}
 use Rattle.q_verbs.specs.declared.wide.Wide.{Wide}
 use Rattle.q_verbs.specs.declared.wide.Wide.TheVariants.{Lent, Made}
-use Rattle.q_verbs.specs.Numbers.{Worth, numeric, number_in, written}
+use Rattle.q_verbs.specs.Numbers.{Worth, numeric, number_in, written, least}
 use Rattle.q_verbs.specs.Places.{Operation, of_both}
 
 -- an operation's result in 64 bits, of two numbers or nulls
@@ -24,3 +25,7 @@ given kind f x y = written kind (of_both f x.number y.number)
 abbrev pub wide_items : Wide → List ℤ
 wide_items (Lent xs) = xs.now
 wide_items (Made xs) = xs.items
+
+-- a number of 64 bits, the least for every null
+abbrev pub canonical : ℤ → ℤ
+canonical x = if int_lt (least w64) x then x else least w64

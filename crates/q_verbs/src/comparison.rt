@@ -176,7 +176,7 @@ fn compare_wide<P: Relation>(
     Ok(values)
 }
 
-fn booleans(values: Vec<bool>) -> Vector
+pub(crate) fn booleans(values: Vec<bool>) -> Vector
     ensures { result ≡ record { kind = k.Boolean; atoms = map (λ x. a.Boolean x) values.items } }
 {
     Vector::of(Column::Booleans(values))

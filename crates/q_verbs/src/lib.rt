@@ -2,6 +2,7 @@
 #![tactic(auto)]
 
 mod aggregation;
+mod among;
 mod arithmetic;
 mod by_place;
 mod choice;
@@ -13,8 +14,10 @@ mod operation;
 mod totals;
 mod verb;
 mod wide;
+mod within;
 
 pub use aggregation::aggregate;
 pub use by_place::binary;
 pub use kinds::{result_kind, result_kind1};
 pub use verb::{Verb, Verb1};
+pub use within::is_within;

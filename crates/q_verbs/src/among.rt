@@ -1,0 +1,62 @@
+//! Whether values are among a list's items.
+ghost use Rattle.std.specs.Prelude.{◌≡◌, ◌≢◌, ℤ, List, ℕ, Bool, IsSome, length, map, IfOk};
+ghost use Rattle.std.specs.List.{list_any};
+ghost use Rattle.std.specs.HashSet.{contains};
+ghost use Rattle.std.specs.Ordering.{int_eq, is_eq, nat_cmp};
+ghost use Rattle.std.specs.Cmp.Lexicographic.{slice_cmp};
+ghost use Rattle.q_values.specs.Column.{contents};
+ghost use Rattle.q_values.specs.declared.atom.Atom.TheVariants as a;
+ghost use Rattle.q_values.specs.declared.kind.Kind.TheVariants as k;
+ghost use Rattle.q_verbs.specs.Kinds.{comparison_kind};
+ghost use Rattle.q_verbs.specs.Numbers.{worth, worth_cmp};
+ghost use Rattle.q_verbs.specs.Loops.{canonical, worth_in_64};
+ghost use Rattle.q_verbs.specs.Tests.{is_among};
+
+use crate::comparison::booleans;
+use crate::wide::Wide;
+use q_values::{Column, NoMemory, Symbols, Vector};
+use std::alloc::{AllocError, Global};
+use std::collections::HashSet;
+use std::hash::Hash;
+
+// A number that the prover knows to be the least where it is a null.
+fn key_of(x: &i64) -> i64
+    ensures { result ≡ canonical x.now }
+{
+    *x
+}
+
+fn set_of_numbers(alloc: Global, items: &[i64]) -> Result<HashSet<i64>, AllocError>
+    ensures { IfOk result (λ s. (q : ℤ) → contains int_eq s q ≡ list_any (λ y. int_eq q (canonical y)) items.now) }
+{
+    let mut set = HashSet::new(alloc);
+    for item in items {
+        set.insert(key_of(item))?;
+    }
+    Ok(set)
+}
+
+fn is_in_set(set: &HashSet<i64>, x: &i64) -> bool
+    ensures { result ≡ contains int_eq set.now (canonical x.now) }
+{
+    set.contains(&key_of(x))
+}
+
+fn among_set(alloc: Global, left: &[i64], set: &HashSet<i64>) -> Result<Vec<bool>, AllocError>
+    ensures { IfOk result (λ v. v.items ≡ map (λ x. contains int_eq set.now (canonical x)) left.now) }
+{
+    let mut values = Vec::with_capacity(alloc, left.len())?;
+    for item in left {
+        values.push_reserved(is_in_set(set, item));
+    }
+    Ok(values)
+}
+
+fn among_numbers(alloc: Global, left: &[i64], items: &[i64]) -> Result<Vec<bool>, AllocError>
+    ensures { IfOk result (λ v. v.items ≡ map (λ x. list_any
+        (λ y. is_eq (worth_cmp (worth_in_64 x) (worth_in_64 y))) items.now) left.now) }
+{
+    let set = set_of_numbers(alloc, items)?;
+    let values = among_set(alloc, left, &set)?;
+    Ok(values)
+}
