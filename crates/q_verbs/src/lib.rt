@@ -17,6 +17,7 @@ mod wide;
 mod within;
 
 pub use aggregation::aggregate;
+pub use among::is_in;
 pub use by_place::binary;
 pub use kinds::{result_kind, result_kind1};
 pub use verb::{Verb, Verb1};
