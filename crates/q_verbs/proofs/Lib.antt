@@ -2,6 +2,7 @@ pub mod AggregateLemmas
 pub mod AmongLemmas
 pub mod ChoiceLemmas
 pub mod ChosenLemmas
+pub mod DistinctLemmas
 pub mod KindLemmas
 pub mod MapLemmas
 pub mod OrderLemmas

@@ -3,4 +3,5 @@ pub mod Kinds
 pub mod Loops
 pub mod Numbers
 pub mod Places
+pub mod Lists
 pub mod Tests

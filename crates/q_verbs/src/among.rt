@@ -86,7 +86,7 @@ fn among_items<T: Eq + Hash + Copy>(
 }
 
 // Each symbol's bytes.
-fn texts_of(alloc: Global, symbols: &Symbols) -> Result<Vec<&[u8]>, AllocError>
+pub(crate) fn texts_of(alloc: Global, symbols: &Symbols) -> Result<Vec<&[u8]>, AllocError>
     ensures { IfOk result (λ v. map (λ t. t.now) v.items ≡ symbols.now) }
 {
     let mut texts = Vec::with_capacity(alloc, symbols.len())?;

@@ -7,6 +7,7 @@ mod arithmetic;
 mod by_place;
 mod choice;
 mod comparison;
+mod distinct;
 mod ends;
 mod kinds;
 mod number;
