@@ -9,6 +9,18 @@ use Rattle.std.proofs.lemmas.List.Elements.{filter-append}
 use Rattle.q_values.specs.Lists.{gathered}
 use Rattle.q_values.proofs.ListLemmas.{gathered-append, map-gathered}
 use Rattle.q_values.specs.declared.atom.Atom.{Atom}
+use Rattle.q_values.specs.Column.{byte_atom, integer_atom, long_atom}
+use Rattle.q_values.specs.declared.atom.Atom.TheVariants as a
+use Rattle.q_values.specs.declared.kind.ByteKind.{ByteKind}
+use Rattle.q_values.specs.declared.kind.ByteKind.TheVariants as b
+use Rattle.q_values.specs.declared.kind.IntegerKind.{IntegerKind}
+use Rattle.q_values.specs.declared.kind.IntegerKind.TheVariants as i
+use Rattle.q_values.specs.declared.kind.LongKind.{LongKind}
+use Rattle.q_values.specs.declared.kind.LongKind.TheVariants as l
+use mathlib.Core.Bool.{beq}
+use lib.Dec.{eqb}
+use lib.Pointwise.{pointwise}
+use Rattle.q_verbs.proofs.AmongLemmas.{text_ties}
 use Rattle.q_verbs.specs.Lists.{distinct, same_atom}
 
 ++-nil : {X : Type 0} (xs : List X) → xs ++ [] ≡ xs
@@ -67,6 +79,7 @@ distinct_through same atom e (x ∷ xs) =
     kept : {A B : Type 0} (f : A → B) (a : A) (b : Bool) (l : List A) → map f (if b then a ∷ l else l) ≡ (if b then f a ∷ map f l else map f l)
     kept f a true l = refl
     kept f a false l = refl
+
     filtered : {A B : Type 0} (f : A → B) (p : A → Bool) (q : B → Bool) → ((a : A) → q (f a) ≡ p a) → (l : List A) → map f (filter p l) ≡ filter q (map f l)
     filtered f p q d [] = refl
     filtered f p q d (a ∷ l) =
@@ -97,3 +110,39 @@ seen_more same xs i x q old new h e before updated =
         later true false d = refl
         later false true d = refl
         later false false d = refl
+
+-- the items of a column are equal where the atoms are
+pub same-boolean : (x y : Bool) → same_atom (a.Boolean x) (a.Boolean y) ≡ beq x y
+same-boolean true true = refl
+same-boolean true false = refl
+same-boolean false true = refl
+same-boolean false false = refl
+
+same-natural : (x y : ℕ) → is_eq (int_cmp (pos x) (pos y)) ≡ eqb x y
+same-natural x y = grind (arith, ints)
+
+same-whole : (x y : ℤ) → is_eq (int_cmp x y) ≡ int_eq x y
+same-whole x y = grind (arith, ints)
+
+pub same-byte : (kind : ByteKind) (x y : ℕ) → same_atom (byte_atom kind x) (byte_atom kind y) ≡ eqb x y
+same-byte b.Byte x y = same-natural x y
+same-byte b.Character x y = same-natural x y
+
+pub same-short : (x y : ℤ) → same_atom (a.Short x) (a.Short y) ≡ int_eq x y
+same-short x y = same-whole x y
+
+pub same-integer : (kind : IntegerKind) (x y : ℤ) → same_atom (integer_atom kind x) (integer_atom kind y) ≡ int_eq x y
+same-integer i.Integer x y = same-whole x y
+same-integer i.Month x y = same-whole x y
+same-integer i.Date x y = same-whole x y
+same-integer i.Minute x y = same-whole x y
+same-integer i.Second x y = same-whole x y
+same-integer i.Time x y = same-whole x y
+
+pub same-long : (kind : LongKind) (x y : ℤ) → same_atom (long_atom kind x) (long_atom kind y) ≡ int_eq x y
+same-long l.Long x y = same-whole x y
+same-long l.Timestamp x y = same-whole x y
+same-long l.Timespan x y = same-whole x y
+
+pub same-text : (s t : List ℕ) → same_atom (a.Symbol s) (a.Symbol t) ≡ pointwise nat_eq s t
+same-text s t = sym (text_ties s t)

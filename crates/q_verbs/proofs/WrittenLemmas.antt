@@ -1,8 +1,11 @@
 -- Numbers that were computed in 64 bits, in the kind of the result.
-use Rattle.std.proofs.Common.{◌≡◌, ℤ, List, map, Option, Some, None, refl, sym, ap, ◌∙◌, option_map}
+use Rattle.std.proofs.lemmas.Simd.{zip2_splat_left}
+use Rattle.q_verbs.proofs.MapLemmas.{map_through}
+use Rattle.std.specs.Prelude.{replicate}
+use Rattle.std.proofs.Common.{◌≡◌, ℕ, ℤ, pos, neg_ℤ, ◌-ℤ◌, arith, length, [], ◌∷◌, List, map, Option, Some, None, refl, sym, ap, ◌∙◌, option_map}
 use Rattle.std.specs.Int.{w16, w32, w64, int_wrap}
 use Rattle.std.specs.Simd.Lanes.{zip2}
-use Rattle.std.proofs.lemmas.Int.{int_wrap_fits, SFits-int_wrap}
+use Rattle.std.proofs.lemmas.Int.{ints, int_wrap_fits, SFits-int_wrap}
 use Rattle.q_values.specs.Column.{integer_atom, integer_kind, long_atom, long_kind}
 use Rattle.q_values.specs.declared.atom.Atom.{Atom}
 use Rattle.q_values.specs.declared.atom.Atom.TheVariants as a
@@ -14,7 +17,7 @@ use Rattle.q_values.specs.declared.kind.LongKind.{LongKind}
 use Rattle.q_values.specs.declared.kind.LongKind.TheVariants as l
 use Rattle.q_verbs.specs.declared.verb.Verb.{Verb}
 use Rattle.q_verbs.specs.Numbers.{worth, Worth, number_in, reduced, written}
-use Rattle.q_verbs.specs.Places.{Operation, operation, of_both}
+use Rattle.q_verbs.specs.Places.{Operation, operation, of_both, difference_of}
 use Rattle.q_verbs.specs.Loops.{computed, given, worth_in_64}
 use Rattle.q_verbs.proofs.WrapLemmas.{int_wrap-16, int_wrap-32}
 use Rattle.q_verbs.proofs.ZipLemmas.{map-zip2, zip2_same, zip2_through}
@@ -66,3 +69,19 @@ values-given kind left right left' right' verb xs ys us vs p q d e =
     ap (λ l. zip2 (λ x y. given kind (operation verb l right) (worth_in_64 x) (worth_in_64 y)) xs ys) p
     ∙ ap (λ r. zip2 (λ x y. given kind (operation verb left' r) (worth_in_64 x) (worth_in_64 y)) xs ys) q
     ∙ zip2_through (given kind (operation verb left' right')) worth_in_64 worth xs ys us vs d e
+
+from_nothing : (n : Option ℤ) → of_both difference_of (Some (pos 0)) n ≡ option_map neg_ℤ n
+from_nothing None = refl
+from_nothing (Some z) = let e : pos 0 -ℤ z ≡ neg_ℤ z = omega (arith, ints) in ap (λ y. Some y) e
+
+-- what is left of nothing is the number negated
+pub negated-given : (kind : Kind) (n : ℕ) (zeros xs : List ℤ) (us : List Atom) → zeros ≡ replicate n (pos 0) → length xs ≡ n → map worth_in_64 xs ≡ map worth us → zip2 (λ x y. given kind difference_of (worth_in_64 x) (worth_in_64 y)) zeros xs ≡ map (λ u. written kind (option_map neg_ℤ (worth u).number)) us
+negated-given kind n zeros xs us z l e =
+    ap (λ zs. zip2 (λ x y. given kind difference_of (worth_in_64 x) (worth_in_64 y)) zs xs) z
+    ∙ zip2_splat_left (λ x y. given kind difference_of (worth_in_64 x) (worth_in_64 y)) (pos 0) n xs l
+    ∙ map_alike (λ y. given kind difference_of (worth_in_64 (pos 0)) (worth_in_64 y)) (λ y. written kind (option_map neg_ℤ (worth_in_64 y).number)) xs (λ y. ap (written kind) (from_nothing (number_in w64 y)))
+    ∙ map_through (λ w. written kind (option_map neg_ℤ w.number)) worth_in_64 worth xs us e
+  where
+    map_alike : {X Y : Type 0} (f g : X → Y) (ys : List X) → ((y : X) → f y ≡ g y) → map f ys ≡ map g ys
+    map_alike f g [] d = refl
+    map_alike f g (y ∷ ys) d = λ i. d y i ∷ map_alike f g ys d i

@@ -1,10 +1,10 @@
 //! Verbs that compute a number at each place.
-ghost use Rattle.std.specs.Prelude.{◌≡◌, ◌≢◌, IsTrue, length, IfOk};
+ghost use Rattle.std.specs.Prelude.{◌≡◌, ◌≢◌, IsTrue, length, map, neg_ℤ, option_map, IfOk};
 ghost use Rattle.std.specs.Simd.Lanes.{zip2};
 ghost use Rattle.q_values.specs.Column.{contents, integer_kind, long_kind};
 ghost use Rattle.q_values.specs.declared.kind.Kind.TheVariants as k;
 ghost use Rattle.q_verbs.specs.Kinds.{is_computed};
-ghost use Rattle.q_verbs.specs.Numbers.{worth};
+ghost use Rattle.q_verbs.specs.Numbers.{worth, written};
 ghost use Rattle.q_verbs.specs.Places.{operation, computes};
 ghost use Rattle.q_verbs.specs.Loops.{computed, given, worth_in_64};
 
@@ -161,6 +161,29 @@ pub(crate) fn arithmetic(
         right_kind: right.kind(),
         left: left_wide.as_slice(),
         right: right_wide.as_slice(),
+    };
+    let column = task.column(alloc, kind)?;
+    Ok(Vector::of(column))
+}
+
+/// Each number negated, in this kind.
+pub(crate) fn negation(alloc: Global, kind: Kind, x: &Vector) -> Result<Vector, NoMemory>
+    requires kind { IsTrue (is_computed kind) }
+    requires side { x.now.kind ≢ k.Symbol }
+    ensures { IfOk result (λ v. v ≡ record {
+      kind = kind;
+      atoms
+          = map (λ x. written kind (option_map neg_ℤ (worth x).number)) x.now.atoms;
+    }) }
+{
+    let wide = Wide::of(alloc, x.column())?;
+    let zeros = vec![in alloc; 0i64; wide.as_slice().len()]?;
+    let task = Task {
+        verb: Verb::Sub,
+        left_kind: kind,
+        right_kind: kind,
+        left: zeros.as_slice(),
+        right: wide.as_slice(),
     };
     let column = task.column(alloc, kind)?;
     Ok(Vector::of(column))

@@ -24,3 +24,30 @@ fn first_places<T: Eq + Hash + Copy>(alloc: Global, items: &[T]) -> Result<Vec<u
     }
     Ok(places)
 }
+
+fn first_places_of(alloc: Global, column: &Column) -> Result<Vec<usize>, NoMemory>
+    ensures items { IfOk result (λ v. gathered (contents column.now).atoms v.items
+        ≡ distinct same_atom (contents column.now).atoms) }
+    ensures within { IfOk result (λ v. All (λ p. p < length (contents column.now).atoms) v.items) }
+{
+    match column {
+        Column::Booleans(items) => Ok(first_places(alloc, items)?),
+        Column::Bytes(_, items) => Ok(first_places(alloc, items)?),
+        Column::Shorts(items) => Ok(first_places(alloc, items)?),
+        Column::Integers(_, items) => Ok(first_places(alloc, items)?),
+        Column::Longs(_, items) => Ok(first_places(alloc, items)?),
+        Column::Symbols(symbols) => {
+            let texts = texts_of(alloc, symbols)?;
+            Ok(first_places(alloc, &texts)?)
+        }
+    }
+}
+
+/// The items, each where it stands first.
+pub(crate) fn distinct_items(alloc: Global, x: &Vector) -> Result<Vector, NoMemory>
+    ensures { IfOk result (λ v. v ≡ record x.now { atoms = distinct same_atom x.now.atoms }) }
+{
+    let places = first_places_of(alloc, x.column())?;
+    let items = x.gather(alloc, &places)?;
+    Ok(items)
+}

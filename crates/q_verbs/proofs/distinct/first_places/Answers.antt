@@ -17,20 +17,20 @@ loop-i-preserved g c =
     let before = c.loop-i.places.items in
     record {
       items = elim c.if-branch.branch [
-          then-branch+in_ok-push w ↦
+        | then-branch+in_ok-push w ↦
             let more : c.if-branch.places.items ≡ before ++ i ∷ [] = ap (λ v. v.items) w.places-is ∙ w.in_ok-push.ensures.items in
             ap (gathered xs) more ∙ place_pushed same xs before i x c.in_ok-insert.field-0 (contains same c.loop-i.seen x) c.loop-i-test.true c.index-items-i.is c.loop-i.invariant.items (c.loop-i.invariant.seen x) c.in_ok-insert.ensures.added w.if-branch.true
         | else-branch w ↦
             let same_places : c.if-branch.places.items ≡ before = ap (λ v. v.items) w.places-is in
             ap (gathered xs) same_places ∙ place_passed same xs before i x c.in_ok-insert.field-0 (contains same c.loop-i.seen x) c.loop-i-test.true c.index-items-i.is c.loop-i.invariant.items (c.loop-i.invariant.seen x) c.in_ok-insert.ensures.added w.if-branch.false
-        ];
+      ];
       within = elim c.if-branch.branch [
-          then-branch+in_ok-push w ↦
+        | then-branch+in_ok-push w ↦
             let more : c.if-branch.places.items ≡ before ++ i ∷ [] = ap (λ v. v.items) w.places-is ∙ w.in_ok-push.ensures.items in
             subst (All (λ p. p < length xs)) (sym more) (All-push (λ p. p < length xs) before i c.loop-i.invariant.within c.loop-i-test.true)
         | else-branch w ↦
             let same_places : c.if-branch.places.items ≡ before = ap (λ v. v.items) w.places-is in
             subst (All (λ p. p < length xs)) (sym same_places) c.loop-i.invariant.within
-        ];
+      ];
       seen = λ q. seen_more same xs i x q (contains same c.loop-i.seen q) (contains same c.insert.new.self q) c.loop-i-test.true c.index-items-i.is (c.loop-i.invariant.seen q) (c.in_ok-insert.ensures.updates.0 q);
     }
