@@ -3,5 +3,6 @@ pub mod Kinds
 pub mod Loops
 pub mod Numbers
 pub mod Places
+pub mod Like
 pub mod Lists
 pub mod Tests
