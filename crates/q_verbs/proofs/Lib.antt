@@ -4,6 +4,7 @@ pub mod ChoiceLemmas
 pub mod ChosenLemmas
 pub mod DistinctLemmas
 pub mod KindLemmas
+pub mod LawLemmas
 pub mod LikeLemmas
 pub mod MapLemmas
 pub mod OrderLemmas

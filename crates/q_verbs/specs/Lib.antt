@@ -3,6 +3,7 @@ pub mod Kinds
 pub mod Loops
 pub mod Numbers
 pub mod Places
+pub mod Laws
 pub mod Like
 pub mod Lists
 pub mod Tests

@@ -10,6 +10,7 @@ mod comparison;
 mod distinct;
 mod ends;
 mod kinds;
+pub mod laws;
 mod like;
 mod number;
 mod one_side;
@@ -27,3 +28,6 @@ pub use like::is_like;
 pub use one_side::unary;
 pub use verb::{Verb, Verb1};
 pub use within::is_within;
+
+#[cfg(test)]
+mod tests;
