@@ -5,6 +5,7 @@ pub mod ChosenLemmas
 pub mod DistinctLemmas
 pub mod KindLemmas
 pub mod LawLemmas
+pub mod LeastLemmas
 pub mod LikeLemmas
 pub mod MapLemmas
 pub mod OrderLemmas

@@ -1,5 +1,5 @@
 //! Laws of the verbs, each the contract of a function that does nothing.
-ghost use Rattle.q_verbs.specs.Laws.{DivisionIsWhole, RemainderLiesBelow, BarIsGreatestMultiple, SumOfJoined, PlainPatternIsItself, AnyBytesMatchAll};
+ghost use Rattle.q_verbs.specs.Laws.{DivisionIsWhole, RemainderLiesBelow, BarIsGreatestMultiple, SumOfJoined, LeastIsItem, PlainPatternIsItself, AnyBytesMatchAll};
 
 /// A number is the divisor times the quotient, and the remainder.
 pub fn division_is_whole()
@@ -19,6 +19,11 @@ pub fn bar_is_greatest_multiple()
 /// The sum of two lists joined is the sum of their sums, wrapped.
 pub fn sum_of_joined()
     ensures { SumOfJoined }
+{}
+
+/// What `min` finds is an item, and no number of the list is less.
+pub fn least_is_item()
+    ensures { LeastIsItem }
 {}
 
 /// A pattern of plain bytes matches itself alone.
