@@ -1,5 +1,5 @@
 -- Values of whole lists.
-use Rattle.std.proofs.Common.{◌≡◌, ℕ, ℤ, pos, zero, suc, ◌+◌, ◌<◌, ◌%◌, List, [], ◌∷◌, length, Some, slice_get, refl, sym, ap, ◌∙◌, arith, to_z}
+use Rattle.std.proofs.Common.{◌≡◌, ℕ, ℤ, pos, zero, suc, ◌+◌, ◌<◌, ◌%◌, List, [], ◌∷◌, length, Some, slice_get, ap, arith, to_z}
 use Rattle.std.specs.Int.{w64, int_wrap}
 use Rattle.std.proofs.lemmas.Int.{int_wrap_fits, SFits-int_wrap}
 use Rattle.q_values.specs.declared.atom.Atom.{Atom}

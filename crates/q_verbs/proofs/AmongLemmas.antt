@@ -1,5 +1,5 @@
 -- Equality of numbers and of what they are worth.
-use Rattle.std.proofs.Common.{◌≡◌, ℤ, Bool, true, false, List, [], ◌∷◌, ◌||◌, map, refl, sym, ap, ◌∙◌, arith}
+use Rattle.std.proofs.Common.{◌≡◌, ℤ, Bool, List, [], ◌∷◌, ◌||◌, map, refl, sym, ap, ◌∙◌, arith}
 use Rattle.std.proofs.Common.{ℕ}
 use Rattle.std.specs.Prelude.{nat_eq}
 use lib.Pointwise.{pointwise}
@@ -8,7 +8,7 @@ use Rattle.std.specs.List.{list_any}
 use Rattle.std.specs.Int.{w64}
 use Rattle.std.specs.declared.cmp.Ordering.{Ordering}
 use Rattle.std.specs.declared.cmp.Ordering.TheVariants.{Less, Equal, Greater}
-use Rattle.std.specs.Ordering.{int_eq, is_eq, int_cmp, nat_cmp, ordering_then}
+use Rattle.std.specs.Ordering.{int_eq, is_eq, nat_cmp, ordering_then}
 use Rattle.std.proofs.lemmas.Int.{ints}
 use Rattle.q_verbs.proofs.MapLemmas.{map_through, map-mapped}
 use Rattle.q_verbs.specs.Numbers.{worth_cmp, number_cmp, number_in}

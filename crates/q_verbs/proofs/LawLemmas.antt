@@ -1,16 +1,14 @@
 -- The laws of the verbs.
-use Rattle.std.proofs.Common.{◌≡◌, ℕ, ℤ, pos, negsuc, neg_ℤ, suc, zero, ◌+ℤ◌, ◌-ℤ◌, ◌*ℤ◌, ◌≤ℤ◌, ◌<ℤ◌, Bool, true, false, not, ◌&&◌, ◌||◌, ◌==◌, if◌then◌else◌, List, [], ◌∷◌, ◌++◌, map, Option, Some, None, refl, sym, ap, ◌∙◌, subst, arith}
+use Rattle.std.proofs.Common.{◌≡◌, ℕ, ℤ, pos, ◌+ℤ◌, ◌-ℤ◌, ◌*ℤ◌, Bool, true, false, not, ◌&&◌, ◌||◌, ◌==◌, if◌then◌else◌, List, [], ◌∷◌, map, Some, None, refl, sym, ap, ◌∙◌, arith}
 use Rattle.std.specs.List.{list_any}
-use Rattle.std.specs.Int.{Width, int_wrap, int_div_euclid}
-use Rattle.std.specs.Int.RustNames.{int_lt}
+use Rattle.std.specs.Int.{int_wrap}
 use Rattle.std.specs.Ordering.{int_eq}
 use Rattle.std.proofs.lemmas.Int.{ints, int_wrap-add_left, int_wrap-add_right}
 use Rattle.std.proofs.lemmas.List.{map-append}
-use Rattle.q_verbs.specs.Numbers.{reduced}
-use Rattle.q_verbs.specs.Places.{quotient_of, remainder_of, multiple_of, floor_div}
+use Rattle.q_verbs.specs.Places.{floor_div}
 use Rattle.q_verbs.specs.Aggregates.{total, number_of}
 use Rattle.q_verbs.specs.Like.{matches, suffixes, fits_byte, one_byte}
-use Rattle.q_verbs.specs.Laws.{DivisionIsWhole, RemainderLiesBelow, BarIsGreatestMultiple, SumOfJoined, is_plain, PlainPatternIsItself, AnyBytesMatchAll}
+use Rattle.q_verbs.specs.Laws.{DivisionIsWhole, SumOfJoined, is_plain, PlainPatternIsItself, AnyBytesMatchAll}
 use Rattle.q_verbs.proofs.TotalLemmas.{total-append}
 
 rejoined : (x p : ℤ) → x ≡ p +ℤ (x -ℤ p)

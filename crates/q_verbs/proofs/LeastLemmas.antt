@@ -1,5 +1,5 @@
 -- What min finds.
-use Rattle.std.proofs.Common.{◌≡◌, ◌≤ℤ◌, ◌<ℤ◌, ◌⊎◌, inl, inr, ⊎_elim, ℤ, Bool, true, false, cond, List, [], ◌∷◌, Option, Some, None, refl, sym, ap, ◌∙◌, subst, arith}
+use Rattle.std.proofs.Common.{◌≡◌, ◌≤ℤ◌, ◌<ℤ◌, ◌⊎◌, inl, inr, ⊎_elim, ℤ, cond, List, [], ◌∷◌, Option, Some, None, refl, sym, ap, ◌∙◌, subst, arith}
 use Rattle.std.specs.Prelude.{fold, is_some}
 use Rattle.std.specs.declared.cmp.Ordering.{Ordering}
 use Rattle.std.specs.declared.cmp.Ordering.TheVariants.{Less, Equal, Greater}
@@ -11,7 +11,7 @@ use Rattle.q_values.specs.declared.atom.Atom.{Atom}
 use Rattle.q_verbs.specs.declared.verb.Verb.TheVariants as v
 use Rattle.q_verbs.specs.Numbers.{worth, number_cmp}
 use Rattle.q_verbs.specs.Places.{chosen}
-use Rattle.q_verbs.specs.Aggregates.{number_of, best_of, choose_present, chosen_of}
+use Rattle.q_verbs.specs.Aggregates.{number_of, best_of, choose_present}
 use Rattle.q_verbs.specs.Laws.{IsItem, NoneIsLess, LeastIsItem}
 
 abbrev Picked : Atom → Atom → Atom → ℤ → ℤ → Type 0

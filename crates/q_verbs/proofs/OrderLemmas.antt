@@ -1,12 +1,11 @@
 -- The order of numbers of 64 bits of which the least is the null.
-use Rattle.std.proofs.Common.{◌≡◌, ◌<ℤ◌, ◌≤ℤ◌, ℤ, Bool, true, false, Option, Some, None, refl, sym, ap, ◌∙◌, arith, FitsSigned, negsuc}
+use Rattle.std.proofs.Common.{◌≡◌, ℤ, refl, sym, ◌∙◌, arith, FitsSigned}
 use Rattle.std.specs.Int.{w64}
-use Rattle.std.specs.Int.RustNames.{int_lt}
 use Rattle.std.specs.declared.cmp.Ordering.{Ordering}
 use Rattle.std.specs.declared.cmp.Ordering.TheVariants.{Less, Equal, Greater}
 use Rattle.std.specs.Ordering.{int_cmp, ordering_then}
 use Rattle.std.proofs.lemmas.Int.{ints}
-use Rattle.q_verbs.specs.Numbers.{number_cmp, worth_cmp, number_in, least}
+use Rattle.q_verbs.specs.Numbers.{number_cmp, worth_cmp, number_in}
 use Rattle.q_verbs.specs.Loops.{worth_in_64}
 
 ended : (o : Ordering) → ordering_then o Equal ≡ o

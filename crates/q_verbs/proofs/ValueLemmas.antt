@@ -1,13 +1,13 @@
 -- Which rule gives a verb's values.
-use Rattle.std.proofs.Common.{◌≡◌, Bool, true, false, ◌&&◌, if◌then◌else◌, List, refl, sym, ap, ◌∙◌}
+use Rattle.std.proofs.Common.{◌≡◌, true, false, ◌&&◌, if◌then◌else◌, List, sym}
 use Rattle.std.specs.Simd.Lanes.{zip2}
 use Rattle.q_values.specs.declared.atom.Atom.{Atom}
 use Rattle.q_values.specs.declared.atom.Atom.TheVariants as a
 use Rattle.q_values.specs.declared.kind.Kind.{Kind}
 use Rattle.q_verbs.specs.declared.verb.Verb.{Verb}
 use Rattle.q_verbs.specs.Kinds.{is}
-use Rattle.q_verbs.specs.Numbers.{worth, worth_cmp, written}
-use Rattle.q_verbs.specs.Places.{is_comparison, is_choice, holds, chosen, operation, of_both, value_of}
+use Rattle.q_verbs.specs.Numbers.{worth, worth_cmp}
+use Rattle.q_verbs.specs.Places.{is_comparison, is_choice, holds, chosen, operation, value_of}
 use Rattle.q_verbs.specs.Loops.{given}
 
 module _ (verb : Verb) (left right kind : Kind) (xs ys : List Atom) where

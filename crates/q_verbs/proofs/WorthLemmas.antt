@@ -1,6 +1,6 @@
 -- What the items of a column are worth.
 use Rattle.std.proofs.Common.{◌≡◌, ℕ, ℤ, pos, List, [], ◌∷◌, map, Option, Some, refl, sym, ap, ◌∙◌}
-use Rattle.std.specs.Int.{w16, w32, w64}
+use Rattle.std.specs.Int.{w32, w64}
 use Rattle.q_values.specs.Column.{byte_atom, integer_atom, long_atom}
 use Rattle.q_values.specs.declared.atom.Atom.{Atom}
 use Rattle.q_values.specs.declared.kind.ByteKind.{ByteKind}

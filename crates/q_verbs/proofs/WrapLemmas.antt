@@ -1,9 +1,8 @@
 -- What is left of a number in fewer bits.
-use Rattle.std.proofs.Common.{◌≡◌, ℕ, ℤ, pos, negsuc, ◌+◌, ◌-◌, ◌%◌, ◌^◌, ◌<◌, ◌≤◌, refl, sym, ap, ◌∙◌, arith, FitsSigned, to_z, of_z, suc}
+use Rattle.std.proofs.Common.{◌≡◌, ℕ, ℤ, pos, negsuc, ◌-◌, ◌%◌, ◌<◌, refl, sym, ap, ◌∙◌, arith, FitsSigned, to_z, of_z, suc}
 use Rattle.std.specs.Int.{w16, w32, w64, int_wrap, int_rem_euclid}
 use Rattle.std.specs.Int.RustNames.{unsigned_abs}
 use Rattle.std.proofs.lemmas.Int.{ints, of_z-to_z, SFits-int_wrap}
-use native.Mathlib.Nat.{mod-lt}
 
 low-32_of_bits : (n : ℕ) → n < 18446744073709551616 → (18446744073709551616 - suc n) % 4294967296 ≡ 4294967296 - 1 - n % 4294967296
 low-32_of_bits n h = omega arith

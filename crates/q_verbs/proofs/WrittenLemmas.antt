@@ -2,7 +2,7 @@
 use Rattle.std.proofs.lemmas.Simd.{zip2_splat_left}
 use Rattle.q_verbs.proofs.MapLemmas.{map_through}
 use Rattle.std.specs.Prelude.{replicate}
-use Rattle.std.proofs.Common.{◌≡◌, ℕ, ℤ, pos, neg_ℤ, ◌-ℤ◌, arith, length, [], ◌∷◌, List, map, Option, Some, None, refl, sym, ap, ◌∙◌, option_map}
+use Rattle.std.proofs.Common.{◌≡◌, ℕ, ℤ, pos, neg_ℤ, ◌-ℤ◌, arith, length, [], ◌∷◌, List, map, Option, Some, None, refl, ap, ◌∙◌, option_map}
 use Rattle.std.specs.Int.{w16, w32, w64, int_wrap}
 use Rattle.std.specs.Simd.Lanes.{zip2}
 use Rattle.std.proofs.lemmas.Int.{ints, int_wrap_fits, SFits-int_wrap}
@@ -16,7 +16,7 @@ use Rattle.q_values.specs.declared.kind.IntegerKind.TheVariants as i
 use Rattle.q_values.specs.declared.kind.LongKind.{LongKind}
 use Rattle.q_values.specs.declared.kind.LongKind.TheVariants as l
 use Rattle.q_verbs.specs.declared.verb.Verb.{Verb}
-use Rattle.q_verbs.specs.Numbers.{worth, Worth, number_in, reduced, written}
+use Rattle.q_verbs.specs.Numbers.{worth, number_in, reduced, written}
 use Rattle.q_verbs.specs.Places.{Operation, operation, of_both, difference_of}
 use Rattle.q_verbs.specs.Loops.{computed, given, worth_in_64}
 use Rattle.q_verbs.proofs.WrapLemmas.{int_wrap-16, int_wrap-32}

@@ -1,15 +1,14 @@
 -- What a verb gives of a whole list.
-use Rattle.std.specs.Prelude.{ℕ, ℤ, pos, negsuc, ◌+ℤ◌, Bool, true, false, List, [], ◌∷◌, map, length, fold, Option, Some, None, unwrap_or, is_some, if◌then◌else◌}
+use Rattle.std.specs.Prelude.{ℤ, pos, negsuc, ◌+ℤ◌, Bool, true, false, List, [], ◌∷◌, map, length, fold, Option, Some, None, unwrap_or, is_some, if◌then◌else◌}
 use Rattle.q_values.specs.declared.atom.Atom.{Atom}
 use Rattle.q_values.specs.declared.atom.Atom.TheVariants as a
 use Rattle.q_values.specs.declared.kind.Kind.{Kind}
 use Rattle.q_values.specs.declared.kind.Kind.TheVariants as k
-use Rattle.q_verbs.specs.declared.verb.Verb.{Verb}
 use Rattle.q_verbs.specs.declared.verb.Verb.TheVariants as v
 use Rattle.q_verbs.specs.declared.verb.Verb1.{Verb1}
 use Rattle.q_verbs.specs.declared.verb.Verb1.TheVariants as u
 use Rattle.q_verbs.specs.Kinds.{total_kind}
-use Rattle.q_verbs.specs.Numbers.{Worth, worth, written}
+use Rattle.q_verbs.specs.Numbers.{worth, written}
 use Rattle.q_verbs.specs.Places.{chosen}
 
 -- the greatest value of a kind

@@ -1,5 +1,5 @@
 -- Values beside one another, as the loops over columns of 64 bits take them.
-use Rattle.std.specs.Prelude.{ℕ, ℤ, List, Option, option_map, if◌then◌else◌}
+use Rattle.std.specs.Prelude.{ℤ, List, Option, option_map, if◌then◌else◌}
 use Rattle.std.specs.Int.RustNames.{int_lt}
 use Rattle.std.specs.Int.{w64, int_wrap}
 use Rattle.q_values.specs.declared.atom.Atom.{Atom}

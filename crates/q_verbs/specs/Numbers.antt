@@ -1,5 +1,5 @@
 -- What a value is worth to a verb, and how a number is given in a kind.
-use Rattle.std.specs.Prelude.{ℕ, ◌-◌, ◌^◌, ℤ, pos, negsuc, List, [], if◌then◌else◌, Option, Some, None}
+use Rattle.std.specs.Prelude.{ℕ, ℤ, pos, negsuc, List, [], if◌then◌else◌, Option, Some, None}
 use Rattle.std.specs.Int.{Width, w16, w32, w64, int_wrap}
 use Rattle.std.specs.Int.RustNames.{int_lt}
 use Rattle.std.specs.declared.cmp.Ordering.{Ordering}

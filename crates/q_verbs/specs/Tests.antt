@@ -1,5 +1,5 @@
 -- Verbs that test each value: within, in.
-use Rattle.std.specs.Prelude.{ℕ, Bool, ◌&&◌, List}
+use Rattle.std.specs.Prelude.{Bool, ◌&&◌, List}
 use Rattle.std.specs.List.{list_any}
 use Rattle.std.specs.Ordering.{is_eq, is_le}
 use Rattle.q_values.specs.declared.atom.Atom.{Atom}

@@ -1,5 +1,5 @@
-use Rattle.std.proofs.Common.{◌≡◌, ◌<◌, ℤ, pos, rules, arith, FitsSigned, ap, ◌∙◌, length, to_z}
-use Rattle.std.specs.Int.{w64, int_wrap}
+use Rattle.std.proofs.Common.{◌≡◌, ◌<◌, rules, arith, FitsSigned, ap, ◌∙◌, length, to_z}
+use Rattle.std.specs.Int.{w64}
 use Rattle.std.proofs.lemmas.Int.{to_z-of_z}
 use Rattle.q_values.specs.declared.atom.Atom.TheVariants as a
 use Rattle.q_verbs.proofs.AggregateLemmas.{count_wraps}

@@ -1,8 +1,7 @@
-use Rattle.std.proofs.Common.{◌≡◌, rules, Option, Some, FitsSigned, List, map, ap, sym, ◌∙◌, unwrap_or}
+use Rattle.std.proofs.Common.{◌≡◌, rules, Some, FitsSigned, map, ap, sym, ◌∙◌, unwrap_or}
 use Rattle.std.specs.Int.{w64, int_wrap}
 use Rattle.std.proofs.lemmas.Int.{to_z-of_z}
 use Rattle.q_values.specs.Contents.{Contents}
-use Rattle.q_values.specs.declared.kind.Kind.{Kind}
 use Rattle.q_verbs.specs.Kinds.{total_kind}
 use Rattle.q_verbs.specs.Numbers.{written}
 use Rattle.q_verbs.specs.Aggregates.{total, number_of}

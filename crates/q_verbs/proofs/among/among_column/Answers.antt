@@ -1,4 +1,4 @@
-use Rattle.std.proofs.Common.{◌≡◌, ℕ, List, map, refl, ◌∙◌}
+use Rattle.std.proofs.Common.{ℕ, List, map, ◌∙◌}
 use Rattle.std.specs.Ordering.{is_eq}
 use Rattle.q_values.specs.declared.atom.Atom.TheVariants as a
 use Rattle.q_verbs.specs.Numbers.{Worth, worth, worth_cmp}

@@ -1,4 +1,4 @@
-use Rattle.std.proofs.Common.{◌≡◌, ℕ, List, map, ap, ◌∙◌, length, sym, pos, rules}
+use Rattle.std.proofs.Common.{◌≡◌, List, map, ap, ◌∙◌, length, sym, pos, rules}
 use Rattle.std.specs.Prelude.{replicate}
 use Rattle.q_values.specs.Contents.{Contents}
 use Rattle.q_values.specs.declared.atom.Atom.{Atom}

@@ -1,4 +1,4 @@
-use Rattle.std.proofs.Common.{◌≡◌, rules, Bool, true, false, ◌&&◌, List, IsTrue, ap, sym, ◌∙◌, subst}
+use Rattle.std.proofs.Common.{◌≡◌, rules, true, false, ◌&&◌, List, ap, sym, ◌∙◌}
 use Rattle.q_values.specs.Contents.{Contents}
 use Rattle.q_values.specs.declared.atom.Atom.{Atom}
 use Rattle.q_values.specs.declared.kind.Kind.{Kind}

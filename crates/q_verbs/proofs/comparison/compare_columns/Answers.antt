@@ -1,8 +1,4 @@
-use Rattle.std.proofs.Common.{◌≡◌, List, ℕ, map, ap, ◌∙◌, sym, refl}
-use Rattle.std.specs.Simd.Lanes.{zip2}
-use Rattle.std.specs.Ordering.{nat_cmp}
-use Rattle.std.specs.Cmp.Lexicographic.{slice_cmp}
-use Rattle.q_values.specs.Column.{contents}
+use Rattle.std.proofs.Common.{List, ℕ, ◌∙◌, sym}
 use Rattle.q_values.specs.declared.atom.Atom.TheVariants as a
 use Rattle.q_verbs.specs.Numbers.{worth, worth_cmp}
 use Rattle.q_verbs.proofs.ZipLemmas.{zip2-mapped}

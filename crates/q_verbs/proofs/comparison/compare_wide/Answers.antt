@@ -1,4 +1,4 @@
-use Rattle.std.proofs.Common.{◌≡◌, map, ap, ◌∙◌}
+use Rattle.std.proofs.Common.{map, ap, ◌∙◌}
 use Rattle.q_values.specs.Column.{contents}
 use Rattle.q_verbs.specs.Numbers.{worth, worth_cmp}
 use Rattle.q_verbs.specs.Loops.{worth_in_64}

@@ -1,9 +1,7 @@
-use Rattle.std.proofs.Common.{◌≡◌, ◌<◌, ◌++◌, ◌∷◌, [], ℕ, List, rules, arith, length, All, take, sym, ap, ◌∙◌, subst, not}
+use Rattle.std.proofs.Common.{◌≡◌, ◌<◌, ◌++◌, ◌∷◌, [], length, All, sym, ap, ◌∙◌, subst}
 use Rattle.std.proofs.lemmas.List.Elements.{All-push}
-use Rattle.std.specs.List.{list_any}
 use Rattle.std.specs.HashSet.{contains}
 use Rattle.q_values.specs.Lists.{gathered}
-use Rattle.q_verbs.specs.Lists.{distinct}
 use Rattle.q_verbs.proofs.DistinctLemmas.{place_pushed, place_passed, seen_more}
 use Rattle.q_verbs.proofs.distinct.first_places.Goals as goal
 use Rattle.q_verbs.proofs.distinct.first_places.Goals.{then-branch+in_ok-push, else-branch}

@@ -1,4 +1,4 @@
-use Rattle.std.proofs.Common.{◌≡◌, ℕ, ℤ, Bool, List, Bor, refl, ap, ◌∙◌, sym, map, subst}
+use Rattle.std.proofs.Common.{◌≡◌, ℕ, Bool, List, Bor, ap, ◌∙◌, sym, map, subst}
 use Rattle.std.specs.Prelude.{nat_eq}
 use Rattle.std.specs.Ordering.{int_eq}
 use mathlib.Core.Bool.{beq}

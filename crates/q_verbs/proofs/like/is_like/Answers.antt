@@ -1,4 +1,4 @@
-use Rattle.std.proofs.Common.{◌≡◌, ℕ, Bool, List, map, ap, sym, ◌∙◌}
+use Rattle.std.proofs.Common.{ℕ, Bool, List, map, ap, sym, ◌∙◌}
 use Rattle.q_values.specs.Contents.{Contents}
 use Rattle.q_values.specs.Column.{contents}
 use Rattle.q_values.specs.declared.atom.Atom.{Atom}

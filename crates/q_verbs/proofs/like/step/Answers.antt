@@ -1,4 +1,4 @@
-use Rattle.std.proofs.Common.{◌≡◌, ◌==◌, true, false, rules, arith, length}
+use Rattle.std.proofs.Common.{◌≡◌, ◌==◌, true, false, arith, length}
 use Rattle.q_verbs.proofs.LikeLemmas.{row_any, row_byte}
 use Rattle.q_verbs.proofs.like.step.Goals as goal
 

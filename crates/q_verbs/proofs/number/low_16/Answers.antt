@@ -1,7 +1,5 @@
-use Rattle.std.proofs.Common.{rules, ◌≡◌, to_z, of_z, to_z-of_z, FitsSigned, arith}
-use Rattle.std.specs.Int.{w16, w64, int_wrap}
+use Rattle.std.proofs.Common.{rules}
 use Rattle.q_verbs.proofs.WrapLemmas.{low-16}
-use Rattle.std.proofs.lemmas.Int.{SFits-int_wrap}
 use Rattle.q_verbs.proofs.number.low_16.Goals as goal
 
 pub returns : goal.returns

@@ -1,6 +1,6 @@
 use Rattle.std.proofs.Common.{◌≡◌, ◌+ℤ◌, rules, arith, pos, Some, FitsSigned, ap, sym, ◌∙◌, unwrap_or}
 use Rattle.std.specs.Int.{w64, int_wrap}
-use Rattle.std.proofs.lemmas.Int.{ints, wraps, wrapping_add_is}
+use Rattle.std.proofs.lemmas.Int.{ints, wrapping_add_is}
 use Rattle.q_verbs.specs.Numbers.{number_in}
 use Rattle.q_verbs.proofs.totals.added.Goals as goal
 

@@ -1,5 +1,4 @@
-use Rattle.std.proofs.Common.{◌≡◌, ℕ, List, map, sym, ◌∙◌}
-use Rattle.q_values.specs.Column.{contents}
+use Rattle.std.proofs.Common.{ℕ, List, map, sym, ◌∙◌}
 use Rattle.q_values.specs.declared.atom.Atom.TheVariants as a
 use Rattle.q_verbs.specs.Numbers.{worth}
 use Rattle.q_verbs.specs.Tests.{lies_within}

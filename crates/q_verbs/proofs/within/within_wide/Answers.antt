@@ -1,4 +1,4 @@
-use Rattle.std.proofs.Common.{◌≡◌, rules, FitsSigned, List, map, ap, ◌∙◌, to_z, of_z}
+use Rattle.std.proofs.Common.{rules, FitsSigned, map, ap, ◌∙◌}
 use Rattle.std.specs.Int.{w64}
 use Rattle.std.proofs.lemmas.Int.{to_z-of_z}
 use Rattle.q_values.specs.Column.{contents}

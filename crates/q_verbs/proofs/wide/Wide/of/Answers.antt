@@ -1,4 +1,4 @@
-use Rattle.std.proofs.Common.{◌≡◌, ℕ, ℤ, pos, Bool, List, map, Option, Some, refl, ap, ◌∙◌, if◌then◌else◌}
+use Rattle.std.proofs.Common.{ℕ, ℤ, pos, Bool, map, Option, Some, refl, ap, ◌∙◌, if◌then◌else◌}
 use Rattle.std.specs.Int.{w16, w32, w64}
 use Rattle.q_values.specs.Column.{byte_atom, integer_atom, long_atom}
 use Rattle.q_values.specs.declared.atom.Atom.TheVariants as a
