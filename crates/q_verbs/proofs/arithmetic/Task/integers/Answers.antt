@@ -1,0 +1,13 @@
+use Rattle.std.proofs.Common.{List, map, ap, ◌∙◌}
+use Rattle.q_values.specs.Contents.{Contents}
+use Rattle.q_values.specs.Column.{integer_atom, integer_kind}
+use Rattle.q_values.specs.declared.atom.Atom.{Atom}
+use Rattle.q_verbs.specs.Places.{operation}
+use Rattle.q_verbs.proofs.WrittenLemmas.{integers-given}
+use Rattle.q_verbs.proofs.arithmetic.Task.integers.Goals as goal
+
+pub returns : goal.returns
+returns c =
+    let task = c.args.self.now in
+    let of_atoms : List Atom → Contents = λ atoms. record { kind = integer_kind c.args.kind; atoms = atoms } in
+    ap of_atoms (ap (map (integer_atom c.args.kind)) c.in_ok-values.ensures ∙ integers-given c.args.kind (operation task.verb task.left_kind task.right_kind) task.left.now task.right.now)

@@ -1,0 +1,39 @@
+use Rattle.std.proofs.Common.{◌≡◌, rules, true, false, ◌&&◌, List, ap, sym, ◌∙◌}
+use Rattle.q_values.specs.Contents.{Contents}
+use Rattle.q_values.specs.declared.atom.Atom.{Atom}
+use Rattle.q_values.specs.declared.kind.Kind.{Kind}
+use Rattle.q_verbs.specs.Kinds.{is, is_computed}
+use Rattle.q_verbs.specs.Places.{is_comparison, is_choice, is_by_place}
+use Rattle.q_verbs.proofs.RowLemmas.{comparison_row, choice_row, computed_row}
+use Rattle.q_verbs.proofs.ValueLemmas.{compared_values, chosen_values, computed_values}
+use Rattle.q_verbs.proofs.by_place.binary_of_kind.Goals as goal
+
+abbrev of_atoms : Kind → List Atom → Contents
+of_atoms kind atoms = record { kind = kind; atoms = atoms }
+
+pub arithmetic-requires-clause-kind : goal.arithmetic-requires-clause-kind
+arithmetic-requires-clause-kind c =
+    let by_place : is_by_place c.args.verb ≡ true = search rules in
+    let compares : is_comparison c.args.verb ≡ false = cc in
+    let chooses : (is_choice c.args.verb && is c.args.left.now.kind c.args.right.now.kind) ≡ false = cc in
+    let computed : is_computed c.args.kind ≡ true = (computed_row c.args.verb c.args.left.now.kind c.args.right.now.kind c.args.kind c.requires.row by_place compares chooses).1 in
+    search rules
+
+pub returns-in_ok-values : goal.returns-in_ok-values
+returns-in_ok-values c =
+    let compares : is_comparison c.args.verb ≡ true = cc in
+    let row = comparison_row c.args.verb c.args.left.now.kind c.args.right.now.kind c.args.kind c.requires.row compares in
+    c.in_ok-values.ensures ∙ (λ i. of_atoms (sym row.1 i) (compared_values c.args.verb c.args.left.now.kind c.args.right.now.kind c.args.kind c.args.left.now.atoms c.args.right.now.atoms compares i))
+
+pub returns-in_ok-values-2 : goal.returns-in_ok-values-2
+returns-in_ok-values-2 c =
+    let compares : is_comparison c.args.verb ≡ false = cc in
+    let chooses : (is_choice c.args.verb && is c.args.left.now.kind c.args.right.now.kind) ≡ true = cc in
+    let row = choice_row c.args.verb c.args.left.now.kind c.args.right.now.kind c.args.kind c.requires.row compares chooses in
+    c.in_ok-values-2.ensures ∙ (λ i. of_atoms (sym row.2 i) (chosen_values c.args.verb c.args.left.now.kind c.args.right.now.kind c.args.kind c.args.left.now.atoms c.args.right.now.atoms compares chooses i))
+
+pub returns-in_ok-values-3 : goal.returns-in_ok-values-3
+returns-in_ok-values-3 c =
+    let compares : is_comparison c.args.verb ≡ false = cc in
+    let chooses : (is_choice c.args.verb && is c.args.left.now.kind c.args.right.now.kind) ≡ false = cc in
+    c.in_ok-values-3.ensures ∙ ap (of_atoms c.args.kind) (computed_values c.args.verb c.args.left.now.kind c.args.right.now.kind c.args.kind c.args.left.now.atoms c.args.right.now.atoms compares chooses)

@@ -1,0 +1,52 @@
+-- What holds of the verbs, in other words than their definitions.
+use Rattle.std.specs.Prelude.{◌≡◌, ℕ, ℤ, pos, ◌+ℤ◌, ◌*ℤ◌, ◌≤ℤ◌, ◌<ℤ◌, Bool, true, not, ◌&&◌, ◌==◌, List, [], ◌∷◌, ◌++◌, map, Some, ◌⊎◌}
+use Rattle.std.specs.Int.{Width, int_wrap}
+use Rattle.q_values.specs.declared.atom.Atom.{Atom}
+use Rattle.q_verbs.specs.Numbers.{reduced}
+use Rattle.q_verbs.specs.declared.verb.Verb.TheVariants as v
+use Rattle.q_verbs.specs.Places.{quotient_of, remainder_of, multiple_of, chosen}
+use Rattle.q_verbs.specs.Aggregates.{total, number_of, chosen_of}
+use Rattle.q_verbs.specs.Like.{matches}
+
+-- x = y * (x div y) + x mod y
+abbrev pub DivisionIsWhole : Type 0
+DivisionIsWhole = (x y q r : ℤ) → quotient_of x y ≡ Some q → remainder_of x y ≡ Some r → x ≡ (y *ℤ q) +ℤ r
+
+-- a remainder lies from 0 to below a divisor above 0
+abbrev pub RemainderLiesBelow : Type 0
+RemainderLiesBelow = (x y r : ℤ) → pos 0 <ℤ y → remainder_of x y ≡ Some r → (pos 0 ≤ℤ r) × (r <ℤ y)
+
+-- with a width above 0, xbar gives the greatest multiple of it that is not above the number
+abbrev pub BarIsGreatestMultiple : Type 0
+BarIsGreatestMultiple = (x y m : ℤ) → pos 0 <ℤ x → multiple_of x y ≡ Some m → ((q : ℤ) × (m ≡ x *ℤ q)) × (m ≤ℤ y) × (y <ℤ (m +ℤ x))
+
+-- the sum of two lists joined is the sum of their sums, wrapped
+abbrev pub SumOfJoined : Type 0
+SumOfJoined = (w : Width) (xs ys : List Atom) → reduced w (Some (total (map number_of (xs ++ ys)))) ≡ int_wrap w (reduced w (Some (total (map number_of xs))) +ℤ reduced w (Some (total (map number_of ys))))
+
+-- the atom stands in the list
+abbrev pub IsItem : Atom → List Atom → Type 0
+IsItem x [] = ⊥
+IsItem x (y ∷ ys) = (x ≡ y) ⊎ IsItem x ys
+
+-- no number of the list is less
+abbrev pub NoneIsLess : ℤ → List Atom → Type 0
+NoneIsLess m [] = Unit {0}
+NoneIsLess m (x ∷ xs) = ((z : ℤ) → number_of x ≡ Some z → m ≤ℤ z) × NoneIsLess m xs
+
+-- what min finds is an item, and no number of the list is less
+abbrev pub LeastIsItem : Type 0
+LeastIsItem = (xs : List Atom) (best : Atom) → chosen_of number_of (chosen v.Lesser) xs ≡ Some best → IsItem best xs × ((m : ℤ) → number_of best ≡ Some m → NoneIsLess m xs)
+
+-- a pattern without `*` and `?`
+abbrev pub is_plain : List ℕ → Bool
+is_plain [] = true
+is_plain (p ∷ pattern) = not (p == 42) && (not (p == 63) && is_plain pattern)
+
+-- such a pattern matches itself alone
+abbrev pub PlainPatternIsItself : Type 0
+PlainPatternIsItself = (pattern text : List ℕ) → is_plain pattern ≡ true → (matches pattern text ≡ true → pattern ≡ text) × (matches pattern pattern ≡ true)
+
+-- `*` matches every text
+abbrev pub AnyBytesMatchAll : Type 0
+AnyBytesMatchAll = (text : List ℕ) → matches (42 ∷ []) text ≡ true

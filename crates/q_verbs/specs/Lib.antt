@@ -1,0 +1,9 @@
+pub mod Aggregates
+pub mod Kinds
+pub mod Loops
+pub mod Numbers
+pub mod Places
+pub mod Laws
+pub mod Like
+pub mod Lists
+pub mod Tests

@@ -1,0 +1,28 @@
+-- When a text matches a pattern.
+use Rattle.std.specs.Prelude.{ℕ, ◌==◌, ◌≡◌, ◌+◌, ◌≤◌, Bool, true, false, ◌&&◌, ◌||◌, if◌then◌else◌, List, [], ◌∷◌, length, drop, slice_index_or}
+use Rattle.std.specs.List.{list_any}
+
+-- what is left of a text behind each of its places, the last being its end
+abbrev pub suffixes : List ℕ → List (List ℕ)
+suffixes [] = [] ∷ []
+suffixes (b ∷ text) = (b ∷ text) ∷ suffixes text
+
+-- the byte of a pattern that stands for any one byte, `?`, or for itself
+abbrev pub fits_byte : ℕ → ℕ → Bool
+fits_byte p b = p == 63 || p == b
+
+-- one byte that fits, and then the rest
+abbrev pub one_byte : ℕ → (List ℕ → Bool) → List ℕ → Bool
+one_byte p rest [] = false
+one_byte p rest (b ∷ text) = fits_byte p b && rest text
+
+-- the whole text matches the whole pattern: `*` is any bytes, `?` any one byte, another byte itself
+abbrev pub matches : List ℕ → List ℕ → Bool
+matches [] [] = true
+matches [] (b ∷ text) = false
+matches (p ∷ pattern) text = if p == 42 then list_any (matches pattern) (suffixes text) else one_byte p (matches pattern) text
+
+-- at each place of a text, and at its end, whether what is left passes the test
+pub record IsRow (test : List ℕ → Bool) (text : List ℕ) (row : List Bool) : Type 0 where
+  pub size : length row ≡ length text + 1
+  pub value : (k : ℕ) → k ≤ length text → slice_index_or row k false ≡ test (drop k text)

@@ -1,0 +1,31 @@
+-- Values beside one another, as the loops over columns of 64 bits take them.
+use Rattle.std.specs.Prelude.{ℤ, List, Option, option_map, if◌then◌else◌}
+use Rattle.std.specs.Int.RustNames.{int_lt}
+use Rattle.std.specs.Int.{w64, int_wrap}
+use Rattle.q_values.specs.declared.atom.Atom.{Atom}
+use Rattle.q_values.specs.declared.kind.Kind.{Kind}
+use Rattle.q_verbs.specs.declared.wide.Wide.{Wide}
+use Rattle.q_verbs.specs.declared.wide.Wide.TheVariants.{Lent, Made}
+use Rattle.q_verbs.specs.Numbers.{Worth, numeric, number_in, written, least}
+use Rattle.q_verbs.specs.Places.{Operation, of_both}
+
+-- an operation's result in 64 bits, of two numbers or nulls
+abbrev pub computed : Operation → ℤ → ℤ → Option ℤ
+computed f x y = option_map (int_wrap w64) (of_both f (number_in w64 x) (number_in w64 y))
+
+-- what a number of 64 bits, or its null, is worth
+abbrev pub worth_in_64 : ℤ → Worth
+worth_in_64 x = numeric (number_in w64 x)
+
+-- what the operation makes of what two values are worth, in this kind
+abbrev pub given : Kind → Operation → Worth → Worth → Atom
+given kind f x y = written kind (of_both f x.number y.number)
+
+-- a column of 64 bits, as it was lent or made
+abbrev pub wide_items : Wide → List ℤ
+wide_items (Lent xs) = xs.now
+wide_items (Made xs) = xs.items
+
+-- a number of 64 bits, the least for every null
+abbrev pub canonical : ℤ → ℤ
+canonical x = if int_lt (least w64) x then x else least w64

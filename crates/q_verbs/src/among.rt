@@ -1,0 +1,142 @@
+//! Whether values are among a list's items.
+ghost use Rattle.std.specs.Prelude.{◌≡◌, ◌≢◌, ℤ, List, ℕ, Bool, IsSome, length, map, IfOk};
+ghost use Rattle.std.specs.List.{list_any};
+ghost use Rattle.std.specs.HashSet.{contains};
+ghost use Rattle.std.specs.Ordering.{int_eq, is_eq, nat_cmp};
+ghost use Rattle.std.specs.Cmp.Lexicographic.{slice_cmp};
+ghost use Rattle.q_values.specs.Column.{contents};
+ghost use Rattle.q_values.specs.declared.atom.Atom.TheVariants as a;
+ghost use Rattle.q_values.specs.declared.kind.Kind.TheVariants as k;
+ghost use Rattle.q_verbs.specs.Kinds.{comparison_kind};
+ghost use Rattle.q_verbs.specs.Numbers.{worth, worth_cmp};
+ghost use Rattle.q_verbs.specs.Loops.{canonical, worth_in_64};
+ghost use Rattle.q_verbs.specs.Tests.{is_among};
+
+use crate::comparison::booleans;
+use crate::wide::Wide;
+use q_values::{Column, NoMemory, Symbols, Vector};
+use std::alloc::{AllocError, Global};
+use std::collections::HashSet;
+use std::hash::Hash;
+
+// A number that the prover knows to be the least where it is a null.
+fn key_of(x: &i64) -> i64
+    ensures { result ≡ canonical x.now }
+{
+    *x
+}
+
+fn set_of_numbers(alloc: Global, items: &[i64]) -> Result<HashSet<i64>, AllocError>
+    ensures { IfOk result (λ s. (q : ℤ) → contains int_eq s q ≡ list_any (λ y. int_eq q (canonical y)) items.now) }
+{
+    let mut set = HashSet::new(alloc);
+    for item in items {
+        set.insert(key_of(item))?;
+    }
+    Ok(set)
+}
+
+fn is_in_set(set: &HashSet<i64>, x: &i64) -> bool
+    ensures { result ≡ contains int_eq set.now (canonical x.now) }
+{
+    set.contains(&key_of(x))
+}
+
+fn among_set(alloc: Global, left: &[i64], set: &HashSet<i64>) -> Result<Vec<bool>, AllocError>
+    ensures { IfOk result (λ v. v.items ≡ map (λ x. contains int_eq set.now (canonical x)) left.now) }
+{
+    let mut values = Vec::with_capacity(alloc, left.len())?;
+    for item in left {
+        values.push_reserved(is_in_set(set, item));
+    }
+    Ok(values)
+}
+
+fn among_numbers(alloc: Global, left: &[i64], items: &[i64]) -> Result<Vec<bool>, AllocError>
+    ensures { IfOk result (λ v. v.items ≡ map (λ x. list_any
+        (λ y. is_eq (worth_cmp (worth_in_64 x) (worth_in_64 y))) items.now) left.now) }
+{
+    let set = set_of_numbers(alloc, items)?;
+    let values = among_set(alloc, left, &set)?;
+    Ok(values)
+}
+
+fn set_of<T: Eq + Hash + Copy>(alloc: Global, items: &[T]) -> Result<HashSet<T>, AllocError>
+    ensures { IfOk result (λ s. (q : T) → contains T.eq s q ≡ list_any (T.eq q) items.now) }
+{
+    let mut set = HashSet::new(alloc);
+    for item in items {
+        set.insert(*item)?;
+    }
+    Ok(set)
+}
+
+fn among_items<T: Eq + Hash + Copy>(
+    alloc: Global,
+    left: &[T],
+    set: &HashSet<T>,
+) -> Result<Vec<bool>, AllocError>
+    ensures { IfOk result (λ v. v.items ≡ map (contains T.eq set.now) left.now) }
+{
+    let mut values = Vec::with_capacity(alloc, left.len())?;
+    for item in left {
+        values.push_reserved(set.contains(item));
+    }
+    Ok(values)
+}
+
+// Each symbol's bytes.
+pub(crate) fn texts_of(alloc: Global, symbols: &Symbols) -> Result<Vec<&[u8]>, AllocError>
+    ensures { IfOk result (λ v. map (λ t. t.now) v.items ≡ symbols.now) }
+{
+    let mut texts = Vec::with_capacity(alloc, symbols.len())?;
+    for i in 0..symbols.len() {
+        texts.push(symbols.at(i))?;
+    }
+    Ok(texts)
+}
+
+fn among_symbols(alloc: Global, left: &Symbols, items: &Symbols) -> Result<Vec<bool>, AllocError>
+    ensures { IfOk result (λ v. v.items
+        ≡ map (λ s. list_any (λ t. is_eq (slice_cmp nat_cmp s t)) items.now) left.now) }
+{
+    let left_texts = texts_of(alloc, left)?;
+    let texts = texts_of(alloc, items)?;
+    let set = set_of(alloc, &texts)?;
+    let values = among_items(alloc, &left_texts, &set)?;
+    Ok(values)
+}
+
+fn among_wide(alloc: Global, left: &Column, items: &Column) -> Result<Vec<bool>, NoMemory>
+    requires left { (contents left.now).kind ≢ k.Symbol }
+    requires items { (contents items.now).kind ≢ k.Symbol }
+    ensures { IfOk result (λ v. v.items ≡ map (is_among (contents items.now).atoms) (contents left.now).atoms) }
+{
+    let some = Wide::of(alloc, left)?;
+    let others = Wide::of(alloc, items)?;
+    let values = among_numbers(alloc, some.as_slice(), others.as_slice())?;
+    Ok(values)
+}
+
+fn among_column(alloc: Global, left: &Column, items: &Column) -> Result<Vec<bool>, NoMemory>
+    requires { IsSome (comparison_kind (contents left.now).kind (contents items.now).kind) }
+    ensures { IfOk result (λ v. v.items ≡ map (is_among (contents items.now).atoms) (contents left.now).atoms) }
+{
+    match (left, items) {
+        (Column::Symbols(some), Column::Symbols(others)) => Ok(among_symbols(alloc, some, others)?),
+        _ => among_wide(alloc, left, items),
+    }
+}
+
+/// Whether each value is equal to one of the items (KX, in).
+pub fn is_in(alloc: Global, left: &Vector, items: &Vector) -> Result<Vector, NoMemory>
+    requires { IsSome (comparison_kind left.now.kind items.now.kind) }
+    ensures { IfOk result (λ v. v ≡ record {
+      kind = k.Boolean;
+      atoms
+          = map (λ x. a.Boolean (is_among items.now.atoms x)) left.now.atoms;
+    }) }
+{
+    let values = among_column(alloc, left.column(), items.column())?;
+    Ok(booleans(values))
+}

@@ -1,0 +1,53 @@
+//! The items of a list where they stand first.
+ghost use Rattle.std.specs.Prelude.{◌≡◌, ◌<◌, length, map, All, IfOk};
+ghost use Rattle.q_values.specs.Column.{contents};
+ghost use Rattle.q_values.specs.Lists.{gathered};
+ghost use Rattle.q_verbs.specs.Lists.{distinct, same_atom};
+
+use crate::among::texts_of;
+use q_values::{Column, NoMemory, Vector};
+use std::alloc::{AllocError, Global};
+use std::collections::HashSet;
+use std::hash::Hash;
+
+// The places where items stand first.
+fn first_places<T: Eq + Hash + Copy>(alloc: Global, items: &[T]) -> Result<Vec<usize>, AllocError>
+    ensures items { IfOk result (λ v. gathered items.now v.items ≡ distinct T.eq items.now) }
+    ensures within { IfOk result (λ v. All (λ p. p < length items.now) v.items) }
+{
+    let mut seen = HashSet::new(alloc);
+    let mut places = Vec::new(alloc);
+    for i in 0..items.len() {
+        if seen.insert(items[i])? {
+            places.push(i)?;
+        }
+    }
+    Ok(places)
+}
+
+fn first_places_of(alloc: Global, column: &Column) -> Result<Vec<usize>, NoMemory>
+    ensures items { IfOk result (λ v. gathered (contents column.now).atoms v.items
+        ≡ distinct same_atom (contents column.now).atoms) }
+    ensures within { IfOk result (λ v. All (λ p. p < length (contents column.now).atoms) v.items) }
+{
+    match column {
+        Column::Booleans(items) => Ok(first_places(alloc, items)?),
+        Column::Bytes(_, items) => Ok(first_places(alloc, items)?),
+        Column::Shorts(items) => Ok(first_places(alloc, items)?),
+        Column::Integers(_, items) => Ok(first_places(alloc, items)?),
+        Column::Longs(_, items) => Ok(first_places(alloc, items)?),
+        Column::Symbols(symbols) => {
+            let texts = texts_of(alloc, symbols)?;
+            Ok(first_places(alloc, &texts)?)
+        }
+    }
+}
+
+/// The items, each where it stands first.
+pub(crate) fn distinct_items(alloc: Global, x: &Vector) -> Result<Vector, NoMemory>
+    ensures { IfOk result (λ v. v ≡ record x.now { atoms = distinct same_atom x.now.atoms }) }
+{
+    let places = first_places_of(alloc, x.column())?;
+    let items = x.gather(alloc, &places)?;
+    Ok(items)
+}

@@ -1,0 +1,149 @@
+//! Numbers of each width as numbers of 64 bits, and back.
+ghost use Rattle.std.specs.Prelude.{◌≡◌, ℤ, ◌≤ℤ◌, ◌^◌, ◌<◌, length, map, IfOk, Option, option_map};
+ghost use Rattle.std.specs.Int.{w16, w32, w64, int_wrap};
+ghost use Rattle.q_verbs.specs.Numbers.{number_in, reduced, least};
+
+use std::alloc::{AllocError, Global};
+
+/// A number of some width, or the null of that width.
+pub(crate) trait Number: Copy {
+    ghost number: { Self → Option ℤ };
+
+    /// The number, with the least of 64 bits for the null.
+    fn widened(&self) -> i64
+        ensures { number_in w64 result ≡ number self.now };
+}
+
+impl Number for bool {
+    ghost use Rattle.std.specs.Prelude.{Some, pos, if◌then◌else◌};
+
+    ghost number = { λ b. Some (pos (if b then 1 else 0)) };
+
+    fn widened(&self) -> i64 {
+        i64::from(*self)
+    }
+}
+
+impl Number for u8 {
+    ghost use Rattle.std.specs.Prelude.{Some, pos};
+
+    ghost number = { λ x. Some (pos x) };
+
+    fn widened(&self) -> i64 {
+        i64::from(*self)
+    }
+}
+
+impl Number for i16 {
+    ghost use Rattle.std.specs.Int.{w16};
+    ghost use Rattle.q_verbs.specs.Numbers.{number_in};
+
+    ghost number = { λ x. number_in w16 x };
+
+    fn widened(&self) -> i64 {
+        if *self > i16::MIN {
+            i64::from(*self)
+        } else {
+            i64::MIN
+        }
+    }
+}
+
+impl Number for i32 {
+    ghost use Rattle.std.specs.Int.{w32};
+    ghost use Rattle.q_verbs.specs.Numbers.{number_in};
+
+    ghost number = { λ x. number_in w32 x };
+
+    fn widened(&self) -> i64 {
+        if *self > i32::MIN {
+            i64::from(*self)
+        } else {
+            i64::MIN
+        }
+    }
+}
+
+impl Number for i64 {
+    ghost use Rattle.std.specs.Int.{w64};
+    ghost use Rattle.q_verbs.specs.Numbers.{number_in};
+
+    ghost number = { λ x. number_in w64 x };
+
+    fn widened(&self) -> i64 {
+        *self
+    }
+}
+
+pub(crate) fn widened_all<T: Number>(alloc: Global, items: &[T]) -> Result<Vec<i64>, AllocError>
+    ensures { IfOk result (λ v. map (number_in w64) v.items ≡ map T.number items.now) }
+{
+    let mut wide = Vec::with_capacity(alloc, items.len())?;
+    for item in items {
+        wide.push_reserved(item.widened());
+    }
+    Ok(wide)
+}
+
+/// A width that a verb computes in.
+pub(crate) trait Reduced: Copy {
+    ghost of: { Option ℤ → Self };
+
+    /// The number reduced to the width in two's complement, or the null.
+    fn reduced_from(value: Option<i64>) -> Self
+        ensures { result ≡ of value };
+}
+
+pub(crate) fn low_32(x: &i64) -> i32
+    ensures { result ≡ int_wrap w32 x.now }
+{
+    ((x.cast_unsigned() % 0x1_0000_0000) as u32).cast_signed()
+}
+
+fn low_16(x: &i64) -> i16
+    ensures { result ≡ int_wrap w16 x.now }
+{
+    ((x.cast_unsigned() % 0x1_0000) as u16).cast_signed()
+}
+
+impl Reduced for i64 {
+    ghost use Rattle.std.specs.Int.{w64};
+    ghost use Rattle.q_verbs.specs.Numbers.{reduced};
+
+    ghost of = { reduced w64 };
+
+    fn reduced_from(value: Option<i64>) -> i64 {
+        match value {
+            Some(x) => x,
+            None => i64::MIN,
+        }
+    }
+}
+
+impl Reduced for i32 {
+    ghost use Rattle.std.specs.Int.{w32};
+    ghost use Rattle.q_verbs.specs.Numbers.{reduced};
+
+    ghost of = { reduced w32 };
+
+    fn reduced_from(value: Option<i64>) -> i32 {
+        match value {
+            Some(x) => low_32(&x),
+            None => i32::MIN,
+        }
+    }
+}
+
+impl Reduced for i16 {
+    ghost use Rattle.std.specs.Int.{w16};
+    ghost use Rattle.q_verbs.specs.Numbers.{reduced};
+
+    ghost of = { reduced w16 };
+
+    fn reduced_from(value: Option<i64>) -> i16 {
+        match value {
+            Some(x) => low_16(&x),
+            None => i16::MIN,
+        }
+    }
+}
