@@ -69,7 +69,7 @@ alone limits bytes n m e =
 -- ---- messages
 
 -- some messages and an ending
-abbrev Reads : Limits → ℕ → List ℕ → Type 0
+abbrev pub Reads : Limits → ℕ → List ℕ → Type 0
 Reads limits place bytes = (ms : List Message) × (x : Ending) × AreMessages limits place bytes ms x
 
 -- nothing more is read
@@ -95,7 +95,7 @@ reads_more limits place n bytes m p q =
       },
     )
 
-messages_read : (fuel : ℕ) (limits : Limits) (place : ℕ) (bytes : List ℕ) → length bytes < fuel → Reads limits place bytes
+pub messages_read : (fuel : ℕ) (limits : Limits) (place : ℕ) (bytes : List ℕ) → length bytes < fuel → Reads limits place bytes
 messages_read zero limits place bytes short = absurd (omega (arith, short))
 messages_read (suc fuel) limits place bytes short =
     by_front (λ n some within. messages_read fuel limits (place + n) (drop n bytes) (omega (arith, short, some, within, length-drop n bytes))) (front_of limits bytes) refl

@@ -59,7 +59,7 @@ first_message limits p held behind here next items x front shown t =
     }
 
 -- places that a `u64` tells add up
-told_sum : (place p k : ℕ) → place ≡ told_place p → told_place (place + k) ≡ told_place (p + k)
+pub told_sum : (place p k : ℕ) → place ≡ told_place p → told_place (place + k) ≡ told_place (p + k)
 told_sum place p k e = omega arith
 
 greeting_head : (limits : Limits) (p : ℕ) (held behind : List ℕ) (c : ℕ) (items : List Item) (g : Option ℕ) (ms : List Message) (x : Ending) → IsGreeting limits held c → p ≡ 0 → IsStream limits (held ++ behind) g ms x → items ≡ items_of g ms x → First limits (p + length held) behind (n.Greeting c) items x
@@ -118,10 +118,10 @@ fault_head limits place p held behind code at k items x e front a t =
     record { at = p + k; only = t.2 ∙ ap (λ ms. items_behind ms x) both.0 ∙ ap items_at_end both.1; place = a ∙ told_sum place p k e; ending = both.1 }
 
 -- a greeting that is too long
-too_long : (limits : Limits) (held behind : List ℕ) → IsTooLong limits held → HasNoNul (take (limits.greeting + 1) (held ++ behind))
+pub too_long : (limits : Limits) (held behind : List ℕ) → IsTooLong limits held → HasNoNul (take (limits.greeting + 1) (held ++ behind))
 too_long limits held behind p = subst HasNoNul (sym (take_at held behind (limits.greeting + 1) p.long)) p.no_nul
 
-ungreeted_long : (limits : Limits) (k : ℕ) → limits.greeting < k → ungreeted limits k ≡ bad b.Greeting limits.greeting
+pub ungreeted_long : (limits : Limits) (k : ℕ) → limits.greeting < k → ungreeted limits k ≡ bad b.Greeting limits.greeting
 ungreeted_long limits k long =
     let some : eqb k 0 ≡ false = ne_eqb k 0 (λ e. omega (arith, e, long)) in
     let more : leb k limits.greeting ≡ false = lt-leb _ _ long in
@@ -195,7 +195,7 @@ ends_within place partial x u some e = e
 ends_within place (whole k m) x u some e = absurd u
 ends_within place (fault code at) x u some e = absurd u
 
-ends_held : (limits : Limits) (place : ℕ) (held : List ℕ) (x : Ending) → NeedsMessage limits held → EndsAt place (front_of limits held) x → x ≡ ending_of held
+pub ends_held : (limits : Limits) (place : ℕ) (held : List ℕ) (x : Ending) → NeedsMessage limits held → EndsAt place (front_of limits held) x → x ≡ ending_of held
 ends_held limits place [] x u e = e
 ends_held limits place (a ∷ held) x u e = ends_within place (front_of limits (a ∷ held)) x u (some_front limits a held) e
 
@@ -209,7 +209,7 @@ unfinished_messages limits p bytes items (m ∷ ms) x u h i =
     let one : front_of limits bytes ≡ whole (length f.0) f.3.0 = ap (front_of limits) h.parts ∙ first_stands limits h.body f.1 f.0 h.rest f.3.0 f.2 f.3.1 in
     absurd (subst (λ g. IsUnfinished g) one u)
 
-ungreeted_short : (limits : Limits) (held : List ℕ) → length held ≤ limits.greeting → ungreeted limits (length held) ≡ ending_of held
+pub ungreeted_short : (limits : Limits) (held : List ℕ) → length held ≤ limits.greeting → ungreeted limits (length held) ≡ ending_of held
 ungreeted_short limits [] short = refl
 ungreeted_short limits (a ∷ held) short =
     let more : eqb (length (a ∷ held)) 0 ≡ false = ne_eqb (length (a ∷ held)) 0 (λ e. omega (arith, e)) in

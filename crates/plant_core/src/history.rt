@@ -2,7 +2,7 @@
 ghost use Rattle.std.specs.Prelude.{◌≡◌, ◌<◌, ◌≤◌, ◌+◌, ◌-◌, ◌^◌, ◌<ℤ◌, ◌+ℤ◌, pos, [], ◌∷◌, ◌++◌, length, map, take, drop, IfOk, OnOk, OnErr, Some, slice_get, slice_index_or};
 ghost use Rattle.std.specs.List.{AllByRecursion};
 ghost use Rattle.q_values.specs.declared.kind.Kind.{Kind};
-ghost use Rattle.day_rows.specs.Chronicle.{date_of};
+ghost use Rattle.day_rows.specs.Chronicle.{date_of, DatesAscend};
 ghost use Rattle.day_rows.specs.Day.{IsUpdate, HasColumn, entry_rows, total_rows, settled};
 ghost use Rattle.day_rows.specs.Rows.{column_of};
 ghost use Rattle.plant_core.specs.Chronicle.{by_of, place_behind_roll, today, top_by, dates_of, date_at, rows_at, update_count};
@@ -299,7 +299,8 @@ impl History {
 
     /// The number of dates.
     pub fn dates(&self) -> usize
-        ensures { result ≡ length (dates_of self.now.first self.now.entries) }
+        ensures count { result ≡ length (dates_of self.now.first self.now.entries) }
+        ensures ascend { DatesAscend self.now.first self.now.entries }
     {
         self.ended.len() + 1
     }

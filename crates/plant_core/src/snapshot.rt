@@ -2,6 +2,7 @@
 ghost use Rattle.std.specs.Prelude.{◌≡◌, ◌<◌, ◌≤◌, ◌+◌, length, take, drop, IfOk};
 ghost use Rattle.q_values.specs.declared.kind.Kind.{Kind};
 ghost use Rattle.day_rows.specs.Rows.{column_of};
+ghost use Rattle.day_rows.specs.Chronicle.{DatesAscend};
 ghost use Rattle.plant_core.specs.Chronicle.{today, dates_of, date_at, rows_at, update_count};
 ghost use Rattle.plant_core.specs.Plant.{HasColumn};
 
@@ -37,9 +38,10 @@ impl Snapshot {
         self.history.length()
     }
 
-    /// The number of dates.
+    /// The number of dates, each of which is later than the one before it.
     pub fn dates(&self) -> usize
-        ensures { result ≡ length (dates_of self.now.frame.first self.now.entries) }
+        ensures count { result ≡ length (dates_of self.now.frame.first self.now.entries) }
+        ensures ascend { DatesAscend self.now.frame.first self.now.entries }
     {
         self.history.dates()
     }

@@ -32,6 +32,10 @@ pub nyi_is : (limits : Limits) (made : List ℕ) → made ≡ fixed_reply limits
 unfolding written
 nyi_is limits made e = e
 
+pub mistyped_is : (limits : Limits) (made : List ℕ) → made ≡ fixed_reply limits (1 ∷ 2 ∷ 0 ∷ 0 ∷ 14 ∷ 0 ∷ 0 ∷ 0 ∷ 128 ∷ 116 ∷ 121 ∷ 112 ∷ 101 ∷ 0 ∷ []) → made ≡ reply limits (wrong (codes "type"))
+unfolding written
+mistyped_is limits made e = e
+
 -- a response that is longer than the limit
 pub too_long : (limits : Limits) (t : Tree) (bytes : List ℕ) (front : List ℕ) → bytes ≡ front ++ written t → length front ≡ 8 → limits.reply < length bytes → 1 ∷ 2 ∷ 0 ∷ 0 ∷ 15 ∷ 0 ∷ 0 ∷ 0 ∷ 128 ∷ 108 ∷ 105 ∷ 109 ∷ 105 ∷ 116 ∷ 0 ∷ [] ≡ reply limits t
 too_long limits t bytes front e size long =

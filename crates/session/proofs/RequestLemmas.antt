@@ -1,28 +1,26 @@
 -- What messages ask for.
-use Rattle.std.proofs.Common.{◌≡◌, ◌<◌, ℕ, false, List, [], ◌∷◌, length, map, get_or, refl, ap, Option, Some, None}
+use Rattle.std.proofs.Common.{◌≡◌, ℕ, ◌+◌, ◌++◌, take, true, false, List, [], ◌∷◌, length, map, refl, ap, sym, ◌∙◌, Vec, Global, Some, arith, codes}
+use Rattle.std.specs.Prelude.{slice_get}
+use Rattle.std.specs.Str.{bytes_eq}
 use Rattle.std.specs.List.{filter_map}
-use Rattle.std.specs.Option.{is_some, option_map}
-use Rattle.std.specs.Borrow.{Bor}
-use Rattle.std.proofs.Common.{sym, ◌∙◌}
-use Rattle.std.proofs.lemmas.List.Folds.{list_all-map, list_all_at}
-use Rattle.q_values.specs.Tree.{Tree, items_of, list_of, list, tree, trees, value_step, pair_step, values_step}
-use Rattle.q_values.specs.declared.value.Value.{Value, fold-roll-Value}
-use Rattle.q_values.specs.declared.value.Value.TheOpen.{Value-F}
-use Rattle.q_values.specs.declared.value.Value.TheVariants.{rolls-List}
-use Rattle.q_values.specs.declared.value.Value.TheVariants as v
-use Rattle.q_values.specs.declared.value.Values.{Values}
 use Rattle.q_values.specs.Column.{contents}
 use Rattle.q_values.specs.Contents.{Contents}
+use Rattle.q_values.specs.Tree.{Tree, atom, items_of, list_of, list, tree, trees, value_step, pair_step, values_step}
+use Rattle.q_values.specs.declared.atom.Atom.TheVariants as a
 use Rattle.q_values.specs.declared.column.Column.{Column}
 use Rattle.q_values.specs.declared.column.Column.TheVariants as c
 use Rattle.q_values.specs.declared.kind.ByteKind.{ByteKind}
 use Rattle.q_values.specs.declared.kind.ByteKind.TheVariants as b
-use Rattle.std.proofs.Common.{Vec, Global}
-use Rattle.session.specs.Verdict.{atom_of}
-use Rattle.session.specs.Request.{are_atoms}
+use Rattle.q_values.specs.declared.value.Value.{fold-roll-Value}
+use Rattle.q_values.specs.declared.value.Value.TheOpen.{Value-F}
+use Rattle.q_values.specs.declared.value.Value.{Value}
+use Rattle.q_values.specs.declared.value.Value.TheVariants.{rolls-List, rolls-Atom}
 use Rattle.q_values.specs.declared.atom.Atom.{Atom}
-use Rattle.q_values.specs.declared.atom.Atom.TheVariants as a
-use Rattle.session.specs.Request.{character_of, list_request, other, text, text_of}
+use Rattle.std.proofs.lemmas.List.{map_push, take-map}
+use Rattle.day_rows.proofs.DayLemmas.{take_more_mapped}
+use Rattle.q_values.specs.declared.value.Value.TheVariants as v
+use Rattle.q_values.specs.declared.value.Values.{Values}
+use Rattle.session.specs.Request.{character_of, characters_of, parts_request, vector_request, mistyped, text, other}
 
 pub characters : (bytes : List ℕ) → filter_map character_of (map (λ x. a.Character x) bytes) ≡ bytes
 characters [] = refl
@@ -33,7 +31,7 @@ list_of-items_of [] = refl
 list_of-items_of (t ∷ ts) = ap (λ l. t ∷ l) (list_of-items_of ts)
 
 -- a list that hasn't three parts is no request
-pub no_parts : (ts : List Tree) → (length ts ≡ 3 → ⊥) → list_request (items_of ts) ≡ other
+pub no_parts : (ts : List Tree) → (length ts ≡ 3 → ⊥) → parts_request ts ≡ other
 no_parts [] h = refl
 no_parts (x ∷ []) h = refl
 no_parts (x ∷ y ∷ []) h = refl
@@ -44,17 +42,45 @@ no_parts (x ∷ y ∷ z ∷ w ∷ ts) h = refl
 pub tree-list : (x : Values) → tree (v.List x) ≡ list (items_of (trees x))
 tree-list x = ap tree (sym (rolls-List x)) ∙ fold-roll-Value Tree (Tree × Tree) (List Tree) value_step pair_step values_step (Value-F.List x)
 
--- one value that is no atom
-pub not_all_atoms : (xs : List Value) (i : ℕ) (x : Value) → i < length xs → x ≡ get_or xs i x → is_some (atom_of (tree x)) ≡ false → false ≡ are_atoms (map tree xs)
-not_all_atoms xs i x i_in x_is e =
-    let at : is_some (atom_of (tree (get_or xs i x))) ≡ false = rw (← x_is) e in
-    sym (list_all-map (λ t. is_some (atom_of t)) tree xs ∙ list_all_at (λ v. is_some (atom_of (tree v))) xs i x i_in at)
-
--- a reference to nothing is nothing
-pub is_some_mapped : (r : Option (Bor Atom)) (o : Option Atom) → option_map (λ a. a.now) r ≡ o → is_some r ≡ false → is_some o ≡ false
-is_some_mapped None o e h = ap is_some (sym e)
-is_some_mapped (Some x) o e h = absurd cc
-
 -- a column of characters is their text
-pub characters_are : (kind : ByteKind) (bytes : Vec ℕ Global) (column : Column) (found : List ℕ) (v : Contents) → contents column ≡ v → column ≡ c.Bytes kind bytes → kind ≡ b.Character → found ≡ bytes.items → text_of v.kind v.atoms ≡ text found
-characters_are kind bytes column found v is_contents is_bytes is_characters same = rw (← is_contents, is_bytes, is_characters, same) (ap text (characters bytes.items))
+pub characters_are : (kind : ByteKind) (bytes : Vec ℕ Global) (column : Column) (found : List ℕ) (v : Contents) → contents column ≡ v → column ≡ c.Bytes kind bytes → kind ≡ b.Character → found ≡ bytes.items → characters_of v.kind v.atoms ≡ Some found
+characters_are kind bytes column found v is_contents is_bytes is_characters same = rw (← is_contents, is_bytes, is_characters, same) (ap Some (characters bytes.items))
+
+-- symbols, each a value
+abbrev pub symbol_values : List (List ℕ) → List Tree
+symbol_values symbols = map atom (map (λ s. a.Symbol s) symbols)
+
+pub no_symbols : (ss : List (List ℕ)) → (length ss ≡ 3 → ⊥) → parts_request (symbol_values ss) ≡ other
+no_symbols [] h = refl
+no_symbols (x ∷ []) h = refl
+no_symbols (x ∷ y ∷ []) h = refl
+no_symbols (x ∷ y ∷ z ∷ []) h = absurd (h refl)
+no_symbols (x ∷ y ∷ z ∷ w ∷ ss) h = refl
+
+pub mistyped_symbols : (ss : List (List ℕ)) (first : List ℕ) → length ss ≡ 3 → slice_get ss 0 ≡ Some first → bytes_eq first (codes ".u.upd") ≡ true → parts_request (symbol_values ss) ≡ mistyped
+mistyped_symbols [] first n at e = absurd cc
+mistyped_symbols (x ∷ []) first n at e = absurd cc
+mistyped_symbols (x ∷ y ∷ []) first n at e = absurd cc
+mistyped_symbols (x ∷ y ∷ z ∷ []) first n at e = let same : x ≡ first = cc in rw (same, e) refl
+mistyped_symbols (x ∷ y ∷ z ∷ w ∷ ss) first n at e = absurd (omega arith)
+
+pub other_symbols : (ss : List (List ℕ)) (first : List ℕ) → slice_get ss 0 ≡ Some first → bytes_eq first (codes ".u.upd") ≡ false → parts_request (symbol_values ss) ≡ other
+other_symbols [] first at e = absurd cc
+other_symbols (x ∷ []) first at e = refl
+other_symbols (x ∷ y ∷ []) first at e = refl
+other_symbols (x ∷ y ∷ z ∷ []) first at e = let same : x ≡ first = cc in rw (same, e) refl
+other_symbols (x ∷ y ∷ z ∷ w ∷ ss) first at e = refl
+
+-- the tree of an atom
+pub tree-atom : (x : Atom) → tree (v.Atom x) ≡ atom x
+tree-atom x = ap tree (sym (rolls-Atom x)) ∙ fold-roll-Value Tree (Tree × Tree) (List Tree) value_step pair_step values_step (Value-F.Atom x)
+
+-- one atom more
+pub atoms_step : (items : List Value) (x : Atom) (atoms : List Atom) (i : ℕ) → map tree items ≡ map atom (take i atoms) → slice_get atoms i ≡ Some x → map tree (items ++ v.Atom x ∷ []) ≡ map atom (take (i + 1) atoms)
+atoms_step items x atoms i so_far at =
+    map_push tree items (v.Atom x) ∙ ap (λ l. l ++ tree (v.Atom x) ∷ []) so_far ∙ ap (λ t. map atom (take i atoms) ++ t ∷ []) (tree-atom x)
+    ∙ ap (λ l. l ++ atom x ∷ []) (sym (take-map atom i atoms)) ∙ sym (take_more_mapped atom atoms i x at) ∙ take-map atom (i + 1) atoms
+
+-- a column of characters is a text
+pub text_is : (kind : ByteKind) (bytes : Vec ℕ Global) (column : Column) (found : List ℕ) (v : Contents) → contents column ≡ v → column ≡ c.Bytes kind bytes → kind ≡ b.Character → found ≡ bytes.items → vector_request v.kind v.atoms ≡ text found
+text_is kind bytes column found v is_contents is_bytes is_characters same = rw (← is_contents, is_bytes, is_characters, same) (ap text (characters bytes.items))

@@ -1,103 +1,336 @@
 -- What serving a request gives.
-use Rattle.std.proofs.Common.{◌≡◌, ◌≤◌, ℕ, ℤ, List, [], ◌∷◌, ◌++◌, length, refl, sym, ap, ◌∙◌, arith, Option, codes}
-use Rattle.std.proofs.lemmas.List.{append-nil}
+use Rattle.std.proofs.Common.{◌≡◌, ◌≤◌, ◌<◌, ◌+◌, ℕ, ℤ, Bool, true, false, if◌then◌else◌, List, [], ◌∷◌, ◌++◌, length, refl, sym, ap, subst, ◌∙◌, arith, append_assoc, Option, Some, None, codes, inl, inr}
+use Rattle.std.specs.List.{count_by}
+use Rattle.std.proofs.lemmas.List.{append-nil, length-append}
+use Rattle.day_rows.specs.declared.entry.Entry.{Entry}
+use Rattle.day_rows.specs.declared.entry.Entry.TheVariants as e
 use Rattle.outside_api.specs.Told.{told}
+use Rattle.day_rows.specs.Chronicle.{view}
+use Rattle.day_rows.specs.declared.schema.Shape.{Shape}
+use Rattle.plant_core.specs.Access.{AccessView, SeesMore, Logs, Looks, Asks, Waits, Rolls, Wants, next_count}
+use Rattle.plant_core.specs.Plant.{SnapshotView, next_roll}
+use Rattle.std.specs.Prelude.{slice_get}
+use Rattle.plant_core.specs.Turns.{IsRefusal}
+use Rattle.std.proofs.lemmas.Option.{slice_get_within}
+use Rattle.plant_core.specs.Frame.{Frame}
+use Rattle.plant_core.specs.Verdict.{Verdict, refuses, verdict}
+use Rattle.plant_core.specs.declared.refusal.UpdRefusal.{UpdRefusal}
+use Rattle.plant_core.specs.declared.refusal.UpdRefusal.TheVariants as r
 use Rattle.q_values.specs.Tree.{Tree, identity, wrong}
+use Rattle.q_values.specs.Tree as trees
+use Rattle.session.specs.Answer.{shown, table_asked}
 use Rattle.q_values.specs.declared.limits.Limits.{Limits}
-use Rattle.q_values.specs.declared.turn.Turn.TheVariants.{Logged, Refused, Answered, Declined, Short}
-use Rattle.session.specs.Access.{AccessView, Logs, Looks, Asks, IsRefusal}
-use Rattle.session.specs.Answer.{answer, select_trade}
-use Rattle.session.specs.Answering.{IsServed}
-use Rattle.session.specs.Asked.{IsUnserved}
-use Rattle.session.specs.Chronicle.{Update}
-use Rattle.session.specs.Reply.{response, reply, refusal_text}
-use Rattle.session.specs.Replies.{Refuses}
-use Rattle.session.specs.Request.{Request, update, text, other}
-use Rattle.session.specs.Served.{Serves, IsRefused, IsShort}
-use Rattle.session.specs.Verdict.{refuses, verdict}
-use Rattle.session.specs.declared.refusal.UpdRefusal.{UpdRefusal}
-use Rattle.session.specs.declared.refusal.UpdRefusal.TheVariants as r
-use Rattle.session.specs.declared.reply.Reply.{Reply}
+use Rattle.q_values.specs.declared.turn.Turn.{Turn}
+use Rattle.q_values.specs.declared.turn.Turn.TheVariants as t
+use Rattle.session.specs.Answering.{Does, ServesValue, FindsTable, AnswersRefusal, turns_by, roll_turn, sent_by, deed_of}
+use Rattle.session.specs.Lawful.{AllGoOn, last_length, is_answered, is_quiet}
 use Rattle.session.specs.Replies.{reply_bytes}
-use Rattle.session.proofs.AdvanceLemmas.{advances_logged, advances_refused, advances_short, advances_answered, advances_asked, advances_declined, advances_none}
-use Rattle.session.proofs.FillLemmas.{told-nil}
+use Rattle.session.specs.Replies as replies
+use Rattle.session.specs.Reply.{response, reply, replied, refusal_text}
+use Rattle.session.specs.Request.{Request, update, mistyped, text, other}
+use Rattle.session.specs.Run.{Advances, advanced}
+use Rattle.session.specs.Served.{Deed, IsUnserved, ServesText, ServesIdle, entry_turns}
+use Rattle.session.specs.declared.answer.Answer.{Answer}
+use Rattle.session.specs.declared.reply.Reply.{Reply}
+use Rattle.session.proofs.GoingLemmas.{advances, just}
+use Rattle.session.proofs.MadeLemmas.{AreAt, accepted_at}
+use Rattle.session.proofs.ToldLemmas.{told-nil}
 
-pub served_logged : (limits : Limits) (k k' : Option (List ℤ)) (a b : AccessView) (table : List ℕ) (items : List Tree) (now : ℤ) (place : ℕ) (sent : List ℕ) → k' ≡ told k (now ∷ []) → Logs a b table items now place → sent ≡ reply limits identity → IsServed limits k k' a b (update table items) (Logged place now) sent
-served_logged limits k k' a b table items now place sent read l answered = record {
-  readings = now ∷ [];
-  logged = l.entries;
-  clock = read;
-  access = advances_logged a b table items now place l;
-  serves = record {
-    accepted = l.accepted;
-    one = l.one;
-    stands = record {
-      before = a.seen ++ l.others;
-      more = [];
-      whole = ap (λ (v : AccessView). v.seen) l.after ∙ sym (append-nil ((a.seen ++ l.others) ++ l.entries));
-      count = l.at_end;
-    };
-    answered = answered;
-    read = refl;
-  };
-}
+-- what the turns of logged entries tell
+record Tells (n : ℕ) (now : ℤ) (entries : List Entry) (turns : List Turn) : Type 0 where
+  noted : turns ≡ entry_turns n now entries
+  each : AllGoOn just n turns
+  last : last_length n turns ≡ n + length entries
+  answered : count_by is_answered turns ≤ 0
+  quiet : count_by is_quiet turns ≤ 0
 
--- the length that the access tells is within what it has seen
-looks_within : (a b : AccessView) (count : ℕ) → Looks a b count → count ≤ length b.seen
-looks_within a b count l =
-    let size = l.length in
-    let all : length b.seen ≡ length (a.seen ++ l.others) = ap (λ (v : AccessView). length v.seen) l.after in
-    omega arith
+logged_turns : (n : ℕ) (now : ℤ) (entries : List Entry) (rolled : Option ℕ) (place : ℕ) → AreAt n entries rolled place → Tells n now entries (turns_by (roll_turn rolled now) (t.Logged place now))
+logged_turns n now [] rolled place at = absurd at
+logged_turns n now (e.Upd by table columns ∷ []) None place at = record { noted = rw at refl; each = (sym at, tt); last = rw at refl; answered = omega arith; quiet = omega arith }
+logged_turns n now (e.Upd by table columns ∷ []) (Some rolled) place at = absurd at
+logged_turns n now (e.Upd by table columns ∷ x ∷ entries) rolled place at = absurd at
+logged_turns n now (e.Fault by ∷ entries) rolled place at = absurd at
+logged_turns n now (e.Roll by date ∷ []) rolled place at = absurd at
+logged_turns n now (e.Roll by date ∷ e.Roll by' date' ∷ entries) rolled place at = absurd at
+logged_turns n now (e.Roll by date ∷ e.Fault by' ∷ entries) rolled place at = absurd at
+logged_turns n now (e.Roll by date ∷ e.Upd by' table columns ∷ x ∷ entries) rolled place at = absurd at
+logged_turns n now (e.Roll by date ∷ e.Upd by' table columns ∷ []) None place at = absurd at
+logged_turns n now (e.Roll by date ∷ e.Upd by' table columns ∷ []) (Some rolled) place at =
+    record { noted = rw (at.0, at.1) refl; each = (sym at.0, (rw at.0 (sym at.1), tt)); last = rw at.1 (omega arith); answered = omega arith; quiet = omega arith }
 
-is_refused : (limits : Limits) (by : ℕ) (date : ℤ) (seen : List Update) (table : List ℕ) (items : List Tree) (count : ℕ) (now : ℤ) (sent : List ℕ) (why : UpdRefusal) → verdict by date table items now ≡ refuses why → count ≤ length seen → sent ≡ reply limits (wrong (refusal_text why)) → IsRefused limits by date seen table items count now sent (now ∷ []) []
-is_refused limits by date seen table items count now sent why refused within answered = record { why = why; refused = refused; within = within; answered = answered; read = refl; unlogged = refl }
+pub does_logged : (a b : AccessView) (k k' : Option (List ℤ)) (limits : Limits) (sync : Bool) (table : List ℕ) (items : List Tree) (now : ℤ) (rolled : Option ℕ) (place : ℕ) (answer : Answer)
+    → a.frame.limits ≡ limits
+    → k' ≡ told k (now ∷ [])
+    → Logs a b table items now rolled place
+    → answer.roll ≡ roll_turn rolled now → answer.turn ≡ t.Logged place now → sent_by answer.reply ≡ replied sync (reply limits identity)
+    → Does (ServesValue a.frame a.by b.seen sync (update table items)) k k' a b answer
+does_logged a b k k' limits sync table items now rolled place answer same read l roll turn answered =
+    let n = length (a.seen ++ l.others) in
+    let places = accepted_at a.frame a.by (a.seen ++ l.others) l.entries table items now rolled place l.accepted l.rolled_is l.last in
+    let tells = logged_turns n now l.entries rolled place places in
+    let turns : turns_by answer.roll answer.turn ≡ turns_by (roll_turn rolled now) (t.Logged place now) = rw (roll, turn) refl in
+    let seen : b.seen ≡ (a.seen ++ l.others) ++ l.entries = ap (λ (v : AccessView). v.seen) l.after in
+    let each : AllGoOn just n (turns_by answer.roll answer.turn) = rw turns tells.each in
+    let last : last_length n (turns_by answer.roll answer.turn) ≡ length ((a.seen ++ l.others) ++ l.entries) = ap (λ ts. last_length n ts) turns ∙ tells.last ∙ sym (length-append (a.seen ++ l.others) l.entries) in
+    let after = l.after ∙ ap (λ s. record a { seen = s; mine = a.mine ++ l.entries }) (append_assoc a.seen l.others l.entries) in
+    record {
+      readings = now ∷ [];
+      made = l.entries;
+      clock = read;
+      access = advances a b l.others l.entries (turns_by answer.roll answer.turn) 0 0 l.saw after each last (rw turns tells.answered) (rw turns tells.quiet);
+      done = inl (inl (record {
+        front = a.seen ++ l.others;
+        now = now;
+        accepted = l.accepted;
+        stands = record { more = []; whole = seen ∙ sym (append-nil ((a.seen ++ l.others) ++ l.entries)) };
+        noted = turns ∙ tells.noted;
+        answered = rw same answered;
+        read = refl;
+      }));
+    }
 
-pub served_refused : (limits : Limits) (k k' : Option (List ℤ)) (a b : AccessView) (table : List ℕ) (items : List Tree) (now : ℤ) (count : ℕ) (why : UpdRefusal) (made : Reply) → k' ≡ told k (now ∷ []) → Looks a b count → IsRefusal (verdict a.by a.date table items now) why → Refuses limits why made → IsServed limits k k' a b (update table items) (Refused count now) (reply_bytes made)
-served_refused limits k k' a b table items now count (r.NoTable name) made read l refused answered = record { readings = now ∷ []; logged = []; clock = read; access = advances_refused a b count now l; serves = is_refused limits a.by a.date b.seen table items count now (reply_bytes made) (r.NoTable name) refused (looks_within a b count l) answered }
-served_refused limits k k' a b table items now count r.Length made read l refused answered = record { readings = now ∷ []; logged = []; clock = read; access = advances_refused a b count now l; serves = is_refused limits a.by a.date b.seen table items count now (reply_bytes made) r.Length refused (looks_within a b count l) answered }
-served_refused limits k k' a b table items now count (r.WrongType column) made read l refused answered = record { readings = now ∷ []; logged = []; clock = read; access = advances_refused a b count now l; serves = is_refused limits a.by a.date b.seen table items count now (reply_bytes made) (r.WrongType column) refused (looks_within a b count l) answered }
-served_refused limits k k' a b table items now count r.MoreThanOneDay made read l refused answered = record { readings = now ∷ []; logged = []; clock = read; access = advances_refused a b count now l; serves = is_refused limits a.by a.date b.seen table items count now (reply_bytes made) r.MoreThanOneDay refused (looks_within a b count l) answered }
-served_refused limits k k' a b table items now count r.NoMemory made read l refused answered = absurd answered
+-- an access that made nothing, whose turns tell its length or nothing
+pub record Idles (n : ℕ) (turns : List Turn) (asked ticked : ℕ) : Type 0 where
+  pub each : AllGoOn just n turns
+  pub last : last_length n turns ≡ n
+  pub answered : count_by is_answered turns ≤ asked
+  pub quiet : count_by is_quiet turns ≤ ticked
 
-is_short : (readings : List ℤ) (sent : List ℕ) → length readings ≤ 1 → sent ≡ response (wrong (codes "wsfull")) → IsShort sent readings []
-is_short readings sent few answered = record { answered = answered; read = few; unlogged = refl }
+pub advances_idle : (a b : AccessView) (others : List Entry) (turns : List Turn) (asked ticked : ℕ) → SeesMore a others → b ≡ advanced a others [] asked ticked → Idles (length (a.seen ++ others)) turns asked ticked → Advances a b turns []
+advances_idle a b others turns asked ticked saw after rests =
+    let none : (a.seen ++ others) ++ [] ≡ a.seen ++ others = append-nil (a.seen ++ others) in
+    advances a b others [] turns asked ticked saw (after ∙ ap (λ o. advanced a o [] asked ticked) (sym (append-nil others))) rests.each (rests.last ∙ ap length (sym none)) rests.answered rests.quiet
 
-pub served_short : (limits : Limits) (k k' : Option (List ℤ)) (a b : AccessView) (table : List ℕ) (items : List Tree) (now : ℤ) (count : ℕ) (sent : List ℕ) → k' ≡ told k (now ∷ []) → Looks a b count → sent ≡ response (wrong (codes "wsfull")) → IsServed limits k k' a b (update table items) Short sent
-served_short limits k k' a b table items now count sent read l answered = record { readings = now ∷ []; logged = []; clock = read; access = advances_short a b count l; serves = is_short (now ∷ []) sent (omega arith) answered }
+-- what refusing leaves
+refuses_after : (a b : AccessView) (table : List ℕ) (items : List Tree) (now : ℤ) (count : ℕ) (why : UpdRefusal) (l : Looks a b table items now count why) → b ≡ advanced a l.others [] 0 0
+refuses_after a b table items now count why l = l.after ∙ ap (λ m. record a { seen = a.seen ++ l.others; mine = m }) (sym (append-nil a.mine))
 
--- a text was answered over a snapshot
-pub served_answered : (limits : Limits) (k : Option (List ℤ)) (a b : AccessView) (sent : List ℕ) → Asks a b → sent ≡ reply limits (answer a.date b.seen) → IsServed limits k k a b (text select_trade) (Answered (length b.seen)) sent
-served_answered limits k a b sent l answered = record {
-  readings = [];
-  logged = [];
-  clock = sym (told-nil k);
-  access = advances_answered a b l;
-  serves = record {
-    front = b.seen;
-    is_front = record { count = refl; more = []; whole = sym (append-nil b.seen) };
-    known = refl;
-    answered = answered;
-    idle = record { unread = refl; unlogged = refl };
-  };
-}
+refused_is : (limits : Limits) (v : Verdict) (why : UpdRefusal) (made : Reply) → IsRefusal v why → replies.Refuses limits why made → (v ≡ refuses why) × (reply_bytes made ≡ reply limits (wrong (refusal_text why)))
+refused_is limits v (r.NoTable name) made h m = (h, m)
+refused_is limits v r.Length made h m = (h, m)
+refused_is limits v (r.WrongType column) made h m = (h, m)
+refused_is limits v r.MoreThanOneDay made h m = (h, m)
+refused_is limits v r.Limit made h m = (h, m)
+refused_is limits v r.NoMemory made h m = absurd m
 
-pub served_short_text : (limits : Limits) (k : Option (List ℤ)) (a b : AccessView) (sent : List ℕ) → Asks a b → sent ≡ response (wrong (codes "wsfull")) → IsServed limits k k a b (text select_trade) Short sent
-served_short_text limits k a b sent l answered = record { readings = []; logged = []; clock = sym (told-nil k); access = advances_asked a b l; serves = is_short [] sent (omega arith) answered }
+pub does_refused : (a b : AccessView) (k k' : Option (List ℤ)) (limits : Limits) (sync : Bool) (table : List ℕ) (items : List Tree) (now : ℤ) (count : ℕ) (why : UpdRefusal) (answer : Answer)
+    → a.frame.limits ≡ limits
+    → k' ≡ told k (now ∷ [])
+    → Looks a b table items now count why
+    → AnswersRefusal limits sync count now why answer
+    → Does (ServesValue a.frame a.by b.seen sync (update table items)) k k' a b answer
+does_refused a b k k' limits sync table items now count why answer same read l (inl r) =
+    let turns : turns_by answer.roll answer.turn ≡ t.Refused count now ∷ [] = rw (r.roll, r.turn) refl in
+    let is = refused_is limits (verdict a.frame a.by (a.seen ++ l.others) table items now) why r.made l.refused r.text in
+    let seen : b.seen ≡ a.seen ++ l.others = ap (λ (v : AccessView). v.seen) l.after in
+    record {
+      readings = now ∷ [];
+      made = [];
+      clock = read;
+      access = advances_idle a b l.others (turns_by answer.roll answer.turn) 0 0 l.saw (refuses_after a b table items now count why l)
+          (rw turns (record { each = (sym l.length, tt); last = l.length; answered = omega arith; quiet = omega arith }));
+      done = inl (inr (record {
+        count = count;
+        front = a.seen ++ l.others;
+        is_front = record { count = l.length; more = []; whole = seen ∙ sym (append-nil (a.seen ++ l.others)) };
+        now = now;
+        why = why;
+        refused = is.0;
+        noted = turns;
+        answered = r.reply ∙ ap (λ bytes. replied sync bytes) (is.1 ∙ ap (λ (m : Limits). reply m (wrong (refusal_text why))) (sym same));
+        read = refl;
+        unmade = refl;
+      }));
+    }
+does_refused a b k k' limits sync table items now count why answer same read l (inr r) =
+    let turns : turns_by answer.roll answer.turn ≡ t.Short ∷ [] = rw (r.roll, r.turn) refl in
+    record {
+      readings = now ∷ [];
+      made = [];
+      clock = read;
+      access = advances_idle a b l.others (turns_by answer.roll answer.turn) 0 0 l.saw (refuses_after a b table items now count why l)
+          (rw turns (record { each = (tt, tt); last = refl; answered = omega arith; quiet = omega arith }));
+      done = inr (record { noted = turns; answered = r.reply; read = omega arith; unmade = refl });
+    }
+
+-- nothing was asked of the access
+pub does_nothing : (a : AccessView) (k : Option (List ℤ)) (Done : Deed → Type 0) (answer : Answer) (turn : Turn) → answer.roll ≡ None → answer.turn ≡ turn → Idles (length (a.seen ++ [])) (turn ∷ []) 0 0 → Done (deed_of answer [] []) → Does Done k k a a answer
+does_nothing a k Done answer turn roll is idles done =
+    let turns : turns_by answer.roll answer.turn ≡ turn ∷ [] = rw (roll, is) refl in
+    record {
+      readings = [];
+      made = [];
+      clock = sym (told-nil k);
+      access = advances_idle a a [] (turns_by answer.roll answer.turn) 0 0 (record { alone = λ _. refl }) (rw (append-nil a.seen, append-nil a.mine) refl) (rw turns idles);
+      done = done;
+    }
+
+-- a turn that tells no length
+pub tells_declined : (n : ℕ) → Idles n (t.Declined ∷ []) 0 0
+tells_declined n = record { each = (tt, tt); last = refl; answered = omega arith; quiet = omega arith }
+
+pub tells_passed : (n : ℕ) → Idles n (t.Passed ∷ []) 0 0
+tells_passed n = record { each = (tt, tt); last = refl; answered = omega arith; quiet = omega arith }
+
+pub tells_short : (n asked ticked : ℕ) → Idles n (t.Short ∷ []) asked ticked
+tells_short n asked ticked = record { each = (tt, tt); last = refl; answered = omega arith; quiet = omega arith }
+
+abbrev pub unserved_turn : Bool → Turn
+unserved_turn sync = if sync then t.Declined else t.Passed
+
+pub tells_unserved : (n : ℕ) (sync : Bool) → Idles n (unserved_turn sync ∷ []) 0 0
+tells_unserved n true = tells_declined n
+tells_unserved n false = tells_passed n
 
 -- what isn't served
-serves_declined : (limits : Limits) (by : ℕ) (date : ℤ) (seen : List Update) (request : Request) (sent : List ℕ) → IsUnserved request → sent ≡ reply limits (wrong (codes "nyi")) → Serves limits by date seen request Declined sent [] []
-serves_declined limits by date seen (text x) sent unknown answered = (unknown, record { answered = answered; idle = record { unread = refl; unlogged = refl } })
-serves_declined limits by date seen other sent unknown answered = record { answered = answered; idle = record { unread = refl; unlogged = refl } }
-serves_declined limits by date seen (update table items) sent unknown answered = absurd unknown
+pub unserved_deed : (frame : Frame) (limits : Limits) (sync : Bool) (answer : Answer) → frame.limits ≡ limits → answer.roll ≡ None → answer.turn ≡ unserved_turn sync → sent_by answer.reply ≡ replied sync (reply limits (wrong (codes "nyi"))) → IsUnserved frame sync (deed_of answer [] [])
+unserved_deed frame limits true answer same roll turn answered = record { noted = rw (roll, turn) refl; answered = rw same answered; still = record { unread = refl; unmade = refl } }
+unserved_deed frame limits false answer same roll turn answered = record { noted = rw (roll, turn) refl; unanswered = answered; still = record { unread = refl; unmade = refl } }
 
-pub served_declined : (limits : Limits) (k : Option (List ℤ)) (a : AccessView) (request : Request) (sent : List ℕ) → IsUnserved request → sent ≡ reply limits (wrong (codes "nyi")) → IsServed limits k k a a request Declined sent
-served_declined limits k a request sent unknown answered = record { readings = []; logged = []; clock = sym (told-nil k); access = advances_declined a; serves = serves_declined limits a.by a.date a.seen request sent unknown answered }
+pub does_unserved : (a : AccessView) (k : Option (List ℤ)) (limits : Limits) (sync : Bool) (answer : Answer) → a.frame.limits ≡ limits → answer.roll ≡ None → answer.turn ≡ unserved_turn sync → sent_by answer.reply ≡ replied sync (reply limits (wrong (codes "nyi"))) → Does (ServesValue a.frame a.by a.seen sync other) k k a a answer
+does_unserved a k limits sync answer same roll turn answered =
+    does_nothing a k (ServesValue a.frame a.by a.seen sync other) answer (unserved_turn sync) roll turn (tells_unserved _ sync) (inl (unserved_deed a.frame limits sync answer same roll turn answered))
+
+-- a text that isn't answered
+unknown_text : (frame : Frame) (seen : List Entry) (sync : Bool) (bytes : List ℕ) (deed : Deed) → table_asked bytes 0 frame.schema ≡ None → IsUnserved frame sync deed → ServesText frame seen sync bytes deed
+unknown_text frame seen true bytes deed none unserved = inr (none, unserved)
+unknown_text frame seen false bytes deed none unserved = unserved
+
+pub does_unknown : (a : AccessView) (k : Option (List ℤ)) (limits : Limits) (sync : Bool) (bytes : List ℕ) (answer : Answer) → a.frame.limits ≡ limits → table_asked bytes 0 a.frame.schema ≡ None → answer.roll ≡ None → answer.turn ≡ unserved_turn sync → sent_by answer.reply ≡ replied sync (reply limits (wrong (codes "nyi"))) → Does (ServesValue a.frame a.by a.seen sync (text bytes)) k k a a answer
+does_unknown a k limits sync bytes answer same none roll turn answered =
+    does_nothing a k (ServesValue a.frame a.by a.seen sync (text bytes)) answer (unserved_turn sync) roll turn (tells_unserved _ sync) (inl (unknown_text a.frame a.seen sync bytes (deed_of answer [] []) none (unserved_deed a.frame limits sync answer same roll turn answered)))
+
+-- an async text
+pub does_passed : (a : AccessView) (k : Option (List ℤ)) (limits : Limits) (bytes : List ℕ) (answer : Answer) → answer.roll ≡ None → answer.turn ≡ t.Passed → sent_by answer.reply ≡ [] → Does (ServesValue a.frame a.by a.seen false (text bytes)) k k a a answer
+does_passed a k limits bytes answer roll turn answered =
+    does_nothing a k (ServesValue a.frame a.by a.seen false (text bytes)) answer t.Passed roll turn (tells_passed _) (inl (record { noted = rw (roll, turn) refl; unanswered = answered; still = record { unread = refl; unmade = refl } }))
+
+-- an update whose parts are of wrong kinds
+pub does_mistyped : (a : AccessView) (k : Option (List ℤ)) (limits : Limits) (sync : Bool) (answer : Answer) → a.frame.limits ≡ limits → answer.roll ≡ None → answer.turn ≡ t.Declined → sent_by answer.reply ≡ replied sync (reply limits (wrong (codes "type"))) → Does (ServesValue a.frame a.by a.seen sync mistyped) k k a a answer
+does_mistyped a k limits sync answer same roll turn answered =
+    does_nothing a k (ServesValue a.frame a.by a.seen sync mistyped) answer t.Declined roll turn (tells_declined _) (inl (record { noted = rw (roll, turn) refl; answered = rw same answered; still = record { unread = refl; unmade = refl } }))
 
 -- memory was wanting before anything was asked
-serves_short : (limits : Limits) (by : ℕ) (date : ℤ) (seen : List Update) (request : Request) (sent : List ℕ) → sent ≡ response (wrong (codes "wsfull")) → Serves limits by date seen request Short sent [] []
-serves_short limits by date seen (text x) sent answered = is_short [] sent (omega arith) answered
-serves_short limits by date seen other sent answered = is_short [] sent (omega arith) answered
-serves_short limits by date seen (update table items) sent answered = is_short [] sent (omega arith) answered
+pub does_short : (a : AccessView) (k : Option (List ℤ)) (sync : Bool) (request : Request) (answer : Answer) → answer.roll ≡ None → answer.turn ≡ t.Short → sent_by answer.reply ≡ replied sync (response (wrong (codes "wsfull"))) → Does (ServesValue a.frame a.by a.seen sync request) k k a a answer
+does_short a k sync request answer roll turn answered =
+    does_nothing a k (ServesValue a.frame a.by a.seen sync request) answer t.Short roll turn (tells_short _ 0 0) (inr (record { noted = rw (roll, turn) refl; answered = answered; read = omega arith; unmade = refl }))
 
-pub served_none : (limits : Limits) (k : Option (List ℤ)) (a : AccessView) (request : Request) (sent : List ℕ) → sent ≡ response (wrong (codes "wsfull")) → IsServed limits k k a a request Short sent
-served_none limits k a request sent answered = record { readings = []; logged = []; clock = sym (told-nil k); access = advances_none a; serves = serves_short limits a.by a.date a.seen request sent answered }
+-- what asking for a snapshot leaves
+asks_after : (a b : AccessView) (l : Asks a b) → b ≡ advanced a l.others [] 1 0
+asks_after a b l = l.after ∙ ap (λ m. record a { seen = a.seen ++ l.others; mine = m; snapshots = next_count a.snapshots }) (sym (append-nil a.mine))
+
+-- a text was answered over a snapshot
+pub does_answered : (a b : AccessView) (k : Option (List ℤ)) (limits : Limits) (bytes : List ℕ) (shape : Shape) (place : ℕ) (answer : Answer)
+    → a.frame.limits ≡ limits → Asks a b → table_asked bytes 0 a.frame.schema ≡ Some (place, shape)
+    → answer.roll ≡ None → answer.turn ≡ t.Answered (length b.seen) → sent_by answer.reply ≡ reply limits (trees.table (shown shape (view a.frame.first b.seen place)))
+    → Does (ServesValue a.frame a.by b.seen true (text bytes)) k k a b answer
+does_answered a b k limits bytes shape place answer same l found roll turn answered =
+    let turns : turns_by answer.roll answer.turn ≡ t.Answered (length b.seen) ∷ [] = rw (roll, turn) refl in
+    let seen : b.seen ≡ a.seen ++ l.others = ap (λ (v : AccessView). v.seen) l.after in
+    let size : length b.seen ≡ length (a.seen ++ l.others) = ap length seen in
+    record {
+      readings = [];
+      made = [];
+      clock = sym (told-nil k);
+      access = advances_idle a b l.others (turns_by answer.roll answer.turn) 1 0 l.saw (asks_after a b l) (rw turns (record { each = (sym size, tt); last = size; answered = omega arith; quiet = omega arith }));
+      done = inl (inl (record {
+        count = length b.seen;
+        front = b.seen;
+        is_front = record { count = refl; more = []; whole = sym (append-nil b.seen) };
+        value = trees.table (shown shape (view a.frame.first b.seen place));
+        known = rw found refl;
+        noted = turns;
+        answered = rw same answered;
+        still = record { unread = refl; unmade = refl };
+      }));
+    }
+
+pub does_short_text : (a b : AccessView) (k : Option (List ℤ)) (request : Request) (answer : Answer) → Asks a b → answer.roll ≡ None → answer.turn ≡ t.Short → sent_by answer.reply ≡ response (wrong (codes "wsfull")) → Does (ServesValue a.frame a.by b.seen true request) k k a b answer
+does_short_text a b k request answer l roll turn answered =
+    let turns : turns_by answer.roll answer.turn ≡ t.Short ∷ [] = rw (roll, turn) refl in
+    record {
+      readings = [];
+      made = [];
+      clock = sym (told-nil k);
+      access = advances_idle a b l.others (turns_by answer.roll answer.turn) 1 0 l.saw (asks_after a b l) (rw turns (tells_short (length (a.seen ++ l.others)) 1 0));
+      done = inr (record { noted = turns; answered = answered; read = omega arith; unmade = refl });
+    }
+
+-- what an idle leaves
+idle_after : (a b : AccessView) (others : List Entry) → b ≡ record a { seen = a.seen ++ others; ticks = next_count a.ticks } → b ≡ advanced a others [] 0 1
+idle_after a b others after = after ∙ ap (λ m. record a { seen = a.seen ++ others; mine = m; ticks = next_count a.ticks }) (sym (append-nil a.mine))
+
+pub does_quiet : (a b : AccessView) (k k' : Option (List ℤ)) (now : ℤ) (count : ℕ) (answer : Answer) → k' ≡ told k (now ∷ []) → Waits a b now count → answer.roll ≡ None → answer.turn ≡ t.Quiet count now → sent_by answer.reply ≡ [] → Does (ServesIdle a.frame a.by b.seen) k k' a b answer
+does_quiet a b k k' now count answer read l roll turn unsent =
+    let turns : turns_by answer.roll answer.turn ≡ t.Quiet count now ∷ [] = rw (roll, turn) refl in
+    let seen : b.seen ≡ a.seen ++ l.others = ap (λ (v : AccessView). v.seen) l.after in
+    record {
+      readings = now ∷ [];
+      made = [];
+      clock = read;
+      access = advances_idle a b l.others (turns_by answer.roll answer.turn) 0 1 l.saw (idle_after a b l.others l.after) (rw turns (record { each = (sym l.length, tt); last = l.length; answered = omega arith; quiet = omega arith }));
+      done = record {
+        unsent = unsent;
+        done = inl (record { count = count; front = a.seen ++ l.others; is_front = record { count = l.length; more = []; whole = seen ∙ sym (append-nil (a.seen ++ l.others)) }; now = now; same = l.early; noted = turns; read = refl; unmade = refl });
+      };
+    }
+
+pub does_short_idle : (a b : AccessView) (k k' : Option (List ℤ)) (now : ℤ) (answer : Answer) → k' ≡ told k (now ∷ []) → Wants a b now → answer.roll ≡ None → answer.turn ≡ t.Short → sent_by answer.reply ≡ [] → Does (ServesIdle a.frame a.by b.seen) k k' a b answer
+does_short_idle a b k k' now answer read l roll turn unsent =
+    let turns : turns_by answer.roll answer.turn ≡ t.Short ∷ [] = rw (roll, turn) refl in
+    record {
+      readings = now ∷ [];
+      made = [];
+      clock = read;
+      access = advances_idle a b l.others (turns_by answer.roll answer.turn) 0 1 l.saw (idle_after a b l.others l.after) (rw turns (tells_short (length (a.seen ++ l.others)) 0 1));
+      done = record {
+        unsent = unsent;
+        done = inr (inr (record { now = now; noted = turns; read = refl; unmade = refl }));
+      };
+    }
+
+pub does_rolled : (a b : AccessView) (k k' : Option (List ℤ)) (now : ℤ) (place : ℕ) (answer : Answer) → k' ≡ told k (now ∷ []) → Rolls a b now place → answer.roll ≡ None → answer.turn ≡ t.Rolled place now → sent_by answer.reply ≡ [] → Does (ServesIdle a.frame a.by b.seen) k k' a b answer
+does_rolled a b k k' now place answer read l roll turn unsent =
+    let n = length (a.seen ++ l.others) in
+    let entry = next_roll a.frame.first (a.seen ++ l.others) a.by in
+    let turns : turns_by answer.roll answer.turn ≡ t.Rolled n now ∷ [] = rw (roll, turn, l.at_end) refl in
+    let seen : b.seen ≡ (a.seen ++ l.others) ++ entry ∷ [] = ap (λ (v : AccessView). v.seen) l.after in
+    let each : AllGoOn just n (turns_by answer.roll answer.turn) = rw turns (refl, tt) in
+    let size : n + 1 ≡ length ((a.seen ++ l.others) ++ entry ∷ []) = sym (length-append (a.seen ++ l.others) (entry ∷ [])) in
+    let last : last_length n (turns_by answer.roll answer.turn) ≡ length ((a.seen ++ l.others) ++ entry ∷ []) = ap (λ ts. last_length n ts) turns ∙ size in
+    let after = l.after ∙ ap (λ s. record a { seen = s; mine = a.mine ++ entry ∷ []; ticks = next_count a.ticks }) (append_assoc a.seen l.others (entry ∷ [])) in
+    record {
+      readings = now ∷ [];
+      made = entry ∷ [];
+      clock = read;
+      access = advances a b l.others (entry ∷ []) (turns_by answer.roll answer.turn) 0 1 l.saw after each last (rw turns (omega arith)) (rw turns (omega arith));
+      done = record {
+        unsent = unsent;
+        done = inr (inl (record {
+          front = a.seen ++ l.others;
+          now = now;
+          next = l.due;
+          rolled = refl;
+          stands = record { more = []; whole = seen ∙ sym (append-nil ((a.seen ++ l.others) ++ entry ∷ [])) };
+          noted = turns;
+          read = refl;
+        }));
+      };
+    }
+
+-- a place that a text's table has
+pub within_schema : (schema : List Shape) (bytes : List ℕ) (place : ℕ) → FindsTable schema bytes (Some place) → place < length schema
+within_schema schema bytes place f = slice_get_within schema place f.0 f.1
+
+-- a text was answered over the snapshot that was asked for
+pub does_selected : (a b : AccessView) (k : Option (List ℤ)) (limits : Limits) (bytes : List ℕ) (shape : Shape) (place count : ℕ) (schema : List Shape) (snapshot : SnapshotView) (made : Reply)
+    → a.frame.limits ≡ limits → Asks a b → snapshot ≡ record { frame = a.frame; entries = b.seen } → schema ≡ b.frame.schema → count ≡ length snapshot.entries
+    → ((s : Shape) → slice_get schema place ≡ Some s → reply_bytes made ≡ reply limits (trees.table (shown s (view snapshot.frame.first snapshot.entries place))))
+    → slice_get a.frame.schema place ≡ Some shape → table_asked bytes 0 a.frame.schema ≡ Some (place, shape)
+    → Does (ServesValue a.frame a.by b.seen true (text bytes)) k k a b (record { roll = None; turn = t.Answered count; reply = Some made })
+does_selected a b k limits bytes shape place count schema snapshot made same asks is schema_is count_is answered at found =
+    let own : b.frame ≡ a.frame = ap (λ (v : AccessView). v.frame) asks.after in
+    let here : schema ≡ a.frame.schema = schema_is ∙ ap (λ (f : Frame). f.schema) own in
+    let size : count ≡ length b.seen = count_is ∙ ap (λ (v : SnapshotView). length v.entries) is in
+    let sent = answered shape (subst (λ s. slice_get s place ≡ Some shape) (sym here) at) ∙ ap (λ (v : SnapshotView). reply limits (trees.table (shown shape (view v.frame.first v.entries place)))) is in
+    does_answered a b k limits bytes shape place (record { roll = None; turn = t.Answered count; reply = Some made }) same asks found refl (ap t.Answered size) sent

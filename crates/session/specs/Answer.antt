@@ -1,31 +1,34 @@
 -- The answer to a text.
-use Rattle.std.specs.Prelude.{ℕ, ℤ, List, [], ◌∷◌, length, replicate, codes}
+use Rattle.std.specs.Prelude.{ℕ, ◌+◌, if◌then◌else◌, List, [], ◌∷◌, ◌++◌, map, codes, option_map, Option, Some, None}
+use Rattle.std.specs.Str.{bytes_eq}
+use Rattle.day_rows.specs.Chronicle.{view}
+use Rattle.day_rows.specs.Day.{columns_from}
+use Rattle.day_rows.specs.Rows.{Row}
+use Rattle.day_rows.specs.declared.entry.Entry.{Entry}
+use Rattle.day_rows.specs.declared.schema.Shape.{Shape}
+use Rattle.plant_core.specs.Frame.{Frame}
 use Rattle.q_values.specs.Contents.{Contents}
-use Rattle.q_values.specs.Tree.{Tree, table}
+use Rattle.q_values.specs.Tree.{Grid, Tree, table}
 use Rattle.q_values.specs.declared.atom.Atom.TheVariants as a
 use Rattle.q_values.specs.declared.kind.Kind.TheVariants as k
-use Rattle.session.specs.Chronicle.{Update, column_atoms}
 
--- the text that is answered
-abbrev pub select_trade : List ℕ
-select_trade = codes "select from trade"
+-- the text that asks for every row of a table
+abbrev pub select_from : List ℕ → List ℕ
+select_from name = codes "select from " ++ name
 
-abbrev pub trade_name : List ℕ
-trade_name = codes "trade"
+-- the virtual first column: the date of each row
+abbrev pub dates_of_rows : List Row → Contents
+dates_of_rows rows = record { kind = k.Date; atoms = map (λ row. a.Date row.date) rows }
 
--- the names of the answer's columns: the virtual date, then those of the table
-abbrev pub answer_names : List (List ℕ)
-answer_names = codes "date" ∷ codes "time" ∷ codes "sym" ∷ codes "price" ∷ codes "size" ∷ []
+-- every row of a table in the documented order, its date first (KX, q-sql `select`)
+abbrev pub shown : Shape → List Row → Grid
+shown shape rows = record { names = codes "date" ∷ shape.names; columns = dates_of_rows rows ∷ columns_from 0 shape.kinds rows }
 
--- every row of every update, in the order of arrival, each with the open date
-abbrev pub answer_columns : ℤ → List Update → List Contents
-answer_columns date updates =
-    record { kind = k.Date; atoms = replicate (length (column_atoms 0 updates)) (a.Date date) }
-    ∷ record { kind = k.Timespan; atoms = column_atoms 0 updates }
-    ∷ record { kind = k.Symbol; atoms = column_atoms 1 updates }
-    ∷ record { kind = k.Long; atoms = column_atoms 2 updates }
-    ∷ record { kind = k.Long; atoms = column_atoms 3 updates }
-    ∷ []
+-- the table that a text asks for, with its place, counted from a place on
+abbrev pub table_asked : List ℕ → ℕ → List Shape → Option (ℕ × Shape)
+table_asked asked place [] = None
+table_asked asked place (shape ∷ shapes) = if bytes_eq asked (select_from shape.table) then Some (place, shape) else table_asked asked (place + 1) shapes
 
-abbrev pub answer : ℤ → List Update → Tree
-answer date updates = table (record { names = answer_names; columns = answer_columns date updates })
+-- the answer to a text over a chronicle, where the text is one that is answered
+abbrev pub answer : Frame → List Entry → List ℕ → Option Tree
+answer frame entries asked = option_map (λ found. table (shown found.1 (view frame.first entries found.0))) (table_asked asked 0 frame.schema)

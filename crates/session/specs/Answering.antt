@@ -1,18 +1,73 @@
--- What answering a message changes, and its turn and bytes.
-use Rattle.std.specs.Prelude.{◌≡◌, ℕ, ℤ, List, [], ◌∷◌, Option}
+-- What answering a message changes, and its turns and bytes.
+use Rattle.std.specs.Prelude.{◌≡◌, ◌⊎◌, ℕ, ℤ, Bool, List, [], ◌∷◌, codes, slice_get, Option, Some, None}
+use Rattle.day_rows.specs.declared.entry.Entry.{Entry}
 use Rattle.outside_api.specs.Told.{told}
+use Rattle.day_rows.specs.declared.schema.Shape.{Shape}
+use Rattle.plant_core.specs.Access.{AccessView}
+use Rattle.plant_core.specs.Frame.{Frame}
+use Rattle.plant_core.specs.declared.refusal.UpdRefusal.{UpdRefusal}
+use Rattle.q_values.specs.Tree.{wrong}
 use Rattle.q_values.specs.declared.limits.Limits.{Limits}
 use Rattle.q_values.specs.declared.turn.Turn.{Turn}
-use Rattle.session.specs.Access.{AccessView}
-use Rattle.session.specs.Chronicle.{Update}
+use Rattle.q_values.specs.declared.turn.Turn.TheVariants as t
+use Rattle.session.specs.Answer.{table_asked}
+use Rattle.session.specs.Replies.{reply_bytes, Refuses}
+use Rattle.session.specs.Reply.{response, replied}
 use Rattle.session.specs.Request.{Request}
 use Rattle.session.specs.Run.{Advances}
-use Rattle.session.specs.Served.{Serves}
+use Rattle.session.specs.Served.{Deed, ServesRequest, IsShort}
+use Rattle.session.specs.declared.answer.Answer.{Answer}
+use Rattle.session.specs.declared.reply.Reply.{Reply}
 
--- a request was served: what the clock and the access show then, the turn, and the bytes to send
-pub record IsServed (limits : Limits) (clock_old clock_new : Option (List ℤ)) (old new : AccessView) (request : Request) (turn : Turn) (sent : List ℕ) : Type 0 where
+-- the turn of a roll, if there was one, and that of the message
+abbrev pub turns_by : Option Turn → Turn → List Turn
+turns_by None turn = turn ∷ []
+turns_by (Some roll) turn = roll ∷ turn ∷ []
+
+-- what is sent
+abbrev pub sent_by : Option Reply → List ℕ
+sent_by None = []
+sent_by (Some reply) = reply_bytes reply
+
+-- the turn of a roll at a place
+abbrev pub roll_turn : Option ℕ → ℤ → Option Turn
+roll_turn None now = None
+roll_turn (Some place) now = Some (t.Rolled place now)
+
+-- the answer where memory was wanting
+pub record AnswersShort (sync : Bool) (answer : Answer) : Type 0 where
+  pub roll : answer.roll ≡ None
+  pub turn : answer.turn ≡ t.Short
+  pub reply : sent_by answer.reply ≡ replied sync (response (wrong (codes "wsfull")))
+
+-- the answer to a refused update: the refusal's text; want of memory has none
+pub record AnswersRefused (limits : Limits) (sync : Bool) (count : ℕ) (now : ℤ) (why : UpdRefusal) (answer : Answer) : Type 0 where
+  pub roll : answer.roll ≡ None
+  pub turn : answer.turn ≡ t.Refused count now
+  pub made : Reply
+  pub text : Refuses limits why made
+  pub reply : sent_by answer.reply ≡ replied sync (reply_bytes made)
+
+abbrev pub AnswersRefusal : Limits → Bool → ℕ → ℤ → UpdRefusal → Answer → Type 0
+AnswersRefusal limits sync count now why answer = AnswersRefused limits sync count now why answer ⊎ AnswersShort sync answer
+
+-- an answer, with the clock's readings and the entries that were made
+abbrev pub deed_of : Answer → List ℤ → List Entry → Deed
+deed_of answer readings made = record { turns = turns_by answer.roll answer.turn; sent = sent_by answer.reply; readings = readings; made = made }
+
+-- the clock was read, the access went on, and what was done with it is this
+pub record Does (Done : Deed → Type 0) (clock_old clock_new : Option (List ℤ)) (old new : AccessView) (answer : Answer) : Type 0 where
   pub readings : List ℤ
-  pub logged : List Update
+  pub made : List Entry
   pub clock : clock_new ≡ told clock_old readings
-  pub access : Advances old new (turn ∷ []) logged
-  pub serves : Serves limits old.by old.date new.seen request turn sent readings logged
+  pub access : Advances old new (turns_by answer.roll answer.turn) made
+  pub done : Done (deed_of answer readings made)
+
+-- what is done with a message that has a value
+abbrev pub ServesValue : Frame → ℕ → List Entry → Bool → Request → Deed → Type 0
+ServesValue frame by seen sync request deed = ServesRequest frame by seen sync request deed ⊎ IsShort sync deed
+
+-- a table that a text asks for stands at this place of the schema; where none does, the text asks for none
+abbrev pub FindsTable : List Shape → List ℕ → Option ℕ → Type 0
+FindsTable schema bytes (Some place) = (shape : Shape) × (slice_get schema place ≡ Some shape) × (table_asked bytes 0 schema ≡ Some (place, shape))
+FindsTable schema bytes None = table_asked bytes 0 schema ≡ None

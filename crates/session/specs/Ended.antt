@@ -1,16 +1,19 @@
 -- How a session, or a part of it, ends.
-use Rattle.std.specs.Prelude.{◌≡◌, ◌≤◌, ◌<◌, ◌+◌, ◌⊎◌, ℕ, Bool, true, false, List, [], ◌∷◌, ◌++◌, length, map, take, min, Option, Some, None}
+use Rattle.std.specs.Prelude.{◌≡◌, ◌≤◌, ◌<◌, ◌+◌, ◌⊎◌, ℕ, Bool, true, false, List, [], ◌∷◌, ◌++◌, length, map, take, MatchBool}
 use Rattle.std.specs.List.{flat_map}
-use Rattle.outside_api.specs.Counts.{counted, last_count}
+use Rattle.outside_api.specs.Counts.{counted}
 use Rattle.outside_api.specs.Link.{LinkView}
-use Rattle.outside_api.specs.Told.{told}
+use Rattle.ipc_frame.specs.Framing.{IsNeeded}
+use Rattle.ipc_frame.specs.Stream.{fault, front_of}
+use Rattle.ipc_frame.specs.View.{told_place}
+use Rattle.ipc_frame.specs.declared.bad.Bad.{Bad}
+use Rattle.ipc_frame.specs.declared.bad.Bad.TheVariants as b
+use Rattle.q_values.specs.Bytes.{HasNoNul}
 use Rattle.q_values.specs.declared.limits.Limits.{Limits}
-use Rattle.session.specs.Run.{World, Works, Runs, moved}
+use Rattle.session.specs.Arrival.{ReaderView, unheard}
+use Rattle.session.specs.Heard.{Hears, idles_heard}
+use Rattle.session.specs.Run.{World, Works, moved, sent_in}
 use Rattle.session.specs.Served.{Step}
-use Rattle.session.specs.Stream.{Front, nothing, partial, fault, front_of}
-use Rattle.session.specs.declared.fill.Stop.{Stop}
-use Rattle.session.specs.declared.fill.Stop.TheVariants.{Ended, Failed}
-use Rattle.session.specs.declared.fill.Stop.TheVariants as s
 use Rattle.session.specs.declared.end.End.{End}
 use Rattle.session.specs.declared.end.End.TheVariants.{Closed, Truncated, BadMessage, ReadFault, WriteFault, Idle, NoMemory}
 
@@ -44,19 +47,22 @@ SpendsIdles WriteFault left idled = idled < left
 SpendsIdles Idle left idled = idled ≡ left
 SpendsIdles NoMemory left idled = idled < left
 
--- no fault stands there: nothing, or less than a message
-abbrev pub IsUnfinished : Front → Type 0
-IsUnfinished front = (front ≡ nothing) ⊎ (front ≡ partial)
+-- bytes from a place of the stream on begin with no greeting or message, and have a fault there
+abbrev pub IsBad : Limits → Bool → ℕ → List ℕ → Bad → ℕ → Type 0
+IsBad limits greeted place rest code at =
+    MatchBool greeted
+    ((k : ℕ) × (front_of limits rest ≡ fault code k) × (at ≡ told_place (place + k)))
+    (HasNoNul (take (limits.greeting + 1) rest) × (limits.greeting < length rest) × (code ≡ b.Greeting) × (at ≡ told_place (place + limits.greeting)))
 
--- what stands in front of the bytes that were read last, so far from the first, at each end
-abbrev pub Rests : End → Front → ℕ → Type 0
-Rests Closed front place = front ≡ nothing
-Rests Truncated front place = front ≡ partial
-Rests (BadMessage code at) front place = (k : ℕ) × (front ≡ fault code k) × (at ≡ min (place + k) last_count)
-Rests ReadFault front place = IsUnfinished front
-Rests WriteFault front place = front ≡ nothing
-Rests Idle front place = IsUnfinished front
-Rests NoMemory front place = ⊥
+-- the bytes that were read last and not heard, from a place of the stream on, at each end
+abbrev pub Rests : End → Limits → Bool → ℕ → List ℕ → Type 0
+Rests Closed limits greeted place rest = rest ≡ []
+Rests Truncated limits greeted place rest = IsNeeded limits greeted rest × (0 < length rest)
+Rests (BadMessage code at) limits greeted place rest = IsBad limits greeted place rest code at
+Rests ReadFault limits greeted place rest = IsNeeded limits greeted rest
+Rests WriteFault limits greeted place rest = greeted ≡ true
+Rests Idle limits greeted place rest = IsNeeded limits greeted rest
+Rests NoMemory limits greeted place rest = ⊥
 
 -- all but the last of the parts were written, and of the last a front part
 pub record IsCut (parts : List (List ℕ)) (written : List ℕ) : Type 0 where
@@ -77,40 +83,49 @@ IsSent ReadFault parts written = written ≡ flat_map (λ part. part) parts
 IsSent Idle parts written = written ≡ flat_map (λ part. part) parts
 IsSent NoMemory parts written = written ≡ flat_map (λ part. part) parts
 
--- one message was read and served, and its response sent
-pub record ServesOne (limits : Limits) (a b : World) (left_old left_new offset_old offset_new : ℕ) : Type 0 where
-  pub step : Step
-  pub bytes : List ℕ
+-- the end may come without a read more
+abbrev pub NeedsNoRead : End → Type 0
+NeedsNoRead Closed = Unit {0}
+NeedsNoRead Truncated = Unit {0}
+NeedsNoRead (BadMessage code at) = Unit {0}
+NeedsNoRead ReadFault = ⊥
+NeedsNoRead WriteFault = Unit {0}
+NeedsNoRead Idle = ⊥
+NeedsNoRead NoMemory = ⊥
+
+-- some steps of a session, from a place of the stream on
+pub record Runs (limits : Limits) (place : ℕ) (a b : World) (r s : ReaderView) (left_old left_new : ℕ) : Type 0 where
+  pub steps : List Step
+  pub heard : List ℕ
+  pub given : List ℕ
   pub idled : ℕ
-  pub runs : Runs limits a b (step ∷ []) bytes idled
+  pub link : b.link ≡ moved a.link given (sent_in steps) idled
+  pub works : Works a b steps
+  -- the bytes that were there and came are those that were heard and are left
+  pub bytes : unheard r ++ given ≡ heard ++ unheard s
+  pub hears : Hears limits r.framer.greeted place heard (map (λ s. s.event) steps) s.framer.greeted
+  pub limits_same : s.framer.limits ≡ limits
+  pub placed : s.framer.place ≡ told_place (place + length heard)
+  pub counted : idles_heard (map (λ s. s.event) steps) ≡ idled
   pub idles : left_old ≡ left_new + idled
   pub some : 0 < left_new
-  pub offset : offset_new ≡ min (offset_old + length bytes) last_count
-  pub opened : a.link.ended ≡ false
+  pub opened : ((given ≡ []) × (idled ≡ 0)) ⊎ (a.link.ended ≡ false)
 
--- messages were read and served, and then came the end
-pub record Converses (limits : Limits) (a b : World) (offset left : ℕ) (end : End) : Type 0 where
+-- steps of a session from a place of the stream on, and then its end
+pub record Converses (limits : Limits) (place : ℕ) (a b : World) (r : ReaderView) (left : ℕ) (end : End) : Type 0 where
   pub steps : List Step
-  pub body : List ℕ
+  pub heard : List ℕ
   pub rest : List ℕ
+  pub given : List ℕ
   pub written : List ℕ
   pub idled : ℕ
-  pub link : b.link ≡ ended_link end (moved a.link (body ++ rest) written idled)
-  pub works : Works limits a b steps body
-  pub sent : IsSent end (map (λ s. s.sent) steps) written
-  pub rests : Rests end (front_of limits rest) (offset + length body)
+  pub greeted : Bool
+  pub link : b.link ≡ ended_link end (moved a.link given written idled)
+  pub works : Works a b steps
+  pub bytes : unheard r ++ given ≡ heard ++ rest
+  pub hears : Hears limits r.framer.greeted place heard (map (λ s. s.event) steps) greeted
+  pub rests : Rests end limits greeted (place + length heard) rest
+  pub sent : IsSent end (map (λ s. s.deed.sent) steps) written
+  pub counted : idles_heard (map (λ s. s.event) steps) ≡ idled
   pub idles : SpendsIdles end left idled
-  pub opened : WasOpenAt end a.link
-
--- the end of a session whose reading stopped so, at a message's start or within one
-abbrev pub stop_end : Stop → Bool → End
-stop_end Ended true = Closed
-stop_end Ended false = Truncated
-stop_end Failed at_start = ReadFault
-stop_end s.Idle at_start = Idle
-
--- the response was taken, or a front part of it, and then the session ends
-abbrev pub Finishes : LinkView → LinkView → List ℕ → ℕ → ℕ → ℕ → Option End → Type 0
-Finishes old new sent size offset_old offset_new None = (new ≡ record old { taken = told old.taken sent }) × (offset_new ≡ min (offset_old + size) last_count)
-Finishes old new sent size offset_old offset_new (Some end) =
-    (end ≡ WriteFault) × (n : ℕ) × (n ≤ length sent) × (new ≡ record old { taken = told old.taken (take n sent); write_faults = counted old.write_faults 1 })
+  pub opened : ((given ≡ []) × (idled ≡ 0) × NeedsNoRead end) ⊎ WasOpenAt end a.link

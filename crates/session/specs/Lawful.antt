@@ -1,19 +1,23 @@
 -- How the lengths that turns tell go on.
 use Rattle.std.specs.Prelude.{◌≡◌, ◌≤◌, ◌+◌, ℕ, Bool, true, false, List, [], ◌∷◌}
 use Rattle.q_values.specs.declared.turn.Turn.{Turn}
-use Rattle.q_values.specs.declared.turn.Turn.TheVariants.{Logged, Refused, Answered}
+use Rattle.q_values.specs.declared.turn.Turn.TheVariants.{Logged, Rolled, Refused, Quiet, Answered}
 
 -- the chronicle's length behind a turn, as far as it is told: this before it
 abbrev pub length_after : ℕ → Turn → ℕ
 length_after n (Logged place now) = place + 1
+length_after n (Rolled place now) = place + 1
 length_after n (Refused count now) = count
+length_after n (Quiet count now) = count
 length_after n (Answered count) = count
 length_after n turn = n
 
 -- the length that a turn tells stands so to the one before it
 abbrev pub GoesOn : (ℕ → ℕ → Type 0) → ℕ → Turn → Type 0
 GoesOn R n (Logged place now) = R n place
+GoesOn R n (Rolled place now) = R n place
 GoesOn R n (Refused count now) = R n count
+GoesOn R n (Quiet count now) = R n count
 GoesOn R n (Answered count) = R n count
 GoesOn R n turn = Unit {0}
 
@@ -31,7 +35,7 @@ pub record AreLengths (from to : ℕ) (turns : List Turn) : Type 0 where
   pub rising : AllGoOn (λ a b. a ≤ b) from turns
   pub within : last_length from turns ≤ to
 
--- each length is the one before it with what was logged since, the first this one, and the last is that
+-- each length is the one before it with what was made since, the first this one, and the last is that
 pub record AreExact (from to : ℕ) (turns : List Turn) : Type 0 where
   pub each : AllGoOn (λ a b. a ≡ b) from turns
   pub last : last_length from turns ≡ to
@@ -39,3 +43,7 @@ pub record AreExact (from to : ℕ) (turns : List Turn) : Type 0 where
 abbrev pub is_answered : Turn → Bool
 is_answered (Answered count) = true
 is_answered turn = false
+
+abbrev pub is_quiet : Turn → Bool
+is_quiet (Quiet count now) = true
+is_quiet turn = false

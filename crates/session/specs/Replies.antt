@@ -1,9 +1,9 @@
 use Rattle.std.specs.Prelude.{◌≡◌, ℕ, nat_lt, if◌then◌else◌, List, length, codes}
+use Rattle.plant_core.specs.declared.refusal.UpdRefusal.{UpdRefusal}
+use Rattle.plant_core.specs.declared.refusal.UpdRefusal.TheVariants as r
 use Rattle.q_values.specs.Tree.{wrong}
 use Rattle.q_values.specs.declared.limits.Limits.{Limits}
 use Rattle.session.specs.Reply.{response, reply}
-use Rattle.session.specs.declared.refusal.UpdRefusal.{UpdRefusal}
-use Rattle.session.specs.declared.refusal.UpdRefusal.TheVariants as r
 use Rattle.session.specs.declared.reply.Reply.{Reply}
 use Rattle.session.specs.declared.reply.Reply.TheVariants.{Fixed, Made}
 
@@ -22,4 +22,5 @@ Refuses limits (r.NoTable name) made = reply_bytes made ≡ reply limits (wrong 
 Refuses limits r.Length made = reply_bytes made ≡ reply limits (wrong (codes "length"))
 Refuses limits (r.WrongType column) made = reply_bytes made ≡ reply limits (wrong (codes "type"))
 Refuses limits r.MoreThanOneDay made = reply_bytes made ≡ reply limits (wrong (codes "more than one day?"))
+Refuses limits r.Limit made = reply_bytes made ≡ reply limits (wrong (codes "limit"))
 Refuses limits r.NoMemory made = ⊥

@@ -1,52 +1,86 @@
--- What a message asks for.
-use Rattle.std.specs.Prelude.{ℕ, List, if◌then◌else◌, Bool, ◌&&◌, Option, Some, None, codes}
-use Rattle.std.specs.List.{list_all, filter_map}
-use Rattle.std.specs.Option.{is_some}
+-- What a message asks for (KX, tick.q: `.u.upd`).
+use Rattle.std.specs.Prelude.{ℕ, Bool, false, List, [], ◌∷◌, if◌then◌else◌, map, Option, Some, None, codes}
+use Rattle.std.specs.List.{filter_map}
 use Rattle.std.specs.Str.{bytes_eq}
-use Rattle.q_values.specs.Tree.{Tree, vector, list, Items, no_items, item, list_of}
+use Rattle.q_values.specs.Tree.{Tree, atom, vector, list, list_of}
 use Rattle.q_values.specs.declared.atom.Atom.{Atom}
 use Rattle.q_values.specs.declared.atom.Atom.TheVariants as a
 use Rattle.q_values.specs.declared.kind.Kind.{Kind}
 use Rattle.q_values.specs.declared.kind.Kind.TheVariants as k
-use Rattle.session.specs.Verdict.{atom_of, symbol_of}
 
 pub data Request : Type 0 where
-  -- an update of a table with these items, which are atoms
+  -- an update of a table with these items
   update : List ℕ → List Tree → Request
+  -- an update whose table is no symbol, or whose items are neither a list nor a vector
+  mistyped : Request
   -- a text
   text : List ℕ → Request
   -- a value that is no request
   other : Request
 
--- the bytes of characters
+-- the byte of a character
 abbrev pub character_of : Atom → Option ℕ
 character_of (a.Character x) = Some x
 character_of x = None
 
--- a vector is a text where it is of characters
-abbrev pub text_of : Kind → List Atom → Request
-text_of k.Character atoms = text (filter_map character_of atoms)
-text_of kind atoms = other
+abbrev pub name_of : Atom → Option (List ℕ)
+name_of (a.Symbol x) = Some x
+name_of x = None
 
+-- the symbol that a value is
+abbrev pub symbol_of : Tree → Option (List ℕ)
+symbol_of (atom x) = name_of x
+symbol_of t = None
+
+-- the bytes of a vector of characters
+abbrev pub characters_of : Kind → List Atom → Option (List ℕ)
+characters_of k.Character atoms = Some (filter_map character_of atoms)
+characters_of kind atoms = None
+
+-- the bytes of a symbol or of a vector of characters
+abbrev pub function_of : Tree → Option (List ℕ)
+function_of (atom x) = name_of x
+function_of (vector v) = characters_of v.kind v.atoms
+function_of t = None
+
+-- the items of a list, or the atoms of a vector
 abbrev pub items_in : Tree → Option (List Tree)
 items_in (list items) = Some (list_of items)
+items_in (vector v) = Some (map atom v.atoms)
 items_in t = None
 
-abbrev pub are_atoms : List Tree → Bool
-are_atoms = list_all (λ t. is_some (atom_of t))
+-- an update by its table and its items
+abbrev pub update_of : Option (List ℕ) → Option (List Tree) → Request
+update_of (Some name) (Some items) = update name items
+update_of name items = mistyped
 
--- an update where the function is `.u.upd`, the table a symbol, and all items are atoms
-abbrev pub update_of : Option (List ℕ) → Option (List ℕ) → Option (List Tree) → Request
-update_of (Some function) (Some name) (Some items) =
-    if bytes_eq function (codes ".u.upd") && are_atoms items then update name items else other
-update_of function name items = other
+-- the function that updates call
+abbrev pub is_upd : Option (List ℕ) → Bool
+is_upd None = false
+is_upd (Some function) = bytes_eq function (codes ".u.upd")
 
--- a list of three is an update where its parts are so
-abbrev pub list_request : Items → Request
-list_request (item function (item name (item items no_items))) = update_of (symbol_of function) (symbol_of name) (items_in items)
-list_request items = other
+-- what a call of this function asks for
+abbrev pub call_of : Option (List ℕ) → Tree → Tree → Request
+call_of function second third = if is_upd function then update_of (symbol_of second) (items_in third) else other
+
+-- three parts are a call
+abbrev pub parts_request : List Tree → Request
+parts_request (first ∷ second ∷ third ∷ []) = call_of (function_of first) second third
+parts_request parts = other
+
+-- a vector is a text where it is of characters, and a call where it is of three symbols
+abbrev pub vector_request : Kind → List Atom → Request
+vector_request k.Character atoms = text (filter_map character_of atoms)
+vector_request k.Symbol atoms = parts_request (map atom atoms)
+vector_request kind atoms = other
+
+-- an atom is a text where it is a character
+abbrev pub atom_request : Option ℕ → Request
+atom_request (Some byte) = text (byte ∷ [])
+atom_request None = other
 
 abbrev pub request_of : Tree → Request
-request_of (vector v) = text_of v.kind v.atoms
-request_of (list items) = list_request items
+request_of (atom x) = atom_request (character_of x)
+request_of (vector v) = vector_request v.kind v.atoms
+request_of (list items) = parts_request (list_of items)
 request_of t = other

@@ -1,100 +1,183 @@
--- What a session does with each message.
-use Rattle.std.specs.Prelude.{◌≡◌, ◌≢◌, ◌≤◌, ℕ, ℤ, List, [], ◌∷◌, ◌++◌, length, map, min, codes, Option, Some, None}
+-- What a session does with what it hears.
+use Rattle.std.specs.Prelude.{◌≡◌, ◌≤◌, ◌+◌, ◌⊎◌, ℕ, ℤ, Bool, true, false, List, [], ◌∷◌, ◌++◌, length, min, codes, Some, None}
+use Rattle.day_rows.specs.Chronicle.{date_of}
+use Rattle.day_rows.specs.declared.entry.Entry.{Entry}
+use Rattle.day_rows.specs.declared.entry.Entry.TheVariants as e
+use Rattle.ipc_frame.specs.Stream.{Content, Message, built, unbuilt}
+use Rattle.plant_core.specs.Frame.{Frame}
+use Rattle.plant_core.specs.Plant.{next_roll}
+use Rattle.plant_core.specs.Verdict.{accepts, refuses, verdict, is_next_day}
+use Rattle.plant_core.specs.declared.refusal.UpdRefusal.{UpdRefusal}
 use Rattle.q_values.specs.Tree.{Tree, identity, wrong}
-use Rattle.q_values.specs.declared.limits.Limits.{Limits}
 use Rattle.q_values.specs.declared.turn.Turn.{Turn}
-use Rattle.q_values.specs.declared.turn.Turn.TheVariants.{Greeted, Logged, Refused, Answered, Declined, Short}
-use Rattle.session.specs.Answer.{answer, select_trade}
-use Rattle.session.specs.Chronicle.{Update, IsFront}
-use Rattle.session.specs.Reply.{response, reply, refusal_text}
-use Rattle.session.specs.Request.{Request, update, text, other, request_of}
-use Rattle.session.specs.Stream.{Message}
-use Rattle.session.specs.Verdict.{accepts, refuses, verdict}
-use Rattle.session.specs.declared.refusal.UpdRefusal.{UpdRefusal}
+use Rattle.q_values.specs.declared.turn.Turn.TheVariants as t
+use Rattle.session.specs.Answer.{answer, table_asked}
+use Rattle.session.specs.Chronicle.{IsFront}
+use Rattle.session.specs.Reply.{response, reply, replied, refusal_text}
+use Rattle.session.specs.Request.{Request, update, mistyped, text, other, request_of}
 
--- one message served: the turn noted, the bytes sent, the clock's readings, the updates logged
-pub record Step : Type 0 where
-  pub message : Message
-  pub turn : Turn
+-- what a session hears: a greeting of this capability, a message, or an idle of its link
+pub data Event : Type 0 where
+  greeted : ℕ → Event
+  asked : Message → Event
+  idled : Event
+
+-- what was done: the turns noted, the bytes sent, the clock's readings, the entries made
+pub record Deed : Type 0 where
+  pub turns : List Turn
   pub sent : List ℕ
   pub readings : List ℤ
-  pub logged : List Update
+  pub made : List Entry
 
--- nothing was logged, and no clock read
-pub record IsIdle (readings : List ℤ) (logged : List Update) : Type 0 where
-  pub unread : readings ≡ []
-  pub unlogged : logged ≡ []
+-- an event, and what was done with it
+pub record Step : Type 0 where
+  pub event : Event
+  pub deed : Deed
 
--- the updates stand at this place of the chronicle
-pub record StandsAt (place : ℕ) (updates chronicle : List Update) : Type 0 where
-  pub before : List Update
-  pub more : List Update
-  pub whole : chronicle ≡ (before ++ updates) ++ more
-  pub count : place ≡ length before
+-- the entries stand in the chronicle behind this front part
+pub record StandsBehind (front made chronicle : List Entry) : Type 0 where
+  pub more : List Entry
+  pub whole : chronicle ≡ (front ++ made) ++ more
+
+-- the turn of an entry that was made at a place
+abbrev pub entry_turn : ℕ → ℤ → Entry → Turn
+entry_turn place now (e.Upd by table columns) = t.Logged place now
+entry_turn place now (e.Roll by date) = t.Rolled place now
+entry_turn place now (e.Fault by) = t.Failed place now
+
+-- the turns of entries that were made one behind the other
+abbrev pub entry_turns : ℕ → ℤ → List Entry → List Turn
+entry_turns place now [] = []
+entry_turns place now (entry ∷ entries) = entry_turn place now entry ∷ entry_turns (place + 1) now entries
+
+-- nothing was made, and no clock read
+pub record IsStill (deed : Deed) : Type 0 where
+  pub unread : deed.readings ≡ []
+  pub unmade : deed.made ≡ []
 
 -- an update was logged: what the verdict on it adds stands at its place, and the answer is `(::)`
-pub record IsLogged (limits : Limits) (by : ℕ) (date : ℤ) (seen : List Update) (table : List ℕ) (items : List Tree) (place : ℕ) (now : ℤ) (sent : List ℕ) (readings : List ℤ) (logged : List Update) : Type 0 where
-  pub accepted : verdict by date table items now ≡ accepts logged
-  pub one : length logged ≡ 1
-  pub stands : StandsAt place logged seen
-  pub answered : sent ≡ reply limits identity
-  pub read : readings ≡ now ∷ []
+pub record IsLogged (frame : Frame) (by : ℕ) (seen : List Entry) (sync : Bool) (table : List ℕ) (items : List Tree) (deed : Deed) : Type 0 where
+  pub front : List Entry
+  pub now : ℤ
+  pub accepted : verdict frame by front table items now ≡ accepts deed.made
+  pub stands : StandsBehind front deed.made seen
+  pub noted : deed.turns ≡ entry_turns (length front) now deed.made
+  pub answered : deed.sent ≡ replied sync (reply frame.limits identity)
+  pub read : deed.readings ≡ now ∷ []
 
--- an update was refused: the answer is the text of the verdict's refusal, and nothing was logged
-pub record IsRefused (limits : Limits) (by : ℕ) (date : ℤ) (seen : List Update) (table : List ℕ) (items : List Tree) (count : ℕ) (now : ℤ) (sent : List ℕ) (readings : List ℤ) (logged : List Update) : Type 0 where
+-- an update was refused: the answer is the text of the verdict's refusal, and nothing was made
+pub record IsRefused (frame : Frame) (by : ℕ) (seen : List Entry) (sync : Bool) (table : List ℕ) (items : List Tree) (deed : Deed) : Type 0 where
+  pub count : ℕ
+  pub front : List Entry
+  pub is_front : IsFront count front seen
+  pub now : ℤ
   pub why : UpdRefusal
-  pub refused : verdict by date table items now ≡ refuses why
-  pub within : count ≤ length seen
-  pub answered : sent ≡ reply limits (wrong (refusal_text why))
-  pub read : readings ≡ now ∷ []
-  pub unlogged : logged ≡ []
+  pub refused : verdict frame by front table items now ≡ refuses why
+  pub noted : deed.turns ≡ t.Refused count now ∷ []
+  pub answered : deed.sent ≡ replied sync (reply frame.limits (wrong (refusal_text why)))
+  pub read : deed.readings ≡ now ∷ []
+  pub unmade : deed.made ≡ []
+
+-- memory was wanting: nothing was made, and the clock was read at most once
+pub record IsShort (sync : Bool) (deed : Deed) : Type 0 where
+  pub noted : deed.turns ≡ t.Short ∷ []
+  pub answered : deed.sent ≡ replied sync (response (wrong (codes "wsfull")))
+  pub read : length deed.readings ≤ 1
+  pub unmade : deed.made ≡ []
 
 -- a text was answered over the first entries of the chronicle
-pub record IsAnswered (limits : Limits) (date : ℤ) (seen : List Update) (asked : List ℕ) (count : ℕ) (sent : List ℕ) (readings : List ℤ) (logged : List Update) : Type 0 where
-  pub front : List Update
+pub record IsAnswered (frame : Frame) (seen : List Entry) (bytes : List ℕ) (deed : Deed) : Type 0 where
+  pub count : ℕ
+  pub front : List Entry
   pub is_front : IsFront count front seen
-  pub known : asked ≡ select_trade
-  pub answered : sent ≡ reply limits (answer date front)
-  pub idle : IsIdle readings logged
+  pub value : Tree
+  pub known : answer frame front bytes ≡ Some value
+  pub noted : deed.turns ≡ t.Answered count ∷ []
+  pub answered : deed.sent ≡ reply frame.limits value
+  pub still : IsStill deed
 
--- memory was wanting: nothing was logged, and the clock was read at most once
-pub record IsShort (sent : List ℕ) (readings : List ℤ) (logged : List Update) : Type 0 where
-  pub answered : sent ≡ response (wrong (codes "wsfull"))
-  pub read : length readings ≤ 1
-  pub unlogged : logged ≡ []
+-- what isn't served: an error with this text
+pub record IsDeclined (frame : Frame) (sync : Bool) (error : List ℕ) (deed : Deed) : Type 0 where
+  pub noted : deed.turns ≡ t.Declined ∷ []
+  pub answered : deed.sent ≡ replied sync (reply frame.limits (wrong error))
+  pub still : IsStill deed
 
--- what isn't served is answered `nyi`
-pub record IsDeclined (limits : Limits) (sent : List ℕ) (readings : List ℤ) (logged : List Update) : Type 0 where
-  pub answered : sent ≡ reply limits (wrong (codes "nyi"))
-  pub idle : IsIdle readings logged
+-- an async message that asks for nothing
+pub record IsPassed (deed : Deed) : Type 0 where
+  pub noted : deed.turns ≡ t.Passed ∷ []
+  pub unanswered : deed.sent ≡ []
+  pub still : IsStill deed
 
--- what a request may be answered, by its turn
-abbrev pub Serves : Limits → ℕ → ℤ → List Update → Request → Turn → List ℕ → List ℤ → List Update → Type 0
-Serves limits by date seen (update table items) (Logged place now) sent readings logged = IsLogged limits by date seen table items place now sent readings logged
-Serves limits by date seen (update table items) (Refused count now) sent readings logged = IsRefused limits by date seen table items count now sent readings logged
-Serves limits by date seen (update table items) Short sent readings logged = IsShort sent readings logged
-Serves limits by date seen (text asked) (Answered count) sent readings logged = IsAnswered limits date seen asked count sent readings logged
-Serves limits by date seen (text asked) Declined sent readings logged = (asked ≢ select_trade) × IsDeclined limits sent readings logged
-Serves limits by date seen (text asked) Short sent readings logged = IsShort sent readings logged
-Serves limits by date seen other Declined sent readings logged = IsDeclined limits sent readings logged
-Serves limits by date seen other Short sent readings logged = IsShort sent readings logged
-Serves limits by date seen request turn sent readings logged = ⊥
+-- what is no request is declined with `nyi`, or passed where nobody waits for a response
+abbrev pub IsUnserved : Frame → Bool → Deed → Type 0
+IsUnserved frame true deed = IsDeclined frame true (codes "nyi") deed
+IsUnserved frame false deed = IsPassed deed
 
--- what a message may be answered: one outside the profile is declined, another by what it asks for
-abbrev pub Answers : Limits → ℕ → ℤ → List Update → Option Tree → Turn → List ℕ → List ℤ → List Update → Type 0
-Answers limits by date seen None turn sent readings logged = (turn ≡ Declined) × IsDeclined limits sent readings logged
-Answers limits by date seen (Some t) turn sent readings logged = Serves limits by date seen (request_of t) turn sent readings logged
+-- a text is answered where it is one that is; an async text is never evaluated
+abbrev pub ServesText : Frame → List Entry → Bool → List ℕ → Deed → Type 0
+ServesText frame seen true bytes deed = IsAnswered frame seen bytes deed ⊎ ((table_asked bytes 0 frame.schema ≡ None) × IsUnserved frame true deed)
+ServesText frame seen false bytes deed = IsPassed deed
 
--- a step serves its message, the chronicle being this in the end
-abbrev pub IsStep : Limits → ℕ → ℤ → List Update → Step → Type 0
-IsStep limits by date seen s = Answers limits by date seen s.message.value s.turn s.sent s.readings s.logged
+-- what is done with a request, memory aside
+abbrev pub ServesRequest : Frame → ℕ → List Entry → Bool → Request → Deed → Type 0
+ServesRequest frame by seen sync (update table items) deed = IsLogged frame by seen sync table items deed ⊎ IsRefused frame by seen sync table items deed
+ServesRequest frame by seen sync mistyped deed = IsDeclined frame sync (codes "type") deed
+ServesRequest frame by seen sync (text bytes) deed = ServesText frame seen sync bytes deed
+ServesRequest frame by seen sync other deed = IsUnserved frame sync deed
 
--- the greeting's byte, and then what was sent for each message
-abbrev pub sent_parts : Option ℕ → List Step → List (List ℕ)
-sent_parts None steps = map (λ s. s.sent) steps
-sent_parts (Some capability) steps = (min capability 3 ∷ []) ∷ map (λ s. s.sent) steps
+-- what is done with a message: one outside the profile is not served; for another memory may be wanting
+abbrev pub ServesContent : Frame → ℕ → List Entry → Bool → Content → Deed → Type 0
+ServesContent frame by seen sync (unbuilt at) deed = IsUnserved frame sync deed
+ServesContent frame by seen sync (built value) deed = ServesRequest frame by seen sync (request_of value) deed ⊎ IsShort sync deed
 
--- the greeting's turn, and then that of each message
-abbrev pub turns_of : Option ℕ → List Step → List Turn
-turns_of None steps = map (λ s. s.turn) steps
-turns_of (Some capability) steps = Greeted capability ∷ map (λ s. s.turn) steps
+-- the greeting is answered with one byte: its capability, of which 3 is the greatest that is told
+pub record IsGreeted (capability : ℕ) (deed : Deed) : Type 0 where
+  pub noted : deed.turns ≡ t.Greeted capability ∷ []
+  pub answered : deed.sent ≡ min capability 3 ∷ []
+  pub still : IsStill deed
+
+-- an idle at which no date ends
+pub record IsQuiet (frame : Frame) (seen : List Entry) (deed : Deed) : Type 0 where
+  pub count : ℕ
+  pub front : List Entry
+  pub is_front : IsFront count front seen
+  pub now : ℤ
+  pub same : is_next_day (date_of frame.first front) now ≡ false
+  pub noted : deed.turns ≡ t.Quiet count now ∷ []
+  pub read : deed.readings ≡ now ∷ []
+  pub unmade : deed.made ≡ []
+
+-- an idle at which the open date is ended, and the next one, which is that of the clock, opened
+pub record IsRolled (frame : Frame) (by : ℕ) (seen : List Entry) (deed : Deed) : Type 0 where
+  pub front : List Entry
+  pub now : ℤ
+  pub next : is_next_day (date_of frame.first front) now ≡ true
+  pub rolled : deed.made ≡ next_roll frame.first front by ∷ []
+  pub stands : StandsBehind front deed.made seen
+  pub noted : deed.turns ≡ t.Rolled (length front) now ∷ []
+  pub read : deed.readings ≡ now ∷ []
+
+-- an idle for which memory was wanting
+pub record IsShortIdle (deed : Deed) : Type 0 where
+  pub now : ℤ
+  pub noted : deed.turns ≡ t.Short ∷ []
+  pub read : deed.readings ≡ now ∷ []
+  pub unmade : deed.made ≡ []
+
+-- what an idle may come to
+abbrev pub IsIdle : Frame → ℕ → List Entry → Deed → Type 0
+IsIdle frame by seen deed = IsQuiet frame seen deed ⊎ IsRolled frame by seen deed ⊎ IsShortIdle deed
+
+-- an idle sends nothing
+pub record ServesIdle (frame : Frame) (by : ℕ) (seen : List Entry) (deed : Deed) : Type 0 where
+  pub unsent : deed.sent ≡ []
+  pub done : IsIdle frame by seen deed
+
+-- what is done with what is heard, the chronicle being this in the end
+abbrev pub Serves : Frame → ℕ → List Entry → Event → Deed → Type 0
+Serves frame by seen (greeted capability) deed = IsGreeted capability deed
+Serves frame by seen (asked message) deed = ServesContent frame by seen message.sync message.content deed
+Serves frame by seen idled deed = ServesIdle frame by seen deed
+
+abbrev pub IsStep : Frame → ℕ → List Entry → Step → Type 0
+IsStep frame by seen s = Serves frame by seen s.event s.deed

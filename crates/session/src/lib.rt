@@ -1,27 +1,16 @@
 //! A session: the bytes of one link, served from its greeting to its end.
 #![tactic(auto)]
 
-mod access;
+mod act;
 mod answer;
-mod body;
 mod end;
-mod fill;
-mod greeting;
-mod header;
-mod incoming;
-mod judge;
-pub mod laws;
-mod message;
-mod refusal;
+mod reader;
 mod reply;
 mod request;
+mod select;
 mod serve;
 mod session;
-mod solo;
-mod ticks;
 
-pub use access::{Access, UpdRequest, UpdTurn};
-pub use end::{Bad, End, Report};
-pub use refusal::UpdRefusal;
+pub use end::{End, Report};
+pub use ipc_frame::Bad;
 pub use session::serve_session;
-pub use solo::{Snapshot, Solo};

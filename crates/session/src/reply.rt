@@ -7,8 +7,8 @@ ghost use Rattle.session.specs.Reply.{response, reply, refusal_text};
 ghost use Rattle.q_values.specs.Bytes.{HasNoNul};
 ghost use Rattle.session.specs.Replies.{reply_bytes, fixed_reply, Refuses};
 
-use crate::refusal::UpdRefusal;
 use ipc_codec::encode;
+use plant_core::UpdRefusal;
 use q_values::{Limits, NoMemory, Text, Value};
 use std::alloc::Global;
 
@@ -26,6 +26,9 @@ static DONE: [u8; 10] = [1, 2, 0, 0, 10, 0, 0, 0, 0x65, 0];
 
 /// The response of the error `nyi`.
 static NYI: [u8; 13] = *b"\x01\x02\x00\x00\x0d\x00\x00\x00\x80nyi\x00";
+
+/// The response of the error `type`.
+static TYPE: [u8; 14] = *b"\x01\x02\x00\x00\x0e\x00\x00\x00\x80type\x00";
 
 /// The response of the error `limit`.
 static LIMIT: [u8; 15] = *b"\x01\x02\x00\x00\x0f\x00\x00\x00\x80limit\x00";
@@ -70,6 +73,13 @@ pub fn nyi(limits: &Limits) -> Reply
     fixed(limits, &NYI)
 }
 
+/// The error `type`, for an update whose parts are of wrong kinds.
+pub fn mistyped(limits: &Limits) -> Reply
+    ensures { reply_bytes result ≡ reply limits.now (wrong (codes "type")) }
+{
+    fixed(limits, &TYPE)
+}
+
 /// The error `wsfull`, for want of memory.
 pub fn wsfull() -> Reply
     ensures { reply_bytes result ≡ response (wrong (codes "wsfull")) }
@@ -103,6 +113,7 @@ pub fn refuse(alloc: Global, why: UpdRefusal, limits: &Limits) -> Result<Reply, 
         UpdRefusal::Length => respond_wrong(alloc, b"length", limits),
         UpdRefusal::WrongType { .. } => respond_wrong(alloc, b"type", limits),
         UpdRefusal::MoreThanOneDay => respond_wrong(alloc, b"more than one day?", limits),
+        UpdRefusal::Limit => respond_wrong(alloc, b"limit", limits),
         UpdRefusal::NoMemory => Err(NoMemory),
     }
 }

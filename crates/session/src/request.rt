@@ -1,28 +1,25 @@
 //! What a message asks for.
-ghost use Rattle.std.specs.Prelude.{◌≡◌, [], ◌∷◌, map, option_map, Option, Some};
-ghost use Rattle.std.specs.Str.{bytes_eq};
-ghost use Rattle.q_values.specs.Tree.{tree, trees, items_of};
+ghost use Rattle.std.specs.Prelude.{◌≡◌, [], ◌∷◌, IfOk, map, option_map, Option, Some};
+ghost use Rattle.q_values.specs.Tree.{tree, trees, atom};
 ghost use Rattle.session.specs.Asked.{Asks, AreCharacters, AreParts};
-ghost use Rattle.session.specs.Request.{request_of, text_of, update_of, list_request, items_in, are_atoms};
-ghost use Rattle.session.specs.Verdict.{symbol_of};
+ghost use Rattle.session.specs.Request.{parts_request, vector_request, atom_request, request_of, character_of, call_of, update_of, function_of, symbol_of, items_in, is_upd};
 
-use crate::access::UpdRequest;
-use crate::judge::atom_of;
-use q_values::{Atom, ByteKind, Column, Sym, Value, Values, Vector};
+use plant_core::UpdRequest;
+use q_values::{Atom, ByteKind, Column, NoMemory, Sym, Symbols, Text, Value, Values, Vector};
+use std::alloc::Global;
 
 /// What a message asks for.
 #[derive(Drop)]
 pub enum Asked {
     /// An update.
     Update(UpdRequest),
-    /// The text `select from trade`.
-    Select,
+    /// An update whose parts are of wrong kinds.
+    Mistyped,
+    /// A text.
+    Text(Text),
     /// Nothing that is served.
     Other,
 }
-
-/// The text that is answered.
-const SELECT: [u8; 17] = *b"select from trade";
 
 /// The function that updates call.
 const UPD: [u8; 6] = *b".u.upd";
@@ -40,12 +37,17 @@ fn characters_of(vector: &Vector) -> Option<&[u8]>
     }
 }
 
-fn text_request(vector: &Vector) -> Asked
-    ensures { Asks (text_of vector.now.kind vector.now.atoms) result }
+/// Whether a value names the function that updates call.
+fn is_upd(value: &Value) -> bool
+    ensures { result ≡ is_upd (function_of (tree value.now)) }
 {
-    match characters_of(vector) {
-        Some(text) if text == SELECT.as_slice() => Asked::Select,
-        _ => Asked::Other,
+    match value {
+        Value::Atom(Atom::Symbol(symbol)) => symbol.bytes() == UPD.as_slice(),
+        Value::Vector(vector) => match characters_of(vector) {
+            Some(bytes) => bytes == UPD.as_slice(),
+            None => false,
+        },
+        _ => false,
     }
 }
 
@@ -58,12 +60,25 @@ fn symbol_in(value: Value) -> Option<Sym>
     }
 }
 
-fn list_in(value: Value) -> Option<Values>
-    ensures { option_map (λ v. trees v) result ≡ items_in (tree value) }
+/// The atoms of a vector, each a value.
+fn atoms_in(alloc: Global, vector: &Vector) -> Result<Values, NoMemory>
+    ensures { IfOk result (λ values. trees values ≡ map atom vector.now.atoms) }
+{
+    let mut atoms = Vec::new(alloc);
+    for i in 0..vector.len() {
+        atoms.push(Value::Atom(vector.at(alloc, i)?))?;
+    }
+    Ok(Values::of(atoms))
+}
+
+/// The items of a list, or the atoms of a vector.
+fn items_in(alloc: Global, value: Value) -> Result<Option<Values>, NoMemory>
+    ensures { IfOk result (λ found. option_map (λ v. trees v) found ≡ items_in (tree value)) }
 {
     match value {
-        Value::List(items) => Some(items),
-        _ => None,
+        Value::List(items) => Ok(Some(items)),
+        Value::Vector(vector) => Ok(Some(atoms_in(alloc, &vector)?)),
+        _ => Ok(None),
     }
 }
 
@@ -81,59 +96,96 @@ fn parts_of(items: Values) -> Option<(Value, Value, Value)>
     Some((first, second, third))
 }
 
-fn are_all_atoms(items: &[Value]) -> bool
-    ensures { result ≡ are_atoms (map tree items.now) }
+/// An update by its table and its items.
+fn update_of(table: Option<Sym>, items: Option<Values>) -> Asked
+    ensures { Asks (update_of table (option_map (λ v. trees v) items)) result }
 {
-    for item in items {
-        if atom_of(item).is_none() {
-            return false;
-        }
-    }
-    true
-}
-
-fn update_request(function: Option<Sym>, table: Option<Sym>, items: Option<Values>) -> Asked
-    ensures { Asks (update_of function table (option_map (λ v. trees v) items)) result }
-{
-    let Some(function) = function else {
-        return Asked::Other;
-    };
     let Some(table) = table else {
-        return Asked::Other;
+        return Asked::Mistyped;
     };
     let Some(items) = items else {
-        return Asked::Other;
+        return Asked::Mistyped;
     };
-    if function.bytes() == UPD.as_slice() && are_all_atoms(items.as_slice()) {
-        Asked::Update(UpdRequest { table, items })
+    Asked::Update(UpdRequest { table, items })
+}
+
+fn call_in(alloc: Global, first: &Value, second: Value, third: Value) -> Result<Asked, NoMemory>
+    ensures { IfOk result (Asks (call_of (function_of (tree first.now)) (tree second) (tree third))) }
+{
+    if !is_upd(first) {
+        return Ok(Asked::Other);
+    }
+    let items = items_in(alloc, third)?;
+    Ok(update_of(symbol_in(second), items))
+}
+
+/// What a list asks for.
+fn call_of_list(alloc: Global, items: Values) -> Result<Asked, NoMemory>
+    ensures { IfOk result (Asks (parts_request (trees items))) }
+{
+    match parts_of(items) {
+        Some((first, second, third)) => call_in(alloc, &first, second, third),
+        None => Ok(Asked::Other),
+    }
+}
+
+/// What a vector of symbols asks for.
+fn call_of_symbols(symbols: &Symbols) -> Asked
+    ensures { Asks (parts_request (map atom (map (λ s. Atom.Symbol s) symbols.now))) result }
+{
+    if symbols.len() != 3 {
+        return Asked::Other;
+    }
+    if symbols.at(0) == UPD.as_slice() {
+        Asked::Mistyped
     } else {
         Asked::Other
     }
 }
 
-fn list_asked(items: Values) -> Asked
-    ensures { Asks (list_request (items_of (trees items))) result }
+/// What a vector asks for.
+fn vector_asked(alloc: Global, vector: &Vector) -> Result<Asked, NoMemory>
+    ensures { IfOk result (Asks (vector_request vector.now.kind vector.now.atoms)) }
 {
-    match parts_of(items) {
-        Some((function, table, items)) => {
-            update_request(symbol_in(function), symbol_in(table), list_in(items))
-        }
-        None => Asked::Other,
+    match vector.column() {
+        Column::Bytes(kind, bytes) => match kind {
+            ByteKind::Character => Ok(Asked::Text(Text::of(Vec::from_slice(alloc, bytes)?))),
+            ByteKind::Byte => Ok(Asked::Other),
+        },
+        Column::Symbols(symbols) => Ok(call_of_symbols(symbols)),
+        _ => Ok(Asked::Other),
+    }
+}
+
+/// The byte of a character.
+fn character_in(atom: &Atom) -> Option<u8>
+    ensures { result ≡ character_of atom.now }
+{
+    match atom {
+        Atom::Character(byte) => Some(*byte),
+        _ => None,
+    }
+}
+
+/// What an atom asks for.
+fn atom_asked(alloc: Global, atom: &Atom) -> Result<Asked, NoMemory>
+    ensures { IfOk result (Asks (atom_request (character_of atom.now))) }
+{
+    match character_in(atom) {
+        Some(byte) => Ok(Asked::Text(Text::of(vec![in alloc; byte]?))),
+        None => Ok(Asked::Other),
     }
 }
 
 /// What a message with this value asks for.
-pub fn asked_by(value: Value) -> Asked
-    ensures { Asks (request_of (tree value)) result }
+pub fn asked_by(alloc: Global, value: Value) -> Result<Asked, NoMemory>
+    ensures { IfOk result (Asks (request_of (tree value))) }
 {
     match value {
-        Value::Vector(vector) => text_request(&vector),
-        Value::List(items) => list_asked(items),
-        Value::Atom(_)
-        | Value::Dict(_)
-        | Value::Table(_)
-        | Value::Keyed(_)
-        | Value::Identity
-        | Value::Wrong(_) => Asked::Other,
+        Value::Atom(atom) => atom_asked(alloc, &atom),
+        Value::Vector(vector) => vector_asked(alloc, &vector),
+        Value::List(items) => call_of_list(alloc, items),
+        Value::Dict(_) | Value::Table(_) | Value::Keyed(_) | Value::Identity | Value::Wrong(_) =>
+            Ok(Asked::Other),
     }
 }

@@ -1,67 +1,48 @@
-//! Serving the messages of a session, one after the other.
-ghost use Rattle.std.specs.Prelude.{◌≡◌, ◌∷◌, [], ◌<◌, ◌≤◌, length, MatchOption};
+//! Serving what is heard of a link, one event after the other.
+ghost use Rattle.std.specs.Prelude.{◌≡◌, ◌<◌, ◌+◌, if◌then◌else◌, MatchOption, ℕ};
+ghost use Rattle.ipc_frame.specs.View.{told_place};
 ghost use Rattle.q_values.specs.Limits.{AreLimits};
-ghost use Rattle.session.specs.Ended.{ServesOne, Converses, Finishes, stop_end};
-ghost use Rattle.outside_api.specs.Told.{Tells};
-ghost use Rattle.session.specs.Replies.{reply_bytes};
+ghost use Rattle.session.specs.Acting.{IdlesBy};
+ghost use Rattle.session.specs.Ended.{Runs, Converses};
 
-use crate::access::Access;
-use crate::answer::Answer;
+use crate::act::{greet, serve_idle, serve_outside, serve_short, serve_value};
 use crate::end::End;
-use crate::fill::Stop;
-use crate::incoming::{Incoming, read_message};
-use crate::message::{answer_body, send};
-use crate::reply::nyi;
+use crate::reader::{Arrival, Reader};
 use outside_api::{Clock, Gate, Link, Recorder};
-use q_values::{Limits, Turn};
+use plant_core::Access;
+use q_values::Limits;
 use std::alloc::Global;
 use std::sync::Wait;
 
-/// How far a session has come.
-#[derive(Clone, Copy)]
-pub struct Progress {
-    /// The idles that are left.
-    pub left: u64,
-    /// The bytes read so far; the number stands still at its last value.
-    pub offset: u64,
-}
-
-/// The end of a session whose reading stopped so, at a message's start or within one.
-pub fn end_of(stop: Stop, at_start: bool) -> End
-    ensures { result ≡ stop_end stop at_start }
+/// The end of a session whose input ended, between messages or within one.
+fn ended(between: bool) -> End
+    ensures { result ≡ (if between then End.Closed else End.Truncated) }
 {
-    match stop {
-        Stop::Ended if at_start => End::Closed,
-        Stop::Ended => End::Truncated,
-        Stop::Failed => End::ReadFault,
-        Stop::Idle => End::Idle,
-    }
+    if between { End::Closed } else { End::Truncated }
 }
 
-/// Notes the turn of a message of so many bytes, and sends its response.
-fn finish<L: Link, N: Recorder>(
-    link: &mut L,
+/// Serves an idle of the link, and tells whether it was the last.
+fn idle<A: Access, C: Clock, G: Gate, N: Recorder, R: Wait>(
+    rt: &R,
+    alloc: Global,
+    access: &mut A,
+    clock: &mut C,
+    gate: &mut G,
     turns: &mut N,
-    answer: &Answer,
-    length: u32,
-    progress: &mut Progress,
+    left: &mut u64,
 ) -> Option<End>
-    ensures noted { Tells (N.noted turns.old) (N.noted turns.new) (answer.now.turn ∷ []) }
-    ensures sent { Finishes (L.shown link.old) (L.shown link.new) (reply_bytes answer.now.reply)
-        length progress.old.offset progress.new.offset result }
-    ensures left { progress.new.left ≡ progress.old.left }
+    requires { 0 < left.old }
+    ensures idled { IdlesBy (A.shown access.old) (A.shown access.new) (C.readings clock.old) (C.readings clock.new) (N.noted turns.old) (N.noted turns.new) }
+    ensures left { left.old ≡ left.new + 1 }
+    ensures end { MatchOption result (0 < left.new) (λ end. (end ≡ End.Idle) × (left.new ≡ 0)) }
 {
-    match send(link, turns, answer.turn, answer.reply.as_slice()) {
-        Ok(()) => {
-            progress.offset = progress.offset.saturating_add(u64::from(length));
-            None
-        }
-        Err(_) => Some(End::WriteFault),
-    }
+    serve_idle(rt, alloc, access, clock, gate, turns);
+    *left -= 1;
+    if *left == 0 { Some(End::Idle) } else { None }
 }
 
-/// Reads and serves one message, or tells how the session ends.
-pub fn serve_message<A: Access, L: Link, C: Clock, G: Gate, N: Recorder, R: Wait>(
+/// Hears what comes next of a link and serves it, or tells how the session ends.
+pub fn serve_next<A: Access, L: Link, C: Clock, G: Gate, N: Recorder, R: Wait>(
     rt: &R,
     alloc: Global,
     access: &mut A,
@@ -70,66 +51,27 @@ pub fn serve_message<A: Access, L: Link, C: Clock, G: Gate, N: Recorder, R: Wait
     gate: &mut G,
     turns: &mut N,
     limits: &Limits,
-    buffer: &mut [u8],
-    progress: &mut Progress,
+    reader: &mut Reader,
+    left: &mut u64,
 ) -> Option<End>
     requires limits { AreLimits limits.now }
-    requires some { 0 < progress.old.left }
-    requires room { limits.now.message ≤ length buffer.old }
-    ensures { MatchOption result
-        (ServesOne limits.now
+    requires same { (A.shown access.old).frame.limits ≡ limits.now }
+    requires known { reader.old.framer.limits ≡ limits.now }
+    requires some { 0 < left.old }
+    ensures { (place : ℕ) → reader.old.framer.place ≡ told_place place → MatchOption result
+        (Runs limits.now place
         (record { link = L.shown link.old; clock = C.readings clock.old; notes = N.noted turns.old; access = A.shown access.old })
         (record { link = L.shown link.new; clock = C.readings clock.new; notes = N.noted turns.new; access = A.shown access.new })
-        progress.old.left progress.new.left progress.old.offset progress.new.offset)
-        (λ end. Converses limits.now
+        reader.old reader.new left.old left.new)
+        (λ end. Converses limits.now place
         (record { link = L.shown link.old; clock = C.readings clock.old; notes = N.noted turns.old; access = A.shown access.old })
         (record { link = L.shown link.new; clock = C.readings clock.new; notes = N.noted turns.new; access = A.shown access.new })
-        progress.old.offset progress.old.left end) }
+        reader.old left.old end) }
 {
-    match read_message(rt, link, limits, buffer, &mut progress.left) {
-        Incoming::Object(length) => {
-            let body = &buffer[..length as usize - 8];
-            let answer = answer_body(rt, alloc, access, clock, gate, limits, body);
-            finish(link, turns, &answer, length, progress)
-        }
-        Incoming::Outside(length) => {
-            let answer = Answer {
-                turn: Turn::Declined,
-                reply: nyi(limits),
-            };
-            finish(link, turns, &answer, length, progress)
-        }
-        Incoming::Bad { code, at } => {
-            let at = progress.offset.saturating_add(at);
-            Some(End::BadMessage { code, at })
-        }
-        Incoming::Stopped(stop, at_start) => Some(end_of(stop, at_start)),
-    }
-}
-
-/// Reads and serves messages until the session ends.
-pub fn serve_messages<A: Access, L: Link, C: Clock, G: Gate, N: Recorder, R: Wait>(
-    rt: &R,
-    alloc: Global,
-    access: &mut A,
-    link: &mut L,
-    clock: &mut C,
-    gate: &mut G,
-    turns: &mut N,
-    limits: &Limits,
-    buffer: &mut [u8],
-    mut progress: Progress,
-) -> End
-    requires limits { AreLimits limits.now }
-    requires some { 0 < progress.left }
-    requires room { limits.now.message ≤ length buffer.old }
-    ensures { Converses limits.now
-        (record { link = L.shown link.old; clock = C.readings clock.old; notes = N.noted turns.old; access = A.shown access.old })
-        (record { link = L.shown link.new; clock = C.readings clock.new; notes = N.noted turns.new; access = A.shown access.new })
-        progress.offset progress.left result }
-{
-    for _ in rt.forever() {
-        let served = serve_message(
+    match reader.arrive(link) {
+        Arrival::More => None,
+        Arrival::Greeting { capability } => greet(link, turns, capability),
+        Arrival::Message(message) => serve_value(
             rt,
             alloc,
             access,
@@ -138,8 +80,43 @@ pub fn serve_messages<A: Access, L: Link, C: Clock, G: Gate, N: Recorder, R: Wai
             gate,
             turns,
             limits,
-            buffer,
-            &mut progress,
+            message.sync,
+            message.value,
+        ),
+        Arrival::Outside { sync } => serve_outside(link, turns, limits, sync),
+        Arrival::Skipped { sync } => serve_short(link, turns, sync),
+        Arrival::Bad { code, at } => Some(End::BadMessage { code, at }),
+        Arrival::Idle => idle(rt, alloc, access, clock, gate, turns, left),
+        Arrival::Ended { between } => Some(ended(between)),
+        Arrival::Failed => Some(End::ReadFault),
+    }
+}
+
+/// Hears and serves until the session ends.
+pub fn serve_all<A: Access, L: Link, C: Clock, G: Gate, N: Recorder, R: Wait>(
+    rt: &R,
+    alloc: Global,
+    access: &mut A,
+    link: &mut L,
+    clock: &mut C,
+    gate: &mut G,
+    turns: &mut N,
+    limits: &Limits,
+    reader: &mut Reader,
+) -> End
+    requires limits { AreLimits limits.now }
+    requires same { (A.shown access.old).frame.limits ≡ limits.now }
+    requires known { reader.old.framer.limits ≡ limits.now }
+    requires first { reader.old.framer.place ≡ 0 }
+    ensures { Converses limits.now 0
+        (record { link = L.shown link.old; clock = C.readings clock.old; notes = N.noted turns.old; access = A.shown access.old })
+        (record { link = L.shown link.new; clock = C.readings clock.new; notes = N.noted turns.new; access = A.shown access.new })
+        reader.old limits.now.idle result }
+{
+    let mut left = limits.idle;
+    for _ in rt.forever() {
+        let served = serve_next(
+            rt, alloc, access, link, clock, gate, turns, limits, reader, &mut left,
         );
         match served {
             Some(end) => return end,

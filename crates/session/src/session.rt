@@ -1,24 +1,21 @@
 //! A whole session.
-ghost use Rattle.std.specs.Prelude.{◌≤◌, length};
+ghost use Rattle.std.specs.Prelude.{◌≡◌};
 ghost use Rattle.q_values.specs.Limits.{AreLimits};
 ghost use Rattle.session.specs.Session.{IsSession};
 
-use crate::access::Access;
-use crate::end::{Bad, End, Report};
-use crate::greeting::{Greeting, read_greeting};
-use crate::message::send;
-use crate::serve::{Progress, end_of, serve_messages};
+use crate::end::{End, Report};
+use crate::reader::Reader;
+use crate::serve::serve_all;
 use outside_api::{Clock, Gate, Link, Recorder};
-use q_values::{Limits, Turn};
+use plant_core::Access;
+use q_values::Limits;
 use std::alloc::Global;
 use std::sync::Wait;
 
-/// The greatest capability that a greeting is answered.
-const ANSWERED: u8 = 3;
-
-/// Serves one link from its greeting to its end: reads the greeting and answers one byte, then answers one message after
-/// the other (KX, IPC reference). An update is logged, `select from trade` is answered over a snapshot; each turn is
-/// noted before its bytes are written.
+/// Serves one link from its greeting to its end (KX, IPC reference). The stream is read in large pieces, however it is
+/// cut; the greeting is answered with one byte, each sync message with one response, an async message with none. An
+/// update is logged, behind a roll where it is of the next date; a text is answered over a snapshot; at an idle the open
+/// date is ended where the next one has come. Each turn is noted before its bytes are written.
 pub fn serve_session<A: Access, L: Link, C: Clock, G: Gate, N: Recorder, R: Wait>(
     rt: &R,
     alloc: Global,
@@ -29,14 +26,15 @@ pub fn serve_session<A: Access, L: Link, C: Clock, G: Gate, N: Recorder, R: Wait
     turns: &mut N,
     limits: &Limits,
 ) -> Report
-    requires { AreLimits limits.now }
+    requires limits { AreLimits limits.now }
+    requires same { (A.shown access.old).frame.limits ≡ limits.now }
     ensures { IsSession limits.now
         (record { link = L.shown link.old; clock = C.readings clock.old; notes = N.noted turns.old; access = A.shown access.old })
         (record { link = L.shown link.new; clock = C.readings clock.new; notes = N.noted turns.new; access = A.shown access.new })
         result.end }
 {
-    let end = match vec![in alloc; 0u8; limits.message as usize] {
-        Ok(mut buffer) => serve_link(
+    let end = match Reader::new(alloc, limits) {
+        Ok(mut reader) => serve_all(
             rt,
             alloc,
             access,
@@ -45,53 +43,9 @@ pub fn serve_session<A: Access, L: Link, C: Clock, G: Gate, N: Recorder, R: Wait
             gate,
             turns,
             limits,
-            &mut buffer,
+            &mut reader,
         ),
         Err(_) => End::NoMemory,
     };
     Report { end }
-}
-
-/// Serves a link with a buffer for its messages.
-fn serve_link<A: Access, L: Link, C: Clock, G: Gate, N: Recorder, R: Wait>(
-    rt: &R,
-    alloc: Global,
-    access: &mut A,
-    link: &mut L,
-    clock: &mut C,
-    gate: &mut G,
-    turns: &mut N,
-    limits: &Limits,
-    buffer: &mut [u8],
-) -> End
-    requires limits { AreLimits limits.now }
-    requires room { limits.now.message ≤ length buffer.old }
-    ensures { IsSession limits.now
-        (record { link = L.shown link.old; clock = C.readings clock.old; notes = N.noted turns.old; access = A.shown access.old })
-        (record { link = L.shown link.new; clock = C.readings clock.new; notes = N.noted turns.new; access = A.shown access.new })
-        result }
-{
-    let mut left = limits.idle;
-    match read_greeting(rt, link, &mut left, limits.greeting) {
-        Greeting::Whole { capability, length } => {
-            let answer = [capability.min(ANSWERED)];
-            match send(link, turns, Turn::Greeted { capability }, &answer) {
-                Ok(()) => {
-                    let progress = Progress {
-                        left,
-                        offset: length,
-                    };
-                    serve_messages(
-                        rt, alloc, access, link, clock, gate, turns, limits, buffer, progress,
-                    )
-                }
-                Err(_) => End::WriteFault,
-            }
-        }
-        Greeting::TooLong => End::BadMessage {
-            code: Bad::Greeting,
-            at: u64::from(limits.greeting),
-        },
-        Greeting::Stopped(stop, at_start) => end_of(stop, at_start),
-    }
 }

@@ -1,12 +1,16 @@
-use Rattle.session.proofs.ServedLemmas.{served_answered, served_short_text}
+use Rattle.session.specs.Request.{text}
+use Rattle.session.proofs.ServedLemmas.{does_selected, does_short_text}
 use Rattle.session.proofs.answer.answer_select.Goals as goal
 
 pub returns-in-Ok-select_reply : goal.returns-in-Ok-select_reply
-returns-in-Ok-select_reply g c = λ k.
-    rw (c.length-length.ensures, c.in-Ok.ensures.2) (served_answered c.args.limits.now k _ _ _ c.in-Ok.ensures.0 (rw (c.in-Ok.ensures.1, c.in-Ok.ensures.2) at c.in-Ok-select_reply.ensures))
+returns-in-Ok-select_reply g c = λ bytes shape k at found.
+    let h = c.in-Ok.ensures in
+    does_selected _ _ k c.args.limits.now bytes shape c.args.place _ c.schema.result.now c.in-Ok.snapshot c.in-Ok-select_reply.reply c.requires.same h.0 h.1 c.schema.ensures c.length-length.ensures c.in-Ok-select_reply.ensures at found
 
-pub returns-in-Err-select_reply : goal.returns-in-Err-select_reply
-returns-in-Err-select_reply g c = λ k. served_short_text c.args.limits.now k _ _ _ c.in-Ok.ensures.0 c.wsfull.ensures
+pub returns-in-Ok : goal.returns-in-Ok
+returns-in-Ok g c = λ bytes shape k at found.
+    let h = c.in-Ok.ensures in
+    does_short_text _ _ k (text bytes) _ h.0 c.short.ensures.roll c.short.ensures.turn c.short.ensures.reply
 
-pub returns-in-Err : goal.returns-in-Err
-returns-in-Err g c = λ k. served_short_text c.args.limits.now k _ _ _ c.in-Err.ensures c.wsfull-in-Err.ensures
+pub returns : goal.returns
+returns g c = λ bytes shape k at found. does_short_text _ _ k (text bytes) _ c.in-Err.ensures c.short-in-Err.ensures.roll c.short-in-Err.ensures.turn c.short-in-Err.ensures.reply

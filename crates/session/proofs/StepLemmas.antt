@@ -1,0 +1,297 @@
+-- One step of a session.
+use Rattle.std.proofs.Common.{◌≡◌, ◌<◌, ◌+◌, ℕ, ℤ, Bool, true, false, if◌then◌else◌, List, [], ◌∷◌, ◌++◌, length, take, Option, Some, None, refl, sym, ap, subst, ◌∙◌, arith, inl, inr, ◌⊎◌}
+use Rattle.std.specs.Option.{MatchOption}
+use Rattle.std.proofs.lemmas.List.{append-nil, length-append}
+use Rattle.std.specs.Prelude.{IsTrue, ◌↔◌}
+use Rattle.std.proofs.lemmas.List.Elements.{All-nil, All-cons}
+use Rattle.outside_api.specs.Counts.{counted}
+use Rattle.outside_api.specs.Link.{LinkView}
+use Rattle.outside_api.specs.Told.{told, Tells}
+use Rattle.plant_core.specs.Access.{AccessView}
+use Rattle.ipc_frame.specs.Framing.{IsNeeded}
+use Rattle.ipc_frame.specs.View.{told_place}
+use Rattle.q_values.specs.declared.limits.Limits.{Limits}
+use Rattle.q_values.specs.declared.turn.Turn.{Turn}
+use Rattle.session.specs.Acting.{Acts, IdlesBy}
+use Rattle.ipc_frame.proofs.RunLemmas.{too_long}
+use Rattle.ipc_frame.proofs.UniqueLemmas.{front_stays}
+use Rattle.ipc_frame.specs.Stream.{fault}
+use Rattle.ipc_frame.specs.declared.bad.Bad.{Bad}
+use Rattle.session.specs.Arrival.{ReaderView, Gathers, Waits, HoldsFault, heard_by, unheard}
+use Rattle.session.specs.Ended.{Runs, Converses, IsBad}
+use Rattle.session.specs.Heard.{Hears, idles_heard}
+use Rattle.session.specs.Run.{World, Works, Advances, moved}
+use Rattle.session.specs.Served.{Event, idled, Step, Serves, IsStep}
+use Rattle.session.specs.declared.end.End.{End}
+use Rattle.session.specs.declared.end.End.TheVariants as e
+use Rattle.session.proofs.ToldLemmas.{told-nil, moved-none}
+
+-- what the devices show
+abbrev pub world : LinkView → Option (List ℤ) → Option (List Turn) → AccessView → World
+world link clock notes access = record { link = link; clock = clock; notes = notes; access = access }
+
+-- a session goes on, or ends
+abbrev pub Goes : Limits → ℕ → World → World → ReaderView → ReaderView → ℕ → ℕ → Option End → Type 0
+Goes limits place a b r s left left' result = MatchOption result (Runs limits place a b r s left left') (λ end. Converses limits place a b r left end)
+
+-- nothing was done
+pub advances-none : (a : AccessView) → Advances a a [] []
+advances-none a = record {
+  gained = [];
+  asked = 0;
+  ticked = 0;
+  after = rw (append-nil a.seen, append-nil a.mine) refl;
+  lengths = record { rising = tt; within = omega arith };
+  alone = λ _. record { each = tt; last = refl };
+  answered = omega arith;
+  quiet = omega arith;
+}
+
+pub tells-none : {X : Type 0} (o : Option (List X)) → Tells o o []
+tells-none o all e = told-nil o ∙ e
+
+pub works-none : (link link' : LinkView) (k : Option (List ℤ)) (n : Option (List Turn)) (a : AccessView) → Works (world link k n a) (world link' k n a) []
+works-none link link' k n a = record {
+  clock = sym (told-nil k);
+  notes = tells-none n;
+  access = advances-none a;
+  served = All-nil (IsStep a.frame a.by a.seen);
+}
+
+-- what one step does
+pub works-one : (a b : World) (s : Step) → b.clock ≡ told a.clock s.deed.readings → Tells a.notes b.notes s.deed.turns → Advances a.access b.access s.deed.turns s.deed.made → Serves a.access.frame a.access.by b.access.seen s.event s.deed → Works a b (s ∷ [])
+works-one a b s clock notes access serves = record {
+  clock = clock ∙ rw (append-nil s.deed.readings) refl;
+  notes = rw (append-nil s.deed.turns) notes;
+  access = rw (append-nil s.deed.turns, append-nil s.deed.made) access;
+  served = All-cons (IsStep a.access.frame a.access.by b.access.seen) s [] serves (All-nil (IsStep a.access.frame a.access.by b.access.seen));
+}
+
+-- a place is told behind bytes as it was before them
+told_behind : (p place n : ℕ) → p ≡ told_place place → told_place (p + n) ≡ told_place (place + n)
+told_behind p place n e = omega arith
+
+-- what was held was heard, and served
+pub heard_step : (limits : Limits) (place : ℕ) (a b : World) (r s : ReaderView) (left : ℕ) (event : Event) (result : Option End)
+    → r.framer.limits ≡ limits → r.framer.place ≡ told_place place → 0 < left
+    → s ≡ heard_by r
+    → Hears limits r.framer.greeted place r.framer.held (event ∷ []) true
+    → idles_heard (event ∷ []) ≡ 0
+    → Acts (Serves a.access.frame a.access.by b.access.seen event) a b result
+    → Goes limits place a b r s left left result
+heard_step limits place a b r s left event None same at some is hears none acts = record {
+  steps = record { event = event; deed = acts.deed } ∷ [];
+  heard = r.framer.held;
+  given = [];
+  idled = 0;
+  link = acts.link ∙ rw (told-nil a.link.given, append-nil acts.deed.sent) refl;
+  works = works-one a b (record { event = event; deed = acts.deed }) acts.clock acts.notes acts.access acts.done;
+  bytes = append-nil (unheard r) ∙ ap (λ (v : ReaderView). r.framer.held ++ unheard v) (sym is);
+  hears = subst (λ (v : ReaderView). Hears limits r.framer.greeted place r.framer.held (event ∷ []) v.framer.greeted) (sym is) hears;
+  limits_same = ap (λ (v : ReaderView). v.framer.limits) is ∙ same;
+  placed = ap (λ (v : ReaderView). v.framer.place) is ∙ told_behind r.framer.place place (length r.framer.held) at;
+  counted = none;
+  idles = omega arith;
+  some = some;
+  opened = inl (refl, refl);
+}
+heard_step limits place a b r s left event (Some end) same at some is hears none acts =
+    let f = acts.link in
+    subst (λ x. Converses limits place a b r left x) (sym f.0) (record {
+      steps = record { event = event; deed = acts.deed } ∷ [];
+      heard = r.framer.held;
+      rest = r.pending;
+      given = [];
+      written = take f.1 acts.deed.sent;
+      idled = 0;
+      greeted = true;
+      link = f.3 ∙ rw (told-nil a.link.given) refl;
+      works = works-one a b (record { event = event; deed = acts.deed }) acts.clock acts.notes acts.access acts.done;
+      bytes = append-nil (unheard r);
+      hears = hears;
+      rests = refl;
+      sent = record { whole = []; last = acts.deed.sent; count = f.1; made = refl; within = f.2; taken = refl };
+      counted = none;
+      idles = some;
+      opened = inl (refl, refl, tt);
+    })
+
+opened_by : (l : LinkView) (given : List ℕ) → (given ≡ []) ⊎ (l.ended ≡ false) → ((given ≡ []) × (◌≡◌ {A = ℕ} 0 0)) ⊎ (l.ended ≡ false)
+opened_by l given (inl none) = inl (none, refl)
+opened_by l given (inr still) = inr still
+
+-- more was read or taken, and nothing heard
+pub more_step : (limits : Limits) (place : ℕ) (l l' : LinkView) (k : Option (List ℤ)) (n : Option (List Turn)) (a : AccessView) (r s : ReaderView) (left : ℕ) → r.framer.limits ≡ limits → r.framer.place ≡ told_place place → 0 < left → Gathers l l' r s → Runs limits place (world l k n a) (world l' k n a) r s left left
+more_step limits place l l' k n a r s left same at some g =
+    let z : place ≡ place + 0 = omega arith in
+    record {
+      steps = [];
+      heard = [];
+      given = g.given;
+      idled = 0;
+      link = g.link;
+      works = works-none l l' k n a;
+      bytes = g.bytes;
+      hears = (refl, g.greeted);
+      limits_same = g.limits ∙ same;
+      placed = g.place ∙ at ∙ ap told_place z;
+      counted = refl;
+      idles = omega arith;
+      some = some;
+      opened = opened_by l g.given g.opened;
+    }
+
+-- an idle hears no byte
+hears_idle : (limits : Limits) (g h : Bool) (place : ℕ) → h ≡ g → Hears limits g place [] (idled ∷ []) h
+hears_idle limits true h place e = (refl, e)
+hears_idle limits false h place e = (refl, e)
+
+needed_by : (limits : Limits) (r : ReaderView) → r.framer.limits ≡ limits → IsNeeded r.framer.limits r.framer.greeted r.framer.held → IsNeeded limits r.framer.greeted r.framer.held
+needed_by limits r same needed = subst (λ m. IsNeeded m r.framer.greeted r.framer.held) same needed
+
+-- all bytes that were given are held
+all_held : (r : ReaderView) → r.pending ≡ [] → unheard r ++ [] ≡ r.framer.held
+all_held r none = append-nil (unheard r) ∙ ap (λ l. r.framer.held ++ l) none ∙ append-nil r.framer.held
+
+idle_link : (l : LinkView) (sent : List ℕ) → sent ≡ [] → record l { idles = counted l.idles 1 } ≡ moved l [] (sent ++ []) 1
+idle_link l sent none = rw (none, told-nil l.given, told-nil l.taken) refl
+
+-- the link was idle, and that was served
+pub idle_step : (limits : Limits) (place : ℕ) (l l' : LinkView) (k k' : Option (List ℤ)) (n n' : Option (List Turn)) (a a' : AccessView) (r s : ReaderView) (left left' : ℕ) → r.framer.limits ≡ limits → r.framer.place ≡ told_place place → l' ≡ record l { idles = counted l.idles 1 } → l.ended ≡ false → Waits r s → IdlesBy a a' k k' n n' → left ≡ left' + 1 → 0 < left' → Runs limits place (world l k n a) (world l' k' n' a') r s left left'
+idle_step limits place l l' k k' n n' a a' r s left left' same at moved_on still w acts once some =
+    let z : place ≡ place + 0 = omega arith in
+    record {
+      steps = record { event = idled; deed = acts.deed } ∷ [];
+      heard = [];
+      given = [];
+      idled = 1;
+      link = moved_on ∙ idle_link l acts.deed.sent acts.done.unsent;
+      works = works-one (world l k n a) (world l' k' n' a') (record { event = idled; deed = acts.deed }) acts.clock acts.notes acts.access acts.done;
+      bytes = append-nil (unheard r) ∙ ap unheard (sym w.same);
+      hears = hears_idle limits r.framer.greeted s.framer.greeted place (ap (λ (v : ReaderView). v.framer.greeted) w.same);
+      limits_same = ap (λ (v : ReaderView). v.framer.limits) w.same ∙ same;
+      placed = ap (λ (v : ReaderView). v.framer.place) w.same ∙ at ∙ ap told_place z;
+      counted = refl;
+      idles = once;
+      some = some;
+      opened = inr still;
+    }
+
+-- the last idle
+pub idle_end : (limits : Limits) (place : ℕ) (l l' : LinkView) (k k' : Option (List ℤ)) (n n' : Option (List Turn)) (a a' : AccessView) (r s : ReaderView) (left left' : ℕ) → r.framer.limits ≡ limits → l' ≡ record l { idles = counted l.idles 1 } → l.ended ≡ false → Waits r s → IdlesBy a a' k k' n n' → left ≡ left' + 1 → left' ≡ 0 → Converses limits place (world l k n a) (world l' k' n' a') r left e.Idle
+idle_end limits place l l' k k' n n' a a' r s left left' same moved_on still w acts once last =
+    record {
+      steps = record { event = idled; deed = acts.deed } ∷ [];
+      heard = [];
+      rest = r.framer.held;
+      given = [];
+      written = [];
+      idled = 1;
+      greeted = r.framer.greeted;
+      link = moved_on ∙ rw (told-nil l.given, told-nil l.taken) refl;
+      works = works-one (world l k n a) (world l' k' n' a') (record { event = idled; deed = acts.deed }) acts.clock acts.notes acts.access acts.done;
+      bytes = all_held r w.taken;
+      hears = hears_idle limits r.framer.greeted r.framer.greeted place refl;
+      rests = needed_by limits r same w.needed;
+      sent = rw acts.done.unsent refl;
+      counted = refl;
+      idles = omega (arith, once, last);
+      opened = inr still;
+    }
+
+-- ---- ends at which nothing is heard
+
+bad_rests : (limits : Limits) (greeted : Bool) (place p : ℕ) (held pending : List ℕ) (code : Bad) (at : ℕ) → p ≡ told_place place → HoldsFault (record { limits = limits; greeted = greeted; place = p; held = held }) code at → IsBad limits greeted (place + 0) (held ++ pending) code at
+bad_rests limits true place p held pending code at e h =
+    (h.0, front_stays limits held pending (fault code h.0) tt h.1, h.2 ∙ told_behind p place h.0 e ∙ let z : place + h.0 ≡ place + 0 + h.0 = omega arith in ap told_place z)
+bad_rests limits false place p held pending code at e h =
+    let size = h.0.long in
+    (too_long limits held pending h.0, omega (arith, length-append held pending, size), h.1, h.2 ∙ told_behind p place limits.greeting e ∙ let z : place + limits.greeting ≡ place + 0 + limits.greeting = omega arith in ap told_place z)
+
+pub bad_end : (limits : Limits) (place : ℕ) (l l' : LinkView) (k : Option (List ℤ)) (n : Option (List Turn)) (a : AccessView) (r : ReaderView) (left : ℕ) (code : Bad) (at : ℕ) → r.framer.limits ≡ limits → r.framer.place ≡ told_place place → 0 < left → l' ≡ l → HoldsFault r.framer code at → Converses limits place (world l k n a) (world l' k n a) r left (e.BadMessage code at)
+bad_end limits place l l' k n a r left code at same told_at some moved_on held = record {
+  steps = [];
+  heard = [];
+  rest = unheard r;
+  given = [];
+  written = [];
+  idled = 0;
+  greeted = r.framer.greeted;
+  link = moved_on ∙ sym (moved-none l);
+  works = works-none l l' k n a;
+  bytes = append-nil (unheard r);
+  hears = (refl, refl);
+  rests = subst (λ m. IsBad m r.framer.greeted (place + 0) (unheard r) code at) same (bad_rests r.framer.limits r.framer.greeted place r.framer.place r.framer.held r.pending code at told_at held);
+  sent = refl;
+  counted = refl;
+  idles = some;
+  opened = inl (refl, refl, tt);
+}
+
+pub failed_end : (limits : Limits) (place : ℕ) (l l' : LinkView) (k : Option (List ℤ)) (n : Option (List Turn)) (a : AccessView) (r s : ReaderView) (left : ℕ) → r.framer.limits ≡ limits → 0 < left → l' ≡ record l { read_faults = counted l.read_faults 1 } → l.ended ≡ false → Waits r s → Converses limits place (world l k n a) (world l' k n a) r left e.ReadFault
+failed_end limits place l l' k n a r s left same some moved_on still w = record {
+  steps = [];
+  heard = [];
+  rest = r.framer.held;
+  given = [];
+  written = [];
+  idled = 0;
+  greeted = r.framer.greeted;
+  link = moved_on ∙ rw (told-nil l.given, told-nil l.taken) refl;
+  works = works-none l l' k n a;
+  bytes = all_held r w.taken;
+  hears = (refl, refl);
+  rests = needed_by limits r same w.needed;
+  sent = refl;
+  counted = refl;
+  idles = some;
+  opened = inr still;
+}
+
+-- bytes that are held, where some are
+some_held : (held : List ℕ) → (held ≡ [] → ⊥) → 0 < length held
+some_held [] h = absurd (h refl)
+some_held (x ∷ held) h = omega arith
+
+pub input_end : (limits : Limits) (place : ℕ) (l l' : LinkView) (k : Option (List ℤ)) (n : Option (List Turn)) (a : AccessView) (r s : ReaderView) (left : ℕ) (between : Bool) → r.framer.limits ≡ limits → 0 < left → l' ≡ record l { ended = true } → IsTrue between ↔ (r.framer.held ≡ []) → Waits r s → Converses limits place (world l k n a) (world l' k n a) r left (if between then e.Closed else e.Truncated)
+input_end limits place l l' k n a r s left true same some moved_on iff w = record {
+  steps = [];
+  heard = [];
+  rest = r.framer.held;
+  given = [];
+  written = [];
+  idled = 0;
+  greeted = r.framer.greeted;
+  link = moved_on ∙ rw (told-nil l.given, told-nil l.taken) refl;
+  works = works-none l l' k n a;
+  bytes = all_held r w.taken;
+  hears = (refl, refl);
+  rests = iff.0 refl;
+  sent = refl;
+  counted = refl;
+  idles = some;
+  opened = inr tt;
+}
+input_end limits place l l' k n a r s left false same some moved_on iff w = record {
+  steps = [];
+  heard = [];
+  rest = r.framer.held;
+  given = [];
+  written = [];
+  idled = 0;
+  greeted = r.framer.greeted;
+  link = moved_on ∙ rw (told-nil l.given, told-nil l.taken) refl;
+  works = works-none l l' k n a;
+  bytes = all_held r w.taken;
+  hears = (refl, refl);
+  rests = (needed_by limits r same w.needed, some_held r.framer.held (λ none. absurd (let h = iff.1 none in cc)));
+  sent = refl;
+  counted = refl;
+  idles = some;
+  opened = inr tt;
+}
+
+-- an idle was served, perhaps the last
+pub idle_goes : (limits : Limits) (place : ℕ) (l l' : LinkView) (k k' : Option (List ℤ)) (n n' : Option (List Turn)) (a a' : AccessView) (r s : ReaderView) (left left' : ℕ) (result : Option End) → r.framer.limits ≡ limits → r.framer.place ≡ told_place place → l' ≡ record l { idles = counted l.idles 1 } → l.ended ≡ false → Waits r s → IdlesBy a a' k k' n n' → left ≡ left' + 1 → MatchOption result (0 < left') (λ end. (end ≡ e.Idle) × (left' ≡ 0)) → Goes limits place (world l k n a) (world l' k' n' a') r s left left' result
+idle_goes limits place l l' k k' n n' a a' r s left left' None same at moved_on still w acts once some = idle_step limits place l l' k k' n n' a a' r s left left' same at moved_on still w acts once some
+idle_goes limits place l l' k k' n n' a a' r s left left' (Some end) same at moved_on still w acts once last = subst (λ x. Converses limits place (world l k n a) (world l' k' n' a') r left x) (sym last.0) (idle_end limits place l l' k k' n n' a a' r s left left' same moved_on still w acts once last.1)

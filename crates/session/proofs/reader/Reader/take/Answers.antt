@@ -1,0 +1,14 @@
+use Rattle.std.proofs.Common.{subst, ◌-◌, ◌+◌, take, drop, List, ℕ}
+use Rattle.ipc_frame.specs.Framing.{Feeds}
+use Rattle.session.proofs.ReaderLemmas.{gathered}
+use Rattle.session.specs.Reading.{Gathered}
+use Rattle.session.specs.declared.reader.Arrival.TheVariants.{More}
+use Rattle.session.proofs.reader.Reader.take.Goals as goal
+
+pub returns : goal.returns
+returns c =
+    let from = c.self.inside.from in
+    let to = c.self.inside.to in
+    let fed = subst (λ (p : List ℕ). Feeds c.self.inside.framer (take (to - from) (drop from p)) c.feed-fed.result.taken c.feed-fed.new.self) c.deref.ensures.value c.feed-fed.ensures in
+    let t = c.feed-fed.result.taken in
+    subst (λ v. Gathered v (record { framer = c.feed-fed.new.self; pending = take (to - (from + t)) (drop (from + t) c.self.inside.piece.items) }) More) c.self.view_is (gathered c.self.inside.framer c.feed-fed.new.self from to c.feed-fed.result.taken c.self.inside.piece.items c.self.invariant.rising fed)

@@ -1,0 +1,19 @@
+-- What a reader keeps, and what its own steps give.
+use Rattle.std.specs.Prelude.{◌≡◌, ◌≤◌, ◌<◌, ℕ}
+use Rattle.session.specs.Arrival.{ReaderView, unheard}
+use Rattle.session.specs.declared.reader.Arrival.{Arrival}
+use Rattle.session.specs.declared.reader.Arrival.TheVariants.{More}
+
+-- a part of the piece is left, and the piece has room
+pub record IsWithin (from to size : ℕ) : Type 0 where
+  pub rising : from ≤ to
+  pub within : to ≤ size
+  pub some : 0 < size
+
+-- the framer took bytes of the piece, and nothing was read
+pub record Gathered (r s : ReaderView) (arrival : Arrival) : Type 0 where
+  pub more : arrival ≡ More
+  pub limits : s.framer.limits ≡ r.framer.limits
+  pub greeted : s.framer.greeted ≡ r.framer.greeted
+  pub place : s.framer.place ≡ r.framer.place
+  pub bytes : unheard r ≡ unheard s

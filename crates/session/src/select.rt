@@ -1,0 +1,187 @@
+//! Answering a text over a snapshot.
+ghost use Rattle.std.specs.Prelude.{◌≡◌, ◌<◌, ◌≤◌, ◌∷◌, [], true, codes, IfOk, Some, slice_get, length, ◌++◌, OnOk};
+ghost use Rattle.std.specs.Str.{bytes_eq};
+ghost use Rattle.day_rows.specs.Chronicle.{view};
+ghost use Rattle.day_rows.specs.Day.{columns_from};
+ghost use Rattle.day_rows.specs.Rows.{column_of};
+ghost use Rattle.plant_core.specs.Chronicle.{dates_of, rows_at};
+ghost use Rattle.plant_core.specs.Plant.{HasColumn};
+ghost use Rattle.q_values.specs.Limits.{AreLimits};
+ghost use Rattle.q_values.specs.Table.{rows_of};
+ghost use Rattle.q_values.specs.Tree.{table};
+ghost use Rattle.session.specs.Answer.{select_from, shown, dates_of_rows};
+ghost use Rattle.session.specs.Answering.{FindsTable};
+ghost use Rattle.session.specs.Replies.{reply_bytes};
+ghost use Rattle.session.specs.Reply.{reply};
+
+use crate::reply::{Reply, respond};
+use day_rows::{Schema, Shape};
+use plant_core::Snapshot;
+use q_values::{
+    Column, Columns, IntegerKind, Kind, Limits, Names, NoMemory, Sym, TableValue, Value, Vector,
+};
+use std::alloc::Global;
+
+/// What the texts that are answered begin with.
+const SELECT: [u8; 12] = *b"select from ";
+
+/// The greatest count in an answer.
+const MOST: usize = 2_147_483_647;
+
+/// Whether a text asks for all of the table of this name.
+fn asks_for(text: &[u8], name: &[u8]) -> bool
+    ensures { result ≡ bytes_eq text.now (select_from name.now) }
+{
+    match text.strip_prefix(SELECT.as_slice()) {
+        Some(rest) => rest == name,
+        None => false,
+    }
+}
+
+/// The place of the table that a text asks for.
+pub fn table_asked(schema: &Schema, text: &[u8]) -> Option<u32>
+    ensures { FindsTable schema.now text.now result }
+{
+    for place in 0..schema.len() {
+        if asks_for(text, schema.at(place).table.bytes()) {
+            return Some(place as u32);
+        }
+    }
+    None
+}
+
+/// The names of an answer's columns: `date`, and then those of the table.
+fn names_of(alloc: Global, shape: &Shape) -> Result<Names, NoMemory>
+    ensures { IfOk result (λ names. names ≡ codes "date" ∷ shape.now.names) }
+{
+    let mut names = Names::new(alloc);
+    names.push(Sym::copied(alloc, b"date")?)?;
+    for i in 0..shape.names.len() {
+        names.push(Sym::copied(alloc, shape.names.at(i).bytes())?)?;
+    }
+    Ok(names)
+}
+
+/// The dates of a table's rows on the date at a place.
+fn dates_at(alloc: Global, snapshot: &Snapshot, k: usize, place: u32) -> Result<Vector, NoMemory>
+    requires date { k < length (dates_of snapshot.now.frame.first snapshot.now.entries) }
+    requires table { place < length snapshot.now.frame.schema }
+    ensures { IfOk result (λ part. part ≡ dates_of_rows (rows_at snapshot.now.frame.first snapshot.now.entries k place)) }
+{
+    let rows = snapshot.rows_at(k, place) as usize;
+    let dates = vec![in alloc; snapshot.date_at(k); rows]?;
+    Ok(Vector::of(Column::Integers(IntegerKind::Date, dates)))
+}
+
+/// The date of each row of a table.
+fn date_column(alloc: Global, snapshot: &Snapshot, place: u32) -> Result<Vector, NoMemory>
+    requires { place < length snapshot.now.frame.schema }
+    ensures { IfOk result (λ whole. whole ≡ dates_of_rows (view snapshot.now.frame.first snapshot.now.entries place)) }
+{
+    let mut whole = Vector::new(alloc, Kind::Date);
+    for k in 0..snapshot.dates() {
+        append(&mut whole, &dates_at(alloc, snapshot, k, place)?)?;
+    }
+    Ok(whole)
+}
+
+/// A vector's atoms behind those of another of its kind.
+fn append(whole: &mut Vector, part: &Vector) -> Result<(), NoMemory>
+    requires { part.now.kind ≡ whole.old.kind }
+    ensures { OnOk result (whole.new ≡ record whole.old { atoms = whole.old.atoms ++ part.now.atoms }) }
+{
+    match whole.append(part) {
+        Ok(()) => Ok(()),
+        Err(_) => Err(NoMemory),
+    }
+}
+
+/// A column of a table, over all dates.
+fn whole_column(
+    alloc: Global,
+    snapshot: &Snapshot,
+    place: u32,
+    column: u32,
+    kind: Kind,
+) -> Result<Vector, NoMemory>
+    requires table { place < length snapshot.now.frame.schema }
+    requires exists { HasColumn snapshot.now.frame.schema place column kind }
+    ensures { IfOk result (λ whole. whole ≡ column_of kind column (view snapshot.now.frame.first snapshot.now.entries place)) }
+{
+    let mut whole = Vector::new(alloc, kind);
+    for k in 0..snapshot.dates() {
+        let rows = snapshot.rows_at(k, place);
+        let part = snapshot.column(alloc, k, place, column, 0, rows)?;
+        append(&mut whole, &part)?;
+    }
+    Ok(whole)
+}
+
+/// The columns of an answer: the dates, and then the table's.
+fn columns_of(
+    alloc: Global,
+    shape: &Shape,
+    snapshot: &Snapshot,
+    place: u32,
+) -> Result<Columns, NoMemory>
+    requires shape { slice_get snapshot.now.frame.schema place ≡ Some shape.now }
+    requires few { length shape.now.kinds ≤ 48 }
+    ensures { IfOk result (λ columns. columns ≡
+        dates_of_rows (view snapshot.now.frame.first snapshot.now.entries place)
+        ∷ columns_from 0 shape.now.kinds (view snapshot.now.frame.first snapshot.now.entries place)) }
+{
+    let mut columns = Columns::new(alloc);
+    columns.push(date_column(alloc, snapshot, place)?)?;
+    for i in 0..shape.kinds.len() {
+        let kind = *shape.kinds.at(i);
+        columns.push(whole_column(alloc, snapshot, place, i as u32, kind)?)?;
+    }
+    Ok(columns)
+}
+
+/// All of a table in the documented order, its date first.
+fn whole_table(
+    alloc: Global,
+    schema: &Schema,
+    snapshot: &Snapshot,
+    place: u32,
+) -> Result<TableValue, NoMemory>
+    requires same { snapshot.now.frame.schema ≡ schema.now }
+    requires within { place < length schema.now }
+    ensures { IfOk result (λ t. (shape : _) → slice_get schema.now place ≡ Some shape →
+        (record { names = t.names; columns = t.columns }) ≡ shown shape (view snapshot.now.frame.first snapshot.now.entries place)) }
+{
+    let shape = schema.at(place as usize);
+    let names = names_of(alloc, shape)?;
+    let columns = columns_of(alloc, shape, snapshot, place)?;
+    Ok(TableValue { names, columns })
+}
+
+/// Whether a table's counts fit in an answer.
+fn can_be_sent(table: &TableValue) -> bool
+    ensures columns { result ≡ true → length table.now.columns ≤ 2147483647 }
+    ensures rows { result ≡ true → rows_of table.now.columns ≤ 2147483647 }
+{
+    table.columns.len() <= MOST && table.columns.at(0).len() <= MOST
+}
+
+/// The response with all of a table.
+pub fn select_reply(
+    alloc: Global,
+    schema: &Schema,
+    snapshot: &Snapshot,
+    place: u32,
+    limits: &Limits,
+) -> Result<Reply, NoMemory>
+    requires limits { AreLimits limits.now }
+    requires same { snapshot.now.frame.schema ≡ schema.now }
+    requires within { place < length schema.now }
+    ensures { IfOk result (λ r. (shape : _) → slice_get schema.now place ≡ Some shape →
+        reply_bytes r ≡ reply limits.now (table (shown shape (view snapshot.now.frame.first snapshot.now.entries place)))) }
+{
+    let table = whole_table(alloc, schema, snapshot, place)?;
+    if !can_be_sent(&table) {
+        return Err(NoMemory);
+    }
+    respond(alloc, &Value::Table(table), limits)
+}
