@@ -1,17 +1,20 @@
-use Rattle.std.specs.Prelude.{◌≡◌, refl, ℤ, true, List, [], ◌∷◌, ◌++◌, All, Option, Some}
-use Rattle.std.proofs.Common.{rules, sym, subst}
-use Rattle.std.proofs.lemmas.List.Elements.{All-head, All-cons, All-nil}
+use Rattle.std.specs.Prelude.{◌≡◌, ◌++◌, refl, ℤ, List, [], ◌∷◌, All, Option, Some}
+use Rattle.std.proofs.Common.{rules, sym, ap, subst, ◌∙◌}
+use Rattle.std.specs.Prelude.{Result, Ok, Err, IfOk}
+use Rattle.day_rows.specs.declared.schema.Shape.{Shape}
+use Rattle.q_values.specs.declared.refusal.NoMemory.{NoMemory}
+use Rattle.schema_text.specs.Reading.{schema_of}
+use Rattle.std.proofs.lemmas.List.Elements.{All-head}
 use Rattle.outside_api.specs.Link.{LinkView}
-use Rattle.plant_cli.specs.Program.{Sits, new_plant}
+use Rattle.plant_cli.specs.Program.{Sits, IsNewPlant, solo_of, built_in}
+use Rattle.plant_core.specs.Access.{AccessView}
+use Rattle.plant_core.specs.Chronicle.{moment_date}
+use Rattle.plant_core.specs.Plant.{PlantView}
 use Rattle.q_values.specs.declared.limits.Limits.{Limits}
 use Rattle.q_values.specs.declared.turn.Turn.{Turn}
-use Rattle.session.proofs.SessionLemmas.{session_none}
-use Rattle.session.specs.Access.{AccessView}
 use Rattle.session.specs.Run.{World}
 use Rattle.session.specs.Session.{IsSession}
-use Rattle.session.specs.Verdict.{date_of}
 use Rattle.session.specs.declared.end.End.{End}
-use Rattle.session.specs.declared.end.End.TheVariants as e
 
 -- readings that are all one are the first of them
 pub steady_first : (m k : ℤ) (all more : List ℤ) → all ≡ (m ∷ []) ++ more → All (λ r. r ≡ k) all → All (λ r. r ≡ m) all
@@ -19,22 +22,23 @@ steady_first m k all more a s =
     let h : m ≡ k = All-head (λ r. r ≡ k) m more (subst (λ v. All (λ r. r ≡ k) v) a s)
     in subst (λ v. All (λ r. r ≡ v) all) (sym h) s
 
--- a session that served, whose clock was read once before
-pub sits : (m : ℤ) (k : ℤ) (limits : Limits) (l l' : LinkView) (first all more : List ℤ) (n n' : Option (List Turn)) (a a' : AccessView) (end : End)
-    → first ≡ m ∷ [] → a ≡ new_plant (date_of m)
+-- a session over a new plant, whose clock was read once before
+pub sits : (m : ℤ) (k : ℤ) (limits : Limits) (plant : PlantView) (l l' : LinkView) (first all more : List ℤ) (n n' : Option (List Turn)) (a a' : AccessView) (end : End)
+    → IsNewPlant limits (moment_date m) plant → first ≡ m ∷ [] → a ≡ solo_of plant
     → IsSession limits (record { link = l; clock = Some first; notes = n; access = a }) (record { link = l'; clock = Some all; notes = n'; access = a' }) end
     → all ≡ first ++ more → All (λ r. r ≡ k) all
     → Sits limits m l l' n n' end
-sits m k limits l l' first all more n n' a a' end y z session grows steady =
+sits m k limits plant l l' first all more n n' a a' end new y z session grows steady =
     let s1 = subst (λ v. IsSession limits (record { link = l; clock = Some v; notes = n; access = a }) (record { link = l'; clock = Some all; notes = n'; access = a' }) end) y session
     in let s2 = subst (λ v. IsSession limits (record { link = l; clock = Some (m ∷ []); notes = n; access = v }) (record { link = l'; clock = Some all; notes = n'; access = a' }) end) z s1
-    in record { plant = a'; readings = all; steady = steady_first m k all more (subst (λ f. all ≡ f ++ more) y grows) steady; session = s2 }
+    in record { plant = plant; new = new; access = a'; readings = all; steady = steady_first m k all more (subst (λ f. all ≡ f ++ more) y grows) steady; session = s2 }
 
--- a session that could not begin
-pub sits_not : (m : ℤ) (limits : Limits) (l : LinkView) (n : Option (List Turn)) → Sits limits m l l n n e.NoMemory
-sits_not m limits l n = record {
-  plant = new_plant (date_of m);
-  readings = m ∷ [];
-  steady = All-cons (λ r. r ≡ m) m [] refl (All-nil (λ r. r ≡ m));
-  session = session_none limits l (Some (m ∷ [])) n (new_plant (date_of m));
+-- a plant that was begun with the built-in tables
+pub new_is : (r : Result PlantView NoMemory) (schema : List Shape) (limits : Limits) (date : ℤ) → schema_of built_in ≡ Ok schema → IfOk r (λ plant. plant ≡ record { frame = record { schema = schema; first = date; limits = limits }; entries = []; room = [] }) → IfOk r (λ plant. IsNewPlant limits date plant)
+new_is (Ok plant) schema limits date tables is = record {
+  tables = tables ∙ ap (λ (v : PlantView). Ok v.frame.schema) (sym is);
+  first = ap (λ (v : PlantView). v.frame.first) is;
+  limits_are = ap (λ (v : PlantView). v.frame.limits) is;
+  empty = ap (λ (v : PlantView). v.entries) is;
 }
+new_is (Err why) schema limits date tables is = tt

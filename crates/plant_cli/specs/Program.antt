@@ -1,5 +1,5 @@
 -- What the program does of its words, over an outside.
-use Rattle.std.specs.Prelude.{◌≡◌, ◌⊎◌, ℕ, ℤ, pos, true, List, [], ◌∷◌, ◌++◌, All, Option, Some, None, codes}
+use Rattle.std.specs.Prelude.{◌≡◌, ◌⊎◌, ◌+◌, ℕ, ℤ, true, List, [], ◌∷◌, ◌++◌, All, Option, Some, None, Ok, codes}
 use Rattle.std.specs.Fmt.{decimal}
 use Rattle.outside_api.specs.Counts.{counted}
 use Rattle.outside_api.specs.Link.{LinkView}
@@ -9,12 +9,14 @@ use Rattle.plant_edge.specs.Words.{asked}
 use Rattle.q_values.specs.Limits.{standard_limits}
 use Rattle.q_values.specs.declared.limits.Limits.{Limits}
 use Rattle.q_values.specs.declared.turn.Turn.{Turn}
-use Rattle.session.specs.Access.{AccessView}
+use Rattle.plant_core.specs.Access.{AccessView}
+use Rattle.plant_core.specs.Chronicle.{moment_date, top_by}
+use Rattle.plant_core.specs.Plant.{PlantView}
+use Rattle.schema_text.specs.Reading.{schema_of}
 use Rattle.session.specs.Run.{World}
 use Rattle.session.specs.Session.{IsSession}
-use Rattle.session.specs.Verdict.{date_of}
-use Rattle.session.specs.declared.end.Bad.{Bad}
-use Rattle.session.specs.declared.end.Bad.TheVariants as b
+use Rattle.ipc_frame.specs.declared.bad.Bad.{Bad}
+use Rattle.ipc_frame.specs.declared.bad.Bad.TheVariants as b
 use Rattle.session.specs.declared.end.End.{End}
 use Rattle.session.specs.declared.end.End.TheVariants.{Closed, Truncated, BadMessage, ReadFault, WriteFault, Idle, NoMemory}
 
@@ -66,19 +68,36 @@ Concludes end old new status =
     ((status ≡ status_of end) × (new ≡ printed old (line_of end)))
     ⊎ (TakesMemory end × (status ≡ status_of NoMemory) × (new ≡ printed old (line_of NoMemory)))
 
--- a plant that has logged nothing, held by one session alone
-abbrev pub new_plant : ℤ → AccessView
-new_plant date = record { by = 1; date = date; alone = true; seen = []; mine = []; snapshots = 0 }
+-- the schema text that is built in
+abbrev pub built_in : List ℕ
+built_in = codes "trade:([]time:`timespan$();sym:`g#`symbol$();price:`long$();size:`long$())\nquote:([]time:`timespan$();sym:`g#`symbol$();bid:`long$();ask:`long$();bsize:`long$();asize:`long$())\n"
 
--- a session over a new plant, open at the date of the clock's first reading, which all readings are
+-- what a plant shows to the one pass that holds it, before that pass made anything
+abbrev pub solo_of : PlantView → AccessView
+solo_of plant = record { by = top_by plant.entries + 1; frame = plant.frame; alone = true; seen = plant.entries; mine = []; snapshots = 0; ticks = 0 }
+
+-- a plant of the built-in tables that has logged nothing
+pub record IsNewPlant (limits : Limits) (date : ℤ) (plant : PlantView) : Type 0 where
+  pub tables : schema_of built_in ≡ Ok plant.frame.schema
+  pub first : plant.frame.first ≡ date
+  pub limits_are : plant.frame.limits ≡ limits
+  pub empty : plant.entries ≡ []
+
+-- a session over a new plant, open at the date of the clock's first reading, which all readings are, by its pass alone
 pub record Sits (limits : Limits) (moment : ℤ) (link_old link_new : LinkView) (notes_old notes_new : Option (List Turn)) (end : End) : Type 0 where
-  pub plant : AccessView
+  pub plant : PlantView
+  pub new : IsNewPlant limits (moment_date moment) plant
+  pub access : AccessView
   pub readings : List ℤ
   pub steady : All (λ reading. reading ≡ moment) readings
   pub session : IsSession limits
-      (record { link = link_old; clock = Some (moment ∷ []); notes = notes_old; access = new_plant (date_of moment) })
-      (record { link = link_new; clock = Some readings; notes = notes_new; access = plant })
+      (record { link = link_old; clock = Some (moment ∷ []); notes = notes_old; access = solo_of plant })
+      (record { link = link_new; clock = Some readings; notes = notes_new; access = access })
       end
+
+-- without memory for a plant nothing is read
+abbrev pub SitsNot : LinkView → LinkView → Option (List Turn) → Option (List Turn) → End → Type 0
+SitsNot link_old link_new notes_old notes_new end = (link_new ≡ link_old) × (notes_new ≡ notes_old) × (end ≡ NoMemory)
 
 -- the link of standard input and output is made, served, and handed back with what was noted
 pub record Serves (limits : Limits) (moment : ℤ) (old new : OutsideView) (status : ℕ) : Type 0 where
@@ -89,7 +108,7 @@ pub record Serves (limits : Limits) (moment : ℤ) (old new : OutsideView) (stat
   pub end : End
   pub fresh : IsFresh link_old
   pub unnoted : HasToldNothing notes_old
-  pub session : Sits limits moment link_old link_new notes_old notes_new end
+  pub session : Sits limits moment link_old link_new notes_old notes_new end ⊎ SitsNot link_old link_new notes_old notes_new end
   pub concluded : Concludes end (handed_back old (Some link_new) (Some notes_new)) new status
 
 -- without that link the program can't start, and that count rose

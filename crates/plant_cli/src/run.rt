@@ -1,14 +1,16 @@
 //! What the program does.
-ghost use Rattle.std.specs.Prelude.{◌≡◌, IfOk, map, string_bytes};
-ghost use Rattle.plant_cli.specs.Program.{Runs, RunsOnce, Sits, Concludes, number_of, bad_message};
-ghost use Rattle.session.specs.Verdict.{date_of};
+ghost use Rattle.std.specs.Prelude.{◌≡◌, ◌⊎◌, ◌≤ℤ◌, negsuc, pos, IfOk, map, string_bytes};
+ghost use Rattle.plant_cli.specs.Program.{Runs, RunsOnce, Sits, SitsNot, Concludes, IsNewPlant, number_of, bad_message};
+ghost use Rattle.plant_core.specs.Chronicle.{moment_date};
 ghost use Rattle.outside_api.specs.Outside.{warned_of};
 ghost use Rattle.q_values.specs.Limits.{AreLimits};
 
 use outside_api::{Clock, Gate, Link, Outside, Recorder};
+use plant_core::{Plant, Solo};
 use plant_edge::{SteadyClock, clock_of};
-use q_values::Limits;
-use session::{Bad, End, Solo, serve_session};
+use q_values::{Limits, NoMemory};
+use schema_text::{BUILT_IN, read_schema};
+use session::{Bad, End, serve_session};
 use std::alloc::{AllocError, Global};
 use std::sync::Wait;
 
@@ -63,14 +65,22 @@ fn sit<L: Link, G: Gate, N: Recorder, R: Wait>(
     turns: &mut N,
 ) -> End
     requires { AreLimits limits.now }
-    ensures { Sits limits.now moment (L.shown link.old) (L.shown link.new) (N.noted turns.old) (N.noted turns.new) result }
+    ensures { Sits limits.now moment (L.shown link.old) (L.shown link.new) (N.noted turns.old) (N.noted turns.new) result
+        ⊎ SitsNot (L.shown link.old) (L.shown link.new) (N.noted turns.old) (N.noted turns.new) result }
 {
     let mut clock = SteadyClock::new(moment);
     let first = clock.now();
-    match Solo::new(alloc, open_date(first)) {
-        Ok(mut plant) => {
+    match new_plant(alloc, open_date(first), limits) {
+        Ok(plant) => {
             let report = serve_session(
-                rt, alloc, &mut plant, link, &mut clock, gate, turns, limits,
+                rt,
+                alloc,
+                &mut Solo::new(plant),
+                link,
+                &mut clock,
+                gate,
+                turns,
+                limits,
             );
             let _steady = clock.moment();
             report.end
@@ -79,9 +89,24 @@ fn sit<L: Link, G: Gate, N: Recorder, R: Wait>(
     }
 }
 
+/// A plant of the built-in tables, open at this date, that has logged nothing.
+fn new_plant(alloc: Global, date: i32, limits: &Limits) -> Result<Plant, NoMemory>
+    requires limits { AreLimits limits.now }
+    requires first { negsuc 106751 ≤ℤ date }
+    requires last { date ≤ℤ pos 106751 }
+    ensures { IfOk result (λ plant. IsNewPlant limits.now date plant) }
+{
+    match read_schema(alloc, BUILT_IN) {
+        Ok(schema) => Plant::begin(alloc, schema, date, limits),
+        Err(_) => Err(NoMemory),
+    }
+}
+
 /// The date of a moment, in days since 2000.01.01.
 fn open_date(moment: i64) -> i32
-    ensures { result ≡ date_of moment }
+    ensures date { result ≡ moment_date moment }
+    ensures first { negsuc 106751 ≤ℤ result }
+    ensures last { result ≤ℤ pos 106751 }
 {
     moment.div_euclid(DAY) as i32
 }
