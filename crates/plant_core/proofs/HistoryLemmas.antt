@@ -1,10 +1,9 @@
 -- The dates of a plant.
-use Rattle.std.proofs.Common.{◌≡◌, ℕ, ℤ, zero, suc, ◌+◌, ◌-◌, ◌<◌, ◌≤◌, ◌∷◌, ◌++◌, [], List, length, take, drop, map, refl, sym, ap, ◌∙◌, subst, arith, append_assoc, max}
+use Rattle.std.proofs.Common.{◌≡◌, ℕ, ℤ, suc, ◌+◌, ◌-◌, ◌<◌, ◌≤◌, ◌∷◌, ◌++◌, [], List, length, drop, map, refl, sym, ap, ◌∙◌, subst, arith, append_assoc, max}
 use Rattle.std.specs.List.{AllByRecursion}
 use Rattle.std.specs.Ordering.{int_cmp}
 use Rattle.std.specs.declared.cmp.Ordering.TheVariants.{Less}
 use Rattle.std.proofs.lemmas.List.{length-append}
-use Rattle.q_values.specs.Contents.{Contents}
 use Rattle.q_values.specs.declared.kind.Kind.{Kind}
 use Rattle.day_rows.specs.Chronicle.{date_of, KeepsDate, DatesAscend}
 use Rattle.day_rows.specs.Day.{Day, IsDay, IsUpdate}

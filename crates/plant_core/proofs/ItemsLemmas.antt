@@ -1,16 +1,15 @@
 -- Items, one after the other.
-use Rattle.std.proofs.Common.{◌≡◌, ℕ, ℤ, zero, suc, ◌+◌, ◌<◌, ◌≤◌, ◌∷◌, [], List, length, get_or, take, drop, map, refl, sym, ap, ◌∙◌, subst, arith, true, false, Bool, cond, Some, None, Option, slice_get, replicate, ◌++◌}
+use Rattle.std.proofs.Common.{◌≡◌, ℕ, zero, suc, ◌+◌, ◌<◌, ◌≤◌, ◌∷◌, [], List, length, get_or, take, drop, map, refl, sym, ap, ◌∙◌, arith, true, false, Bool, cond, Some, None, slice_get, replicate, ◌++◌}
 use Rattle.std.specs.List.{list_all, list_any}
 use Rattle.std.proofs.lemmas.List.{map_push, take_more, drop_more, length-map, get_or-map, take_all, length-drop}
 use Rattle.std.proofs.lemmas.List.Folds.{list_all_more, list_all_at, list_any_more, list_any_at}
 use Rattle.std.proofs.lemmas.Option.{get_or_from_slice_get}
 use Rattle.q_values.specs.Contents.{Contents}
 use Rattle.q_values.specs.Lists.{gathered}
-use Rattle.q_values.specs.Tree.{Tree, tree, vector}
+use Rattle.q_values.specs.Tree.{Tree, tree}
 use Rattle.q_values.specs.declared.atom.Atom.{Atom}
 use Rattle.q_values.specs.declared.atom.Atom.TheVariants as a
 use Rattle.q_values.specs.declared.kind.Kind.{Kind}
-use Rattle.q_values.specs.declared.kind.Kind.TheVariants as k
 use Rattle.q_values.specs.declared.value.Value.{Value}
 use Rattle.q_values.specs.Column.{contents, byte_atom, integer_atom, long_atom}
 use Rattle.q_values.specs.declared.column.Column.{Column}

@@ -1,9 +1,9 @@
 -- Judging an update.
-use Rattle.std.proofs.Common.{◌≡◌, ℕ, ℤ, zero, suc, ◌+◌, ◌<◌, ◌≤◌, ◌∷◌, ◌++◌, [], List, length, get_or, take, drop, map, refl, sym, ap, ap₂, ◌∙◌, subst, arith, true, false, Bool, cond, Some, None, Option, slice_get, replicate, All, eqb, Result, Ok, Err, ◌&&◌, ◌||◌}
+use Rattle.std.proofs.Common.{◌≡◌, ℕ, ℤ, zero, suc, ◌+◌, ◌<◌, ◌≤◌, ◌∷◌, ◌++◌, [], List, length, drop, map, refl, sym, ap, ap₂, ◌∙◌, subst, arith, true, false, Bool, cond, Some, None, Option, slice_get, replicate, All, eqb, Result, Ok, Err, ◌&&◌, ◌||◌}
 use Rattle.std.specs.Prelude.{nat_lt}
 use Rattle.std.specs.List.{list_all}
 use Rattle.std.specs.Str.{bytes_eq}
-use Rattle.std.proofs.lemmas.List.{drop_more, length-map}
+use Rattle.std.proofs.lemmas.List.{drop_more}
 use Rattle.std.proofs.lemmas.List.Elements.{All-nil, All-cons}
 use Rattle.std.proofs.lemmas.Option.{get_or_from_slice_get, slice_get-map}
 use Rattle.std.proofs.lemmas.Bool.{eqb-true}

@@ -1,5 +1,5 @@
 -- The view of a chronicle, date by date.
-use Rattle.std.proofs.Common.{◌≡◌, ℕ, ℤ, zero, suc, ◌+◌, ◌<◌, ◌≤◌, ◌∷◌, ◌++◌, ◌==◌, [], List, length, refl, sym, ap, ap₂, ◌∙◌, subst, arith, append-nil, true, false, Bool, cond, ◌⊎◌, inl, inr, flat_map}
+use Rattle.std.proofs.Common.{◌≡◌, ℕ, ℤ, zero, suc, ◌+◌, ◌≤◌, ◌∷◌, ◌++◌, ◌==◌, [], List, length, refl, sym, ap, ap₂, ◌∙◌, subst, arith, append-nil, true, false, cond, ◌⊎◌, inl, inr, flat_map}
 use Rattle.std.specs.List.{AllByRecursion}
 use Rattle.std.specs.Ordering.{int_cmp, int_eq}
 use Rattle.std.specs.declared.cmp.Ordering.TheVariants.{Less}

@@ -1,5 +1,5 @@
 -- What a plant's calls leave.
-use Rattle.std.proofs.Common.{◌≡◌, ℕ, ℤ, zero, suc, pos, ◌+◌, ◌<◌, ◌≤◌, ◌∷◌, ◌++◌, [], List, length, drop, refl, sym, ap, ◌∙◌, subst, arith, true, false, Bool, Option, Some, None, max}
+use Rattle.std.proofs.Common.{◌≡◌, ℕ, ℤ, pos, ◌+◌, ◌≤◌, ◌∷◌, ◌++◌, [], List, length, refl, ap, ◌∙◌, arith, Option, Some}
 use Rattle.std.specs.Prelude.{◌+ℤ◌, is_some}
 use Rattle.std.proofs.lemmas.List.{length-append, drop_all}
 use Rattle.day_rows.specs.Chronicle.{date_of}

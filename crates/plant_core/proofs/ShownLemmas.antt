@@ -1,16 +1,16 @@
 -- What a plant shows of its dates.
-use Rattle.std.proofs.Common.{◌≡◌, ℕ, ℤ, zero, suc, ◌+◌, ◌<◌, ◌≤◌, ◌∷◌, ◌++◌, [], List, length, map, filter, get_or, refl, sym, ap, ap₂, ◌∙◌, subst, arith, append-nil, true, false, cond, Bool, Some, slice_get, ◌⊎◌, inl, inr}
+use Rattle.std.proofs.Common.{◌≡◌, ℕ, ℤ, zero, suc, ◌+◌, ◌<◌, ◌≤◌, ◌∷◌, ◌++◌, [], List, length, map, get_or, refl, sym, ap, ap₂, ◌∙◌, subst, arith, append-nil, true, false, cond, ◌⊎◌, inl, inr}
 use Rattle.std.specs.List.{AllByRecursion}
 use Rattle.std.specs.Ordering.{int_cmp, int_eq, is_gt, is_eq, ordering_reverse}
 use Rattle.std.specs.declared.cmp.Ordering.{Ordering}
-use Rattle.std.specs.declared.cmp.Ordering.TheVariants.{Less, Equal}
+use Rattle.std.specs.declared.cmp.Ordering.TheVariants.{Less}
 use Rattle.std.proofs.lemmas.Cmp.{int_cmp_total, tied_itself}
 use Rattle.std.proofs.lemmas.List.{length-map}
 use Rattle.std.proofs.lemmas.List.Elements.{filter-append}
 use Rattle.q_values.specs.declared.atom.Atom.{Atom}
 use Rattle.q_values.specs.declared.kind.Kind.{Kind}
 use Rattle.day_rows.specs.Chronicle.{view, ended_cmp}
-use Rattle.day_rows.specs.Day.{Day, IsDay, IsUpdate, arrived, settled}
+use Rattle.day_rows.specs.Day.{Day, IsDay, arrived, settled}
 use Rattle.day_rows.specs.Rows.{Row, numbered}
 use Rattle.day_rows.specs.Sorted.{in_order, inserted}
 use Rattle.day_rows.proofs.DayLemmas.{all-append}

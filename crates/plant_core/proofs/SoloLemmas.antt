@@ -1,5 +1,5 @@
 -- What a pass that is alone sees.
-use Rattle.std.proofs.Common.{◌≡◌, ℕ, ℤ, pos, ◌+◌, ◌<◌, ◌≤◌, ◌∷◌, ◌++◌, [], List, length, drop, refl, sym, ap, ◌∙◌, subst, arith, append_assoc, append-nil, true, false, Bool, Option, Some, None}
+use Rattle.std.proofs.Common.{◌≡◌, ℕ, ℤ, ◌≤◌, ◌∷◌, ◌++◌, [], List, length, refl, sym, ap, ◌∙◌, arith, append-nil, true, false, Option, None}
 use Rattle.std.proofs.lemmas.List.{length-append, drop-append-le}
 use Rattle.q_values.specs.Tree.{Tree}
 use Rattle.q_values.specs.declared.kind.Kind.{Kind}
@@ -10,7 +10,7 @@ use Rattle.day_rows.specs.declared.entry.Entry.TheVariants as e
 use Rattle.plant_core.specs.Access.{AccessView, SeesMore, Logs, Looks, Waits, Rolls, Wants, access_of, next_count}
 use Rattle.plant_core.specs.Plant.{PlantView, PreparedView, Prepares, Adds, due, next_roll, roll_place}
 use Rattle.plant_core.specs.Turns.{IsRefusal}
-use Rattle.plant_core.specs.Verdict.{verdict, is_next_day, accepts}
+use Rattle.plant_core.specs.Verdict.{verdict, is_next_day}
 use Rattle.plant_core.specs.declared.refusal.UpdRefusal.{UpdRefusal}
 
 no_roll : (tables : List (List Kind)) (place : ℕ) (entry : Entry) → IsUpdate tables entry → None ≡ roll_place place (entry ∷ [])

@@ -1,5 +1,5 @@
 -- What is read off a chronicle: its dates, its open date's entries, the numbers of its passes.
-use Rattle.std.specs.Prelude.{ℕ, ℤ, pos, ◌+◌, Bool, List, [], ◌∷◌, drop, max, filter, slice_index_or}
+use Rattle.std.specs.Prelude.{ℕ, ℤ, pos, ◌+◌, List, [], ◌∷◌, drop, max, filter, slice_index_or}
 use Rattle.std.specs.Int.{int_div_euclid, int_rem_euclid}
 use Rattle.std.specs.Ordering.{int_eq}
 use Rattle.day_rows.specs.Chronicle.{view}

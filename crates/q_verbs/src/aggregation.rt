@@ -23,7 +23,8 @@ fn count(x: &Vector) -> Atom
 
 fn sum(x: &Vector) -> Atom
     requires { IsSome (total_kind x.now.kind) }
-    ensures { result ≡ written (unwrap_or (total_kind x.now.kind) x.now.kind) (Some (total (map number_of x.now.atoms))) }
+    ensures { result ≡ written (unwrap_or (total_kind x.now.kind) x.now.kind)
+        (Some (total (map number_of x.now.atoms))) }
 {
     match result_kind1(Verb1::Sum, x.kind()) {
         Some(kind) => total_atom(kind, &total_of(x.column())),

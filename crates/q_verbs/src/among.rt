@@ -27,7 +27,8 @@ fn key_of(x: &i64) -> i64
 }
 
 fn set_of_numbers(alloc: Global, items: &[i64]) -> Result<HashSet<i64>, AllocError>
-    ensures { IfOk result (λ s. (q : ℤ) → contains int_eq s q ≡ list_any (λ y. int_eq q (canonical y)) items.now) }
+    ensures { IfOk result (λ s. (q : ℤ) → contains int_eq s q
+        ≡ list_any (λ y. int_eq q (canonical y)) items.now) }
 {
     let mut set = HashSet::new(alloc);
     for item in items {

@@ -72,7 +72,8 @@ impl Task<'_> {
         ensures { IfOk result (λ c. contents c ≡ record {
           kind = k.Short;
           atoms = zip2
-              (λ x y. given k.Short (operation self.now.verb self.now.left_kind self.now.right_kind) (worth_in_64 x) (worth_in_64 y))
+              (λ x y. given k.Short (operation self.now.verb self.now.left_kind self.now.right_kind)
+              (worth_in_64 x) (worth_in_64 y))
               self.now.left.now self.now.right.now;
         }) }
     {
@@ -85,7 +86,8 @@ impl Task<'_> {
         ensures { IfOk result (λ c. contents c ≡ record {
           kind = integer_kind kind;
           atoms = zip2
-              (λ x y. given (integer_kind kind) (operation self.now.verb self.now.left_kind self.now.right_kind) (worth_in_64 x) (worth_in_64 y))
+              (λ x y. given (integer_kind kind) (operation self.now.verb self.now.left_kind self.now.right_kind)
+              (worth_in_64 x) (worth_in_64 y))
               self.now.left.now self.now.right.now;
         }) }
     {
@@ -98,7 +100,8 @@ impl Task<'_> {
         ensures { IfOk result (λ c. contents c ≡ record {
           kind = long_kind kind;
           atoms = zip2
-              (λ x y. given (long_kind kind) (operation self.now.verb self.now.left_kind self.now.right_kind) (worth_in_64 x) (worth_in_64 y))
+              (λ x y. given (long_kind kind) (operation self.now.verb self.now.left_kind self.now.right_kind)
+              (worth_in_64 x) (worth_in_64 y))
               self.now.left.now self.now.right.now;
         }) }
     {
@@ -113,7 +116,8 @@ impl Task<'_> {
         ensures { IfOk result (λ c. contents c ≡ record {
           kind = kind;
           atoms = zip2
-              (λ x y. given kind (operation self.now.verb self.now.left_kind self.now.right_kind) (worth_in_64 x) (worth_in_64 y))
+              (λ x y. given kind (operation self.now.verb self.now.left_kind self.now.right_kind)
+              (worth_in_64 x) (worth_in_64 y))
               self.now.left.now self.now.right.now;
         }) }
     {

@@ -155,6 +155,33 @@ fn days_between(alloc: Global, day: i32, other: i32) -> Result<Option<i32>, NoMe
     Ok(only_integer(&found))
 }
 
+fn sum_of_none(alloc: Global) -> Result<usize, NoMemory> {
+    let left = longs(alloc, LongKind::Long, &[])?;
+    let right = longs(alloc, LongKind::Long, &[])?;
+    let found = binary(alloc, Verb::Add, &left, &right)?;
+    Ok(found.len())
+}
+
+fn bar_of_times(alloc: Global, width: i64, time: i32) -> Result<Option<i32>, NoMemory> {
+    let left = longs(alloc, LongKind::Long, &[width])?;
+    let right = integers(alloc, IntegerKind::Time, &[time])?;
+    let found = binary(alloc, Verb::Xbar, &left, &right)?;
+    Ok(only_integer(&found))
+}
+
+fn later_day(alloc: Global, day: i32, days: i64) -> Result<Option<i32>, NoMemory> {
+    let left = integers(alloc, IntegerKind::Date, &[day])?;
+    let right = longs(alloc, LongKind::Long, &[days])?;
+    let found = binary(alloc, Verb::Add, &left, &right)?;
+    Ok(only_integer(&found))
+}
+
+fn distinct_count(alloc: Global, items: &[i64]) -> Result<usize, NoMemory> {
+    let side = longs(alloc, LongKind::Long, items)?;
+    let found = unary(alloc, Verb1::Distinct, &side)?;
+    Ok(found.len())
+}
+
 fn of_longs(alloc: Global, verb: Verb1, items: &[i64]) -> Result<Option<i64>, NoMemory>
     requires verb { IsTrue (is_aggregate verb) }
     requires row { IsSome (result_kind1_of verb k.Long) }
@@ -263,6 +290,19 @@ fn choices_and_tests(rt: HostRuntime) -> Result<(), Fail> {
     assert_eq!(rt; lies_within(alloc, 6, 3, 5)?, Some(false));
     assert_eq!(rt; is_among(alloc, NULL, &[1, NULL])?, Some(true));
     assert_eq!(rt; is_among(alloc, 3, &[])?, Some(false));
+    Ok(())
+}
+
+#[test]
+fn other_rows(rt: HostRuntime) -> Result<(), Fail> {
+    let alloc = rt.alloc();
+    assert_eq!(rt; sum_of_none(alloc)?, 0);
+    assert_eq!(rt; bar_of_times(alloc, 60_000, 61_500)?, Some(60_000));
+    assert_eq!(rt; bar_of_times(alloc, 60_000, i32::MIN)?, Some(i32::MIN));
+    assert_eq!(rt; later_day(alloc, DAY, 31)?, Some(DAY + 31));
+    assert_eq!(rt; later_day(alloc, i32::MIN, 31)?, Some(i32::MIN));
+    assert_eq!(rt; distinct_count(alloc, &[3, 1, 3, NULL, NULL])?, 3);
+    assert_eq!(rt; distinct_count(alloc, &[])?, 0);
     Ok(())
 }
 

@@ -69,7 +69,9 @@ fn within_symbols(
     low: &[u8],
     high: &[u8],
 ) -> Result<Vec<bool>, AllocError>
-    ensures { IfOk result (λ v. v.items ≡ map (λ s. lies_within (worth (a.Symbol low.now)) (worth (a.Symbol high.now)) (worth (a.Symbol s))) items.now) }
+    ensures { IfOk result (λ v. v.items ≡ map
+        (λ s. lies_within (worth (a.Symbol low.now)) (worth (a.Symbol high.now)) (worth (a.Symbol s)))
+        items.now) }
 {
     let mut values = Vec::with_capacity(alloc, items.len())?;
     for i in 0..items.len() {

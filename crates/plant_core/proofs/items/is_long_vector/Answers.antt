@@ -1,4 +1,4 @@
-use Rattle.std.proofs.Common.{refl, ap}
+use Rattle.std.proofs.Common.{ap}
 use Rattle.plant_core.proofs.ItemsLemmas.{none_long, are_symbols}
 use Rattle.plant_core.proofs.items.is_long_vector.Goals as goal
 

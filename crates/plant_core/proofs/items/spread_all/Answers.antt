@@ -1,4 +1,4 @@
-use Rattle.std.proofs.Common.{ap, ◌≡◌, ◌∙◌, ◌∷◌, sym, List}
+use Rattle.std.proofs.Common.{ap, ◌∙◌, ◌∷◌, sym}
 use Rattle.q_values.specs.Tree.{tree}
 use Rattle.plant_core.specs.Items.{spread}
 use Rattle.plant_core.proofs.ItemsLemmas.{spread_more}

@@ -1,5 +1,4 @@
-use Rattle.std.proofs.Common.{ap, ◌≡◌, ◌∙◌, List}
-use Rattle.q_values.specs.Lists.{gathered}
+use Rattle.std.proofs.Common.{ap, ◌∙◌, List}
 use Rattle.q_values.specs.declared.atom.Atom.{Atom}
 use Rattle.q_values.specs.Atom.{kind_of}
 use Rattle.plant_core.proofs.ItemsLemmas.{gathered-zeros}

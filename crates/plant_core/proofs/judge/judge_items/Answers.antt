@@ -1,4 +1,4 @@
-use Rattle.std.proofs.Common.{◌≡◌, cond, sym, ◌∙◌, refl, None, ap, ◌∷◌, map}
+use Rattle.std.proofs.Common.{◌≡◌, cond, sym, ◌∙◌, ap, ◌∷◌, map}
 use Rattle.q_values.specs.Tree.{tree}
 use Rattle.plant_core.specs.Items.{spread}
 use Rattle.plant_core.proofs.JudgeLemmas.{passes_items}

@@ -1,6 +1,5 @@
 use Rattle.std.proofs.Common.{ap, ◌≡◌, ◌∙◌, sym, refl, Some, slice_get}
 use Rattle.std.proofs.lemmas.Option.{slice_get-map}
-use Rattle.q_values.specs.declared.kind.Kind.{Kind}
 use Rattle.day_rows.specs.declared.schema.Shape.{Shape}
 use Rattle.plant_core.specs.Plant.{SnapshotView, kinds_of}
 use Rattle.plant_core.proofs.tests.shown.Goals as goal

@@ -1,4 +1,4 @@
-use Rattle.std.proofs.Common.{arith, ◌≡◌, ◌∙◌, ◌<◌, ◌≤◌, ◌+◌, length, ap, sym, refl}
+use Rattle.std.proofs.Common.{arith, ◌≡◌, ◌<◌, length, refl}
 use Rattle.plant_core.proofs.ShownLemmas.{length-dates, past_at, rows-past, rows-last, column_in, column_shown}
 use Rattle.plant_core.proofs.history.History.column.Goals as goal
 

@@ -1,5 +1,6 @@
 use Rattle.std.proofs.Common.{arith, ◌≡◌, length}
 use Rattle.plant_core.proofs.HistoryLemmas.{ascend-chronicle}
+use Rattle.std.proofs.Common.{arith}
 use Rattle.plant_core.proofs.ShownLemmas.{length-dates}
 use Rattle.plant_core.proofs.history.History.dates.Goals as goal
 

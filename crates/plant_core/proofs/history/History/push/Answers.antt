@@ -1,4 +1,4 @@
-use Rattle.std.proofs.Common.{ap, ◌≡◌, ◌∙◌, sym, max, List, drop}
+use Rattle.std.proofs.Common.{ap, ◌∙◌, max, List, drop}
 use Rattle.day_rows.specs.Day.{Opened}
 use Rattle.day_rows.specs.declared.entry.Entry.{Entry}
 use Rattle.plant_core.specs.History.{history_of}

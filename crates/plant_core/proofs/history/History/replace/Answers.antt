@@ -1,4 +1,4 @@
-use Rattle.std.proofs.Common.{ap, ◌≡◌, ◌∙◌, sym, subst}
+use Rattle.std.proofs.Common.{ap, ◌∙◌, sym, subst}
 use Rattle.day_rows.specs.Day.{Day}
 use Rattle.plant_core.specs.History.{IsHistory, history_of}
 use Rattle.plant_core.proofs.HistoryLemmas.{same_day, date_of-chronicle, today-chronicle}

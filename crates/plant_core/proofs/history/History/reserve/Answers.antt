@@ -1,4 +1,4 @@
-use Rattle.std.proofs.Common.{arith, ap, ◌≡◌, ◌∙◌, sym}
+use Rattle.std.proofs.Common.{arith, ap, ◌≡◌, sym}
 use Rattle.day_rows.specs.Day.{total_rows}
 use Rattle.plant_core.specs.Chronicle.{today}
 use Rattle.plant_core.proofs.HistoryLemmas.{today-chronicle}

@@ -1,4 +1,4 @@
-use Rattle.std.proofs.Common.{ap, ◌≡◌, ◌∙◌, sym}
+use Rattle.std.proofs.Common.{ap, ◌∙◌, sym}
 use Rattle.day_rows.specs.Day.{Opened}
 use Rattle.plant_core.proofs.PlantLemmas.{date_behind, today_behind}
 use Rattle.plant_core.proofs.plant.Plant.commit.Goals as goal

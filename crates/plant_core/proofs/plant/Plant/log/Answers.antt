@@ -1,6 +1,4 @@
-use Rattle.std.proofs.Common.{sym, ap, ◌≡◌, ◌∙◌}
-use Rattle.day_rows.specs.declared.entry.Entry.{Entry}
-use Rattle.day_rows.specs.Day.{IsUpdate}
+use Rattle.std.proofs.Common.{sym, ap}
 use Rattle.plant_core.specs.Plant.{PreparedView}
 use Rattle.plant_core.proofs.SoloLemmas.{adds_one}
 use Rattle.plant_core.proofs.plant.Plant.log.Goals as goal

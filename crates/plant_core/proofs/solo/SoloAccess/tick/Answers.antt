@@ -1,4 +1,4 @@
-use Rattle.std.proofs.Common.{◌≡◌, ◌∙◌, sym, ap, w32, w64, to_z, of_z, rules}
+use Rattle.std.proofs.Common.{◌≡◌, w32, w64, to_z, of_z, rules}
 use Rattle.plant_core.proofs.SoloLemmas.{waits_alone, rolls_alone, wants_alone}
 use Rattle.plant_core.proofs.solo.SoloAccess.tick.Goals as goal
 

@@ -1,4 +1,4 @@
-use Rattle.std.proofs.Common.{◌≡◌, ◌∙◌, sym, ap, w64, to_z, of_z, rules}
+use Rattle.std.proofs.Common.{◌≡◌, ◌∙◌, ap, w64, to_z, of_z, rules}
 use Rattle.plant_core.specs.Plant.{PlantView}
 use Rattle.plant_core.proofs.SoloLemmas.{logs_alone, looks_alone}
 use Rattle.plant_core.proofs.solo.SoloAccess.upd.Goals as goal
