@@ -1,31 +1,59 @@
 //! Sessions whose link fails, or gives nothing for long.
-use crate::bytes::{DONE, GREETED, GREETING, NO_ROW, ONE_ROW, QUERY, UPDATE};
-use crate::sitting::{NOW, Read, Wanted, script_goes};
+use crate::bytes::{
+    DONE, FIRST, GREETED, GREETING, NO_ROW, ONE_ROW, ORDERED, QUERY, SECOND, THIRD, UPDATE,
+};
+use crate::sitting::{DAY, NOW, Read, Wanted, script_goes, script_goes_at};
 use outside_mem::Taking;
-use q_values::Turn;
+use q_values::{NoMemory, Turn};
 use session::End;
+use std::alloc::Global;
+use std::sync::Wait;
 use std::test::Fail;
 
 const GREETED_TURN: Turn = Turn::Greeted { capability: 3 };
 
 const LOGGED_TURN: Turn = Turn::Logged { place: 0, now: NOW };
 
-#[test]
-fn idle_and_link_faults(rt: HostRuntime) -> Result<(), Fail> {
-    let mut wanted = Wanted {
+const QUIET_TURN: Turn = Turn::Quiet {
+    length: 0,
+    now: NOW,
+};
+
+fn third_idle_ends<R: Wait>(rt: &R, alloc: Global) -> Result<bool, NoMemory> {
+    let wanted = Wanted {
         end: End::Idle,
+        sent: &[],
+        turns: &[QUIET_TURN, QUIET_TURN, QUIET_TURN],
+    };
+    let reads = [Read::Idle, Read::Idle, Read::Idle];
+    script_goes(rt, alloc, &reads, &[], wanted)
+}
+
+fn third_read_fails<R: Wait>(rt: &R, alloc: Global) -> Result<bool, NoMemory> {
+    let wanted = Wanted {
+        end: End::ReadFault,
         sent: &[],
         turns: &[],
     };
-    let idles = [Read::Idle, Read::Idle, Read::Idle];
-    assert!(rt; script_goes(&rt, rt.alloc(), &idles, &[], wanted)?);
-    wanted.end = End::ReadFault;
-    let third = [Read::Bytes(b"u"), Read::Bytes(b":"), Read::Fault];
-    assert!(rt; script_goes(&rt, rt.alloc(), &third, &[], wanted)?);
-    wanted.end = End::WriteFault;
-    wanted.turns = &[GREETED_TURN];
-    let greeting = [Read::Bytes(GREETING)];
-    assert!(rt; script_goes(&rt, rt.alloc(), &greeting, &[Taking::Front(0)], wanted)?);
+    let reads = [Read::Bytes(b"u"), Read::Bytes(b":"), Read::Fault];
+    script_goes(rt, alloc, &reads, &[], wanted)
+}
+
+fn first_write_fails<R: Wait>(rt: &R, alloc: Global) -> Result<bool, NoMemory> {
+    let wanted = Wanted {
+        end: End::WriteFault,
+        sent: &[],
+        turns: &[GREETED_TURN],
+    };
+    let reads = [Read::Bytes(GREETING)];
+    script_goes(rt, alloc, &reads, &[Taking::Front(0)], wanted)
+}
+
+#[test]
+fn idle_and_link_faults(rt: HostRuntime) -> Result<(), Fail> {
+    assert!(rt; third_idle_ends(&rt, rt.alloc())?);
+    assert!(rt; third_read_fails(&rt, rt.alloc())?);
+    assert!(rt; first_write_fails(&rt, rt.alloc())?);
     Ok(())
 }
 
@@ -60,13 +88,16 @@ fn write_fault_within_an_answer(rt: HostRuntime) -> Result<(), Fail> {
     Ok(())
 }
 
-// Idles between the bytes are counted, and change nothing else.
-#[test]
-fn idles_between_bytes(rt: HostRuntime) -> Result<(), Fail> {
+fn two_idles_go<R: Wait>(rt: &R, alloc: Global) -> Result<bool, NoMemory> {
     let wanted = Wanted {
         end: End::Closed,
         sent: &[GREETED, NO_ROW],
-        turns: &[GREETED_TURN, Turn::Answered { length: 0 }],
+        turns: &[
+            QUIET_TURN,
+            GREETED_TURN,
+            QUIET_TURN,
+            Turn::Answered { length: 0 },
+        ],
     };
     let reads = [
         Read::Idle,
@@ -74,11 +105,14 @@ fn idles_between_bytes(rt: HostRuntime) -> Result<(), Fail> {
         Read::Idle,
         Read::Bytes(QUERY),
     ];
-    assert!(rt; script_goes(&rt, rt.alloc(), &reads, &[], wanted)?);
+    script_goes(rt, alloc, &reads, &[], wanted)
+}
+
+fn three_idles_end<R: Wait>(rt: &R, alloc: Global) -> Result<bool, NoMemory> {
     let wanted = Wanted {
         end: End::Idle,
         sent: &[GREETED],
-        turns: &[GREETED_TURN],
+        turns: &[QUIET_TURN, GREETED_TURN, QUIET_TURN, QUIET_TURN],
     };
     let reads = [
         Read::Idle,
@@ -87,6 +121,48 @@ fn idles_between_bytes(rt: HostRuntime) -> Result<(), Fail> {
         Read::Bytes(&QUERY[..9]),
         Read::Idle,
     ];
-    assert!(rt; script_goes(&rt, rt.alloc(), &reads, &[], wanted)?);
+    script_goes(rt, alloc, &reads, &[], wanted)
+}
+
+// Idles between the bytes are counted, and find no date to end.
+#[test]
+fn idles_between_bytes(rt: HostRuntime) -> Result<(), Fail> {
+    assert!(rt; two_idles_go(&rt, rt.alloc())?);
+    assert!(rt; three_idles_end(&rt, rt.alloc())?);
+    Ok(())
+}
+
+fn idle_rolls<R: Wait>(rt: &R, alloc: Global) -> Result<bool, NoMemory> {
+    let wanted = Wanted {
+        end: End::Closed,
+        sent: &[GREETED, DONE, DONE, DONE, ORDERED],
+        turns: &[
+            GREETED_TURN,
+            LOGGED_TURN,
+            Turn::Logged { place: 1, now: NOW },
+            Turn::Logged { place: 2, now: NOW },
+            Turn::Rolled {
+                place: 3,
+                now: NOW + DAY,
+            },
+            Turn::Answered { length: 4 },
+        ],
+    };
+    let reads = [
+        Read::Bytes(GREETING),
+        Read::Bytes(FIRST),
+        Read::Bytes(SECOND),
+        Read::Bytes(THIRD),
+        Read::Idle,
+        Read::Bytes(QUERY),
+    ];
+    let readings = [NOW, NOW, NOW, NOW + DAY];
+    script_goes_at(rt, alloc, &readings, &reads, &[], wanted)
+}
+
+// An idle on the next date ends the open one, which is then shown by symbol.
+#[test]
+fn idle_ends_the_date(rt: HostRuntime) -> Result<(), Fail> {
+    assert!(rt; idle_rolls(&rt, rt.alloc())?);
     Ok(())
 }

@@ -9,3 +9,5 @@ mod faults;
 mod sessions;
 #[cfg(test)]
 mod sitting;
+#[cfg(test)]
+mod updates;

@@ -1,6 +1,11 @@
 //! Sessions that read good and bad messages to their ends.
-use crate::bytes::{DONE, FLOAT, GREETED, GREETING, NO_ROW, NYI, ONE_ROW, QUERY, UPDATE};
-use crate::sitting::{NOW, Wanted, bytes_go, joined, messages_go};
+use crate::bytes::{
+    BIG_QUERY, CHARACTER, DONE, FLOAT, GREETED, GREETING, NEGATIVE, NO_QUOTE, NO_ROW, NYI, ONE_ROW,
+    PAST_THE_END, QUERY, QUOTE_QUERY, UPDATE,
+};
+use crate::sitting::{
+    NOW, Read, Wanted, bytes_go, greeted, messages_go, pieces_go, script_goes, single_bytes,
+};
 use q_values::{Limits, NoMemory, Turn};
 use session::{Bad, End};
 use std::alloc::Global;
@@ -11,14 +16,129 @@ const GREETED_TURN: Turn = Turn::Greeted { capability: 3 };
 
 const LOGGED_TURN: Turn = Turn::Logged { place: 0, now: NOW };
 
+// What the first update and the query behind it are answered.
+const SENT: &[&[u8]] = &[GREETED, DONE, ONE_ROW];
+
+const TURNS: &[Turn] = &[GREETED_TURN, LOGGED_TURN, Turn::Answered { length: 1 }];
+
+// The place behind the greeting, and that behind the update.
+const GREETING_END: usize = 5;
+
+const UPDATE_END: usize = 71;
+
 #[test]
 fn first_update_answered(rt: HostRuntime) -> Result<(), Fail> {
     let wanted = Wanted {
         end: End::Closed,
-        sent: &[GREETED, DONE, ONE_ROW],
-        turns: &[GREETED_TURN, LOGGED_TURN, Turn::Answered { length: 1 }],
+        sent: SENT,
+        turns: TURNS,
     };
     assert!(rt; messages_go(&rt, rt.alloc(), &[UPDATE, QUERY], wanted)?);
+    Ok(())
+}
+
+// Whether the input goes so however it is cut into two pieces.
+fn each_cut_goes<R: Wait>(
+    rt: &R,
+    alloc: Global,
+    input: &[u8],
+    wanted: Wanted,
+) -> Result<bool, NoMemory> {
+    for i in 0..input.len() {
+        let reads = [Read::Bytes(&input[..i]), Read::Bytes(&input[i..])];
+        if !script_goes(rt, alloc, &reads, &[], wanted)? {
+            return Ok(false);
+        }
+    }
+    Ok(true)
+}
+
+#[test]
+fn first_update_answered_in_two_pieces(rt: HostRuntime) -> Result<(), Fail> {
+    let wanted = Wanted {
+        end: End::Closed,
+        sent: SENT,
+        turns: TURNS,
+    };
+    let input = greeted(rt.alloc(), &[UPDATE, QUERY])?;
+    assert!(rt; each_cut_goes(&rt, rt.alloc(), input.as_slice(), wanted)?);
+    Ok(())
+}
+
+fn end_of_prefix(length: usize) -> End {
+    match length {
+        0 | GREETING_END | UPDATE_END => End::Closed,
+        _ => End::Truncated,
+    }
+}
+
+// How many of the answers are sent where the input has this length.
+fn answers_of_prefix(length: usize) -> usize {
+    if length < GREETING_END {
+        0
+    } else if length < UPDATE_END {
+        1
+    } else {
+        2
+    }
+}
+
+fn each_prefix_goes<R: Wait>(rt: &R, alloc: Global, input: &[u8]) -> Result<bool, NoMemory> {
+    for i in 0..input.len() {
+        let count = answers_of_prefix(i).min(2);
+        let wanted = Wanted {
+            end: end_of_prefix(i),
+            sent: &SENT[..count],
+            turns: &TURNS[..count],
+        };
+        if !bytes_go(rt, alloc, &Limits::standard(), &input[..i], wanted)? {
+            return Ok(false);
+        }
+    }
+    Ok(true)
+}
+
+#[test]
+fn every_prefix(rt: HostRuntime) -> Result<(), Fail> {
+    let input = greeted(rt.alloc(), &[UPDATE, QUERY])?;
+    assert!(rt; each_prefix_goes(&rt, rt.alloc(), input.as_slice())?);
+    Ok(())
+}
+
+#[test]
+fn big_endian_in_single_bytes(rt: HostRuntime) -> Result<(), Fail> {
+    let wanted = Wanted {
+        end: End::Closed,
+        sent: SENT,
+        turns: TURNS,
+    };
+    let input = greeted(rt.alloc(), &[UPDATE, BIG_QUERY])?;
+    let pieces = single_bytes(rt.alloc(), input.as_slice())?;
+    assert!(rt; pieces_go(&rt, rt.alloc(), pieces, wanted)?);
+    Ok(())
+}
+
+// The end of one message comes in one piece with the next one.
+#[test]
+fn messages_share_a_piece(rt: HostRuntime) -> Result<(), Fail> {
+    let wanted = Wanted {
+        end: End::Closed,
+        sent: &[GREETED, DONE, ONE_ROW, ONE_ROW],
+        turns: &[
+            GREETED_TURN,
+            LOGGED_TURN,
+            Turn::Answered { length: 1 },
+            Turn::Answered { length: 1 },
+        ],
+    };
+    let input = greeted(rt.alloc(), &[UPDATE, QUERY, QUERY])?;
+    let whole = input.as_slice();
+    let reads = [
+        Read::Bytes(&whole[..20]),
+        Read::Bytes(&whole[20..110]),
+        Read::Bytes(&whole[110..]),
+    ];
+    assert!(rt; script_goes(&rt, rt.alloc(), &reads, &[], wanted)?);
     Ok(())
 }
 
@@ -26,11 +146,31 @@ fn first_update_answered(rt: HostRuntime) -> Result<(), Fail> {
 fn empty_table(rt: HostRuntime) -> Result<(), Fail> {
     let wanted = Wanted {
         end: End::Closed,
-        sent: &[GREETED, NO_ROW],
-        turns: &[GREETED_TURN, Turn::Answered { length: 0 }],
+        sent: &[GREETED, NO_ROW, NO_QUOTE],
+        turns: &[
+            GREETED_TURN,
+            Turn::Answered { length: 0 },
+            Turn::Answered { length: 0 },
+        ],
     };
-    assert!(rt; messages_go(&rt, rt.alloc(), &[QUERY], wanted)?);
+    assert!(rt; messages_go(&rt, rt.alloc(), &[QUERY, QUOTE_QUERY], wanted)?);
     Ok(())
+}
+
+// Whether bytes behind the greeting are no message, for this cause at this place.
+fn is_bad<R: Wait>(
+    rt: &R,
+    alloc: Global,
+    bytes: &[u8],
+    code: Bad,
+    at: u64,
+) -> Result<bool, NoMemory> {
+    let wanted = Wanted {
+        end: End::BadMessage { code, at },
+        sent: &[GREETED],
+        turns: &[GREETED_TURN],
+    };
+    messages_go(rt, alloc, &[bytes], wanted)
 }
 
 #[test]
@@ -42,13 +182,37 @@ fn bad_headers(rt: HostRuntime) -> Result<(), Fail> {
         (b"\x01\x02\x00\x00\x0a\x00\x00\x00", Bad::Kind, 6),
     ];
     for (header, code, at) in headers {
-        let wanted = Wanted {
-            end: End::BadMessage { code, at },
-            sent: &[GREETED],
-            turns: &[GREETED_TURN],
-        };
-        assert!(rt; messages_go(&rt, rt.alloc(), &[header.as_slice()], wanted)?);
+        assert!(rt; is_bad(&rt, rt.alloc(), header.as_slice(), code, at)?);
     }
+    Ok(())
+}
+
+#[test]
+fn count_past_the_end(rt: HostRuntime) -> Result<(), Fail> {
+    assert!(rt; is_bad(&rt, rt.alloc(), PAST_THE_END, Bad::Object, 19)?);
+    Ok(())
+}
+
+#[test]
+fn negative_count(rt: HostRuntime) -> Result<(), Fail> {
+    assert!(rt; is_bad(&rt, rt.alloc(), NEGATIVE, Bad::Object, 15)?);
+    Ok(())
+}
+
+// Sixty-five lists in one another, the innermost empty.
+fn nested_lists(alloc: Global) -> Result<Vec<u8>, NoMemory> {
+    let mut bytes = Vec::from_slice(alloc, b"\x01\x01\x00\x00\x8e\x01\x00\x00")?;
+    for _ in 0..64 {
+        bytes.extend_from_slice(b"\x00\x00\x01\x00\x00\x00")?;
+    }
+    bytes.extend_from_slice(b"\x00\x00\x00\x00\x00\x00")?;
+    Ok(bytes)
+}
+
+#[test]
+fn too_deep(rt: HostRuntime) -> Result<(), Fail> {
+    let lists = nested_lists(rt.alloc())?;
+    assert!(rt; is_bad(&rt, rt.alloc(), lists.as_slice(), Bad::Object, 397)?);
     Ok(())
 }
 
@@ -70,67 +234,26 @@ fn truncated_and_empty_input(rt: HostRuntime) -> Result<(), Fail> {
     Ok(())
 }
 
-#[test]
-fn float_not_built(rt: HostRuntime) -> Result<(), Fail> {
+// Whether a message is declined as no request, and the next one served.
+fn is_unserved<R: Wait>(rt: &R, alloc: Global, message: &[u8]) -> Result<bool, NoMemory> {
     let wanted = Wanted {
         end: End::Closed,
         sent: &[GREETED, NYI, NO_ROW],
         turns: &[GREETED_TURN, Turn::Declined, Turn::Answered { length: 0 }],
     };
-    assert!(rt; messages_go(&rt, rt.alloc(), &[FLOAT, QUERY], wanted)?);
+    messages_go(rt, alloc, &[message, QUERY], wanted)
+}
+
+#[test]
+fn float_not_built(rt: HostRuntime) -> Result<(), Fail> {
+    assert!(rt; is_unserved(&rt, rt.alloc(), FLOAT)?);
     Ok(())
 }
 
-// Whether an update of these parts is refused with this error, and changes nothing.
-fn is_refused<R: Wait>(
-    rt: &R,
-    alloc: Global,
-    parts: &[&[u8]],
-    error: &[u8],
-) -> Result<bool, NoMemory> {
-    let update = joined(alloc, parts)?;
-    let wanted = Wanted {
-        end: End::Closed,
-        sent: &[GREETED, error, NO_ROW],
-        turns: &[
-            GREETED_TURN,
-            Turn::Refused {
-                length: 0,
-                now: NOW,
-            },
-            Turn::Answered { length: 0 },
-        ],
-    };
-    messages_go(rt, alloc, &[update.as_slice(), QUERY], wanted)
-}
-
-// An update of another table, one of three items, and one whose size is an int.
+// A character alone is a text, which isn't answered.
 #[test]
-fn refused_updates(rt: HostRuntime) -> Result<(), Fail> {
-    let front = UPDATE.len() - 9;
-    let quote = [
-        b"\x01\x01\x00\x00\x42\x00\x00\x00".as_slice(),
-        &UPDATE[8..22],
-        b"\xf5quote\0",
-        &UPDATE[29..],
-    ];
-    let error = b"\x01\x02\x00\x00\x0f\x00\x00\x00\x80quote\0";
-    assert!(rt; is_refused(&rt, rt.alloc(), &quote, error)?);
-    let three = [
-        b"\x01\x01\x00\x00\x39\x00\x00\x00".as_slice(),
-        &UPDATE[8..29],
-        b"\0\0\x03\0\0\0",
-        &UPDATE[35..front],
-    ];
-    let error = b"\x01\x02\x00\x00\x10\x00\x00\x00\x80length\0";
-    assert!(rt; is_refused(&rt, rt.alloc(), &three, error)?);
-    let int = [
-        b"\x01\x01\x00\x00\x3e\x00\x00\x00".as_slice(),
-        &UPDATE[8..front],
-        b"\xfa\xc8\0\0\0",
-    ];
-    let error = b"\x01\x02\x00\x00\x0e\x00\x00\x00\x80type\0";
-    assert!(rt; is_refused(&rt, rt.alloc(), &int, error)?);
+fn character_is_a_text(rt: HostRuntime) -> Result<(), Fail> {
+    assert!(rt; is_unserved(&rt, rt.alloc(), CHARACTER)?);
     Ok(())
 }
 

@@ -1,17 +1,23 @@
 //! One session over devices in memory.
+ghost use Rattle.std.specs.Prelude.{◌≡◌};
 ghost use Rattle.q_values.specs.Limits.{AreLimits};
 
 use crate::bytes::GREETING;
-use outside_mem::{MemLink, MemRecorder, NoGate, Piece, Pieces, SteadyClock, Taking, Takings};
-use q_values::{Limits, NoMemory, Text, Turn};
-use session::{End, Solo, serve_session};
+use outside_mem::{MemClock, MemLink, MemRecorder, NoGate, Piece, Pieces, Taking, Takings};
+use plant_core::{Plant, Solo};
+use q_values::{Limits, NoMemory, Sequence, Text, Turn};
+use schema_text::{BUILT_IN, read_schema};
+use session::{End, serve_session};
 use std::alloc::Global;
 use std::sync::Wait;
 
-/// 2024.01.02D09:30, which each reading of the clock gives.
+/// 2024.01.02D09:30, in nanoseconds since 2000.01.01.
 pub const NOW: i64 = 757_503_000_000_000_000;
 
-/// The date of that moment.
+/// The nanoseconds of a day.
+pub const DAY: i64 = 86_400_000_000_000;
+
+/// 2024.01.02, in days since 2000.01.01.
 const TODAY: i32 = 8767;
 
 /// How a session is to end, what it is to send, and what it is to note.
@@ -34,43 +40,95 @@ fn are_joined(bytes: &[u8], parts: &[&[u8]]) -> bool {
     rest.is_empty()
 }
 
-/// Serves the link, with a plant that is open today.
+/// Serves the link over a plant, which has logged nothing.
+fn serve_over<R: Wait>(
+    rt: &R,
+    alloc: Global,
+    limits: &Limits,
+    plant: Plant,
+    clock: &mut MemClock,
+    link: &mut MemLink,
+    recorder: &mut MemRecorder,
+) -> Option<End>
+    requires limits { AreLimits limits.now }
+    requires same { plant.frame.limits ≡ limits.now }
+{
+    if plant.next_by() != 1 {
+        return None;
+    }
+    let mut solo = Solo::new(plant);
+    let mut gate = NoGate;
+    let report = serve_session(
+        rt, alloc, &mut solo, link, clock, &mut gate, recorder, limits,
+    );
+    Some(report.end)
+}
+
+/// Serves the link over a plant with the built-in schema, which is open today.
 fn serve<R: Wait>(
     rt: &R,
     alloc: Global,
     limits: &Limits,
+    clock: &mut MemClock,
     link: &mut MemLink,
     recorder: &mut MemRecorder,
-) -> Result<End, NoMemory>
+) -> Result<Option<End>, NoMemory>
     requires { AreLimits limits.now }
 {
-    let mut plant = Solo::new(alloc, TODAY)?;
-    let mut clock = SteadyClock::new(NOW);
-    let mut gate = NoGate;
-    let report = serve_session(
-        rt, alloc, &mut plant, link, &mut clock, &mut gate, recorder, limits,
-    );
-    Ok(report.end)
+    match read_schema(alloc, BUILT_IN) {
+        Ok(schema) => {
+            let plant = Plant::begin(alloc, schema, TODAY, limits)?;
+            Ok(serve_over(rt, alloc, limits, plant, clock, link, recorder))
+        }
+        Err(_) => Ok(None),
+    }
 }
 
-/// Whether the session over this link goes as it is to go.
+/// A clock that gives these readings, if there are any.
+fn clock_of(alloc: Global, readings: &[i64]) -> Result<Option<MemClock>, NoMemory> {
+    let moments = Sequence::of(Vec::from_slice(alloc, readings)?);
+    if moments.len() == 0 {
+        return Ok(None);
+    }
+    Ok(Some(MemClock::new(moments)))
+}
+
+/// Whether the session over this link and clock goes as it is to go.
+fn goes_by<R: Wait>(
+    rt: &R,
+    alloc: Global,
+    limits: &Limits,
+    clock: &mut MemClock,
+    link: &mut MemLink,
+    wanted: Wanted,
+) -> Result<bool, NoMemory>
+    requires { AreLimits limits.now }
+{
+    let mut recorder = MemRecorder::with_room(alloc, 16)?;
+    let end = serve(rt, alloc, limits, clock, link, &mut recorder)?;
+    Ok(
+        end == Some(wanted.end)
+            && are_joined(link.taken(), wanted.sent)
+            && recorder.turns() == wanted.turns,
+    )
+}
+
+/// Whether the session over this link, with these readings of the clock, goes as it is to go.
 pub fn goes<R: Wait>(
     rt: &R,
     alloc: Global,
     limits: &Limits,
+    readings: &[i64],
     link: MemLink,
     wanted: Wanted,
 ) -> Result<bool, NoMemory>
     requires { AreLimits limits.now }
 {
     let mut link = link;
-    let mut recorder = MemRecorder::with_room(alloc, 16)?;
-    let end = serve(rt, alloc, limits, &mut link, &mut recorder)?;
-    Ok(
-        end == wanted.end
-            && are_joined(link.taken(), wanted.sent)
-            && recorder.turns() == wanted.turns,
-    )
+    match clock_of(alloc, readings)? {
+        Some(mut clock) => goes_by(rt, alloc, limits, &mut clock, &mut link, wanted),
+        None => Ok(false),
+    }
 }
 
 /// The bytes of these parts, one behind the other.
@@ -93,7 +151,29 @@ pub fn bytes_go<R: Wait>(
     requires { AreLimits limits.now }
 {
     let link = MemLink::of(alloc, bytes)?;
-    goes(rt, alloc, limits, link, wanted)
+    goes(rt, alloc, limits, &[NOW], link, wanted)
+}
+
+/// The bytes of the greeting and these messages.
+pub fn greeted(alloc: Global, messages: &[&[u8]]) -> Result<Vec<u8>, NoMemory> {
+    let mut bytes = joined(alloc, &[GREETING])?;
+    for message in messages {
+        bytes.extend_from_slice(message)?;
+    }
+    Ok(bytes)
+}
+
+/// Whether a session whose input is the greeting and these messages, with these readings of the clock, goes so.
+pub fn messages_go_at<R: Wait>(
+    rt: &R,
+    alloc: Global,
+    readings: &[i64],
+    messages: &[&[u8]],
+    wanted: Wanted,
+) -> Result<bool, NoMemory> {
+    let bytes = greeted(alloc, messages)?;
+    let link = MemLink::of(alloc, bytes.as_slice())?;
+    goes(rt, alloc, &Limits::standard(), readings, link, wanted)
 }
 
 /// Whether a session whose input is the greeting and these messages goes so.
@@ -103,9 +183,7 @@ pub fn messages_go<R: Wait>(
     messages: &[&[u8]],
     wanted: Wanted,
 ) -> Result<bool, NoMemory> {
-    let mut bytes = joined(alloc, &[GREETING])?;
-    bytes.extend_from_slice(joined(alloc, messages)?.as_slice())?;
-    bytes_go(rt, alloc, &Limits::standard(), bytes.as_slice(), wanted)
+    messages_go_at(rt, alloc, &[NOW], messages, wanted)
 }
 
 /// One read of a scripted link.
@@ -132,12 +210,49 @@ fn input_of(alloc: Global, reads: &[Read]) -> Result<Pieces, NoMemory> {
     Ok(pieces)
 }
 
+/// The bytes cut into pieces of one byte.
+pub fn single_bytes(alloc: Global, bytes: &[u8]) -> Result<Pieces, NoMemory> {
+    let mut pieces = Pieces::new(alloc);
+    for byte in bytes {
+        pieces.push(piece_of(alloc, Read::Bytes(&[*byte]))?)?;
+    }
+    Ok(pieces)
+}
+
 fn takings_of(alloc: Global, writes: &[Taking]) -> Result<Takings, NoMemory> {
     let mut takings = Takings::new(alloc);
     for taking in writes {
         takings.push(*taking)?;
     }
     Ok(takings)
+}
+
+/// Whether a session whose input comes in these pieces goes so.
+pub fn pieces_go<R: Wait>(
+    rt: &R,
+    alloc: Global,
+    pieces: Pieces,
+    wanted: Wanted,
+) -> Result<bool, NoMemory> {
+    let link = MemLink::script(alloc, pieces, Takings::new(alloc));
+    goes(rt, alloc, &Limits::standard(), &[NOW], link, wanted)
+}
+
+/// Whether a session over a link with these reads and writes, which three idles end, goes so with these readings.
+pub fn script_goes_at<R: Wait>(
+    rt: &R,
+    alloc: Global,
+    readings: &[i64],
+    reads: &[Read],
+    writes: &[Taking],
+    wanted: Wanted,
+) -> Result<bool, NoMemory> {
+    let mut limits = Limits::standard();
+    limits.idle = 3;
+    let input = input_of(alloc, reads)?;
+    let takings = takings_of(alloc, writes)?;
+    let link = MemLink::script(alloc, input, takings);
+    goes(rt, alloc, &limits, readings, link, wanted)
 }
 
 /// Whether a session over a link with these reads and writes, which three idles end, goes so.
@@ -148,15 +263,5 @@ pub fn script_goes<R: Wait>(
     writes: &[Taking],
     wanted: Wanted,
 ) -> Result<bool, NoMemory> {
-    let mut limits = Limits::standard();
-    limits.idle = 3;
-    let input = input_of(alloc, reads)?;
-    let takings = takings_of(alloc, writes)?;
-    goes(
-        rt,
-        alloc,
-        &limits,
-        MemLink::script(alloc, input, takings),
-        wanted,
-    )
+    script_goes_at(rt, alloc, &[NOW], reads, writes, wanted)
 }

@@ -1,0 +1,211 @@
+//! Sessions that update tables: their dates, their order, and their refusals.
+use crate::bytes::{
+    ARRIVED, ASYNC_FLOAT, ASYNC_QUERY, ASYNC_THREE_SYMBOLS, ASYNC_UPDATE, BOTH_DATES, CHARACTERS,
+    DONE, EMPTY_COLUMNS, FIRST, FOO, FOURTH, GREETED, LENGTH, LIMIT, LONG_BACK, LONG_FRONT,
+    MORE_THAN_ONE_DAY, NO_ROW, OF_FOO, OF_INT, OF_TWO, ONE_ROW, QUERY, SECOND, SPREAD, SPREAD_ROWS,
+    THIRD, THREE_SYMBOLS, TYPE, UPDATE, WITHOUT_TIME,
+};
+use crate::sitting::{DAY, NOW, Wanted, joined, messages_go, messages_go_at};
+use q_values::{NoMemory, Turn};
+use session::End;
+use std::alloc::Global;
+use std::sync::Wait;
+use std::test::Fail;
+
+const GREETED_TURN: Turn = Turn::Greeted { capability: 3 };
+
+const LOGGED_TURN: Turn = Turn::Logged { place: 0, now: NOW };
+
+const SECOND_TURN: Turn = Turn::Logged { place: 1, now: NOW };
+
+const THIRD_TURN: Turn = Turn::Logged { place: 2, now: NOW };
+
+const NONE_SHOWN: Turn = Turn::Answered { length: 0 };
+
+const ONE_SHOWN: Turn = Turn::Answered { length: 1 };
+
+#[test]
+fn arrival_within_open_date(rt: HostRuntime) -> Result<(), Fail> {
+    let wanted = Wanted {
+        end: End::Closed,
+        sent: &[GREETED, DONE, DONE, DONE, ARRIVED],
+        turns: &[
+            GREETED_TURN,
+            LOGGED_TURN,
+            SECOND_TURN,
+            THIRD_TURN,
+            Turn::Answered { length: 3 },
+        ],
+    };
+    assert!(rt; messages_go(&rt, rt.alloc(), &[FIRST, SECOND, THIRD, QUERY], wanted)?);
+    Ok(())
+}
+
+fn fourth_rolls<R: Wait>(rt: &R, alloc: Global) -> Result<bool, NoMemory> {
+    let next = NOW + DAY;
+    let wanted = Wanted {
+        end: End::Closed,
+        sent: &[GREETED, DONE, DONE, DONE, DONE, BOTH_DATES],
+        turns: &[
+            GREETED_TURN,
+            LOGGED_TURN,
+            SECOND_TURN,
+            THIRD_TURN,
+            Turn::Rolled {
+                place: 3,
+                now: next,
+            },
+            Turn::Logged {
+                place: 4,
+                now: next,
+            },
+            Turn::Answered { length: 5 },
+        ],
+    };
+    let messages = [FIRST, SECOND, THIRD, FOURTH, QUERY];
+    messages_go_at(rt, alloc, &[NOW, NOW, NOW, next], &messages, wanted)
+}
+
+#[test]
+fn symbol_order_after_roll(rt: HostRuntime) -> Result<(), Fail> {
+    assert!(rt; fourth_rolls(&rt, rt.alloc())?);
+    Ok(())
+}
+
+// Whether an update is logged, and this is then shown.
+fn is_shown<R: Wait>(rt: &R, alloc: Global, update: &[u8], shown: &[u8]) -> Result<bool, NoMemory> {
+    let wanted = Wanted {
+        end: End::Closed,
+        sent: &[GREETED, DONE, shown],
+        turns: &[GREETED_TURN, LOGGED_TURN, ONE_SHOWN],
+    };
+    messages_go(rt, alloc, &[update, QUERY], wanted)
+}
+
+#[test]
+fn atom_spread_to_columns(rt: HostRuntime) -> Result<(), Fail> {
+    assert!(rt; is_shown(&rt, rt.alloc(), SPREAD, SPREAD_ROWS)?);
+    Ok(())
+}
+
+#[test]
+fn function_as_characters(rt: HostRuntime) -> Result<(), Fail> {
+    assert!(rt; is_shown(&rt, rt.alloc(), CHARACTERS, ONE_ROW)?);
+    Ok(())
+}
+
+// The time of the clock is put before the items where it is missing.
+#[test]
+fn time_put_first(rt: HostRuntime) -> Result<(), Fail> {
+    assert!(rt; is_shown(&rt, rt.alloc(), WITHOUT_TIME, ONE_ROW)?);
+    Ok(())
+}
+
+// Whether an update at this time is refused with this error, and changes nothing.
+fn is_refused_at<R: Wait>(
+    rt: &R,
+    alloc: Global,
+    now: i64,
+    update: &[u8],
+    error: &[u8],
+) -> Result<bool, NoMemory> {
+    let wanted = Wanted {
+        end: End::Closed,
+        sent: &[GREETED, error, NO_ROW],
+        turns: &[GREETED_TURN, Turn::Refused { length: 0, now }, NONE_SHOWN],
+    };
+    messages_go_at(rt, alloc, &[now], &[update, QUERY], wanted)
+}
+
+fn is_refused<R: Wait>(
+    rt: &R,
+    alloc: Global,
+    update: &[u8],
+    error: &[u8],
+) -> Result<bool, NoMemory> {
+    is_refused_at(rt, alloc, NOW, update, error)
+}
+
+// The update whose symbol has 257 bytes.
+fn long_symbol(alloc: Global) -> Result<Vec<u8>, NoMemory> {
+    joined(alloc, &[LONG_FRONT, &[b'x'; 257], LONG_BACK])
+}
+
+fn is_past_the_limit<R: Wait>(rt: &R, alloc: Global) -> Result<bool, NoMemory> {
+    let update = long_symbol(alloc)?;
+    is_refused(rt, alloc, update.as_slice(), LIMIT)
+}
+
+#[test]
+fn refused_updates(rt: HostRuntime) -> Result<(), Fail> {
+    assert!(rt; is_refused(&rt, rt.alloc(), OF_FOO, FOO)?);
+    assert!(rt; is_refused(&rt, rt.alloc(), OF_TWO, LENGTH)?);
+    assert!(rt; is_refused(&rt, rt.alloc(), OF_INT, TYPE)?);
+    assert!(rt; is_past_the_limit(&rt, rt.alloc())?);
+    assert!(rt; is_shown(&rt, rt.alloc(), EMPTY_COLUMNS, NO_ROW)?);
+    Ok(())
+}
+
+fn earlier_clock_logs<R: Wait>(rt: &R, alloc: Global) -> Result<bool, NoMemory> {
+    let earlier = NOW - DAY;
+    let wanted = Wanted {
+        end: End::Closed,
+        sent: &[GREETED, DONE, ONE_ROW],
+        turns: &[
+            GREETED_TURN,
+            Turn::Logged {
+                place: 0,
+                now: earlier,
+            },
+            ONE_SHOWN,
+        ],
+    };
+    messages_go_at(rt, alloc, &[earlier], &[UPDATE, QUERY], wanted)
+}
+
+#[test]
+fn clock_beyond_one_day(rt: HostRuntime) -> Result<(), Fail> {
+    assert!(rt; is_refused_at(&rt, rt.alloc(), NOW + 2 * DAY, UPDATE, MORE_THAN_ONE_DAY)?);
+    assert!(rt; earlier_clock_logs(&rt, rt.alloc())?);
+    Ok(())
+}
+
+// Whether a message is `type`, and the next one served.
+fn is_mistyped<R: Wait>(
+    rt: &R,
+    alloc: Global,
+    message: &[u8],
+    sent: &[&[u8]],
+) -> Result<bool, NoMemory> {
+    let wanted = Wanted {
+        end: End::Closed,
+        sent,
+        turns: &[GREETED_TURN, Turn::Declined, NONE_SHOWN],
+    };
+    messages_go(rt, alloc, &[message, QUERY], wanted)
+}
+
+#[test]
+fn update_of_three_symbols(rt: HostRuntime) -> Result<(), Fail> {
+    assert!(rt; is_mistyped(&rt, rt.alloc(), THREE_SYMBOLS, &[GREETED, TYPE, NO_ROW])?);
+    assert!(rt; is_mistyped(&rt, rt.alloc(), ASYNC_THREE_SYMBOLS, &[GREETED, NO_ROW])?);
+    Ok(())
+}
+
+#[test]
+fn counts_and_async(rt: HostRuntime) -> Result<(), Fail> {
+    let wanted = Wanted {
+        end: End::Closed,
+        sent: &[GREETED, ONE_ROW],
+        turns: &[
+            GREETED_TURN,
+            LOGGED_TURN,
+            Turn::Passed,
+            Turn::Passed,
+            ONE_SHOWN,
+        ],
+    };
+    let messages = [ASYNC_UPDATE, ASYNC_QUERY, ASYNC_FLOAT, QUERY];
+    assert!(rt; messages_go(&rt, rt.alloc(), &messages, wanted)?);
+    Ok(())
+}
