@@ -1,8 +1,8 @@
 #!/usr/bin/env python3
-"""Feeds one-row updates through `bin/plant once`, beside a loop in C that does the same reads and writes.
+"""Feeds one-row updates, and then texts, through `bin/plant once`, beside a loop in Rust that does the same reads and writes.
 
-Prints, for each, the updates a second, the seconds, the bytes in and out and the peak memory, and then the ratio.
-Wants a C compiler (gcc, or the one that CC names) and nothing else but Python 3.
+Prints, for each, the messages a second, the seconds, the bytes in and out and the peak memory, and then the ratio.
+Wants rustc, a C compiler (gcc, or the one that CC names) and nothing else but Python 3.
 """
 
 import argparse
@@ -12,59 +12,15 @@ import subprocess
 import sys
 import tempfile
 
-ROOT = os.path.dirname(os.path.dirname(os.path.realpath(__file__)))
-PLANT = [os.path.join(ROOT, "bin", "plant"), "once", "--clock", "2024.01.02D09:30:00.000000000"]
+HERE = os.path.dirname(os.path.realpath(__file__))
+PLANT = [os.path.join(os.path.dirname(HERE), "bin", "plant"), "once", "--clock", "2024.01.02D09:30:00.000000000"]
 
 GREETING = b"u:p\x03\x00"
 GREETED = b"\x03"
-REPLY = bytes.fromhex("010200000a0000006500")
-
-# Reads as a session does: a byte at a time up to the greeting's NUL, then eight bytes and the body of each message.
-LOOP = r"""
-#include <stdlib.h>
-#include <string.h>
-#include <unistd.h>
-
-static int fill(unsigned char *to, size_t n) {
-    while (n > 0) {
-        ssize_t got = read(0, to, n);
-        if (got <= 0) return 0;
-        to += got;
-        n -= (size_t)got;
-    }
-    return 1;
-}
-
-static int put(const unsigned char *from, size_t n) {
-    while (n > 0) {
-        ssize_t done = write(1, from, n);
-        if (done <= 0) return 0;
-        from += done;
-        n -= (size_t)done;
-    }
-    return 1;
-}
-
-int main(void) {
-    static const unsigned char greeted[1] = {3};
-    static const unsigned char reply[10] = {1, 2, 0, 0, 10, 0, 0, 0, 0x65, 0};
-    size_t room = 16777216;
-    unsigned char *body = malloc(room), head[8], byte;
-    if (body == NULL) return 7;
-    do {
-        if (!fill(&byte, 1)) return 2;
-    } while (byte != 0);
-    if (!put(greeted, sizeof greeted)) return 4;
-    while (fill(head, sizeof head)) {
-        unsigned int length;
-        memcpy(&length, head + 4, sizeof length);
-        if (length < 9 || length > room) return 3;
-        if (!fill(body, length - 8)) return 2;
-        if (!put(reply, sizeof reply)) return 4;
-    }
-    return 0;
-}
-"""
+ASYNC, SYNC, RESPONSE = 0, 1, 2
+HALF_PAST_NINE = (9 * 60 + 30) * 60 * 10**9
+DATE = 8767  # 2024.01.02, in days since 2000.01.01
+ROWS = 100  # of the table that the texts ask for
 
 # Runs a program and prints its status, its nanoseconds and the KiB of its peak memory. It is small itself, so that the
 # peak is the program's.
@@ -97,26 +53,52 @@ int main(int count, char **words) {
 """
 
 
+def message(kind, body):
+    return bytes([1, kind, 0, 0]) + struct.pack("<i", 8 + len(body)) + body
+
+
 def symbol(name):
     return b"\xf5" + name + b"\x00"
 
 
-def update():
-    """The sync message (`.u.upd;`trade;(0D09:30;`KX;10050;200))."""
-    time = b"\xf0" + struct.pack("<q", (9 * 60 + 30) * 60 * 10**9)
+def vector(number, form, items):
+    return struct.pack("<bBi", number, 0, len(items)) + struct.pack(f"<{len(items)}{form}", *items)
+
+
+def symbols(names):
+    return struct.pack("<bBi", 11, 0, len(names)) + b"".join(name + b"\x00" for name in names)
+
+
+def update(kind):
+    """The message (`.u.upd;`trade;(0D09:30;`KX;10050;200))."""
+    time = b"\xf0" + struct.pack("<q", HALF_PAST_NINE)
     numbers = [b"\xf9" + struct.pack("<q", number) for number in (10050, 200)]
-    row = b"\x00\x00" + struct.pack("<i", 4) + time + symbol(b"KX") + b"".join(numbers)
-    value = b"\x00\x00" + struct.pack("<i", 3) + symbol(b".u.upd") + symbol(b"trade") + row
-    return b"\x01\x01\x00\x00" + struct.pack("<i", 8 + len(value)) + value
+    row = struct.pack("<bBi", 0, 0, 4) + time + symbol(b"KX") + b"".join(numbers)
+    return message(kind, struct.pack("<bBi", 0, 0, 3) + symbol(b".u.upd") + symbol(b"trade") + row)
 
 
-def compiled(folder, name, text):
-    source = os.path.join(folder, name + ".c")
-    program = os.path.join(folder, name)
+def text(query):
+    return message(SYNC, struct.pack("<bBi", 10, 0, len(query)) + query)
+
+
+def table(rows):
+    """The response to `select from trade` over so many of these updates."""
+    names = symbols([b"date", b"time", b"sym", b"price", b"size"])
+    columns = [
+        vector(14, "i", [DATE] * rows), vector(16, "q", [HALF_PAST_NINE] * rows), symbols([b"KX"] * rows),
+        vector(7, "q", [10050] * rows), vector(7, "q", [200] * rows),
+    ]
+    return message(RESPONSE, b"\x62\x00\x63" + names + struct.pack("<bBi", 0, 0, 5) + b"".join(columns))
+
+
+def built(folder):
+    """The measuring program and the loop."""
+    source, measure, loop = (os.path.join(folder, name) for name in ("measure.c", "measure", "loop"))
     with open(source, "w") as file:
-        file.write(text)
-    subprocess.run([os.environ.get("CC", "gcc"), "-O2", "-o", program, source], check=True)
-    return program
+        file.write(MEASURE)
+    subprocess.run([os.environ.get("CC", "gcc"), "-O2", "-o", measure, source], check=True)
+    subprocess.run(["rustc", "--edition", "2021", "-O", "-o", loop, os.path.join(HERE, "once.rs")], check=True)
+    return measure, loop
 
 
 def measured(measure, words, given, taken):
@@ -134,60 +116,68 @@ def measured(measure, words, given, taken):
     return nanoseconds / 1e9, kib
 
 
-def is_answered(taken, updates):
-    """Whether the file holds the greeting's answer and one reply for each update, and nothing else."""
-    if os.path.getsize(taken) != len(GREETED) + updates * len(REPLY):
+def is_answered(taken, reply, count):
+    """Whether the file holds the greeting's answer and so many replies, and nothing else."""
+    if os.path.getsize(taken) != len(GREETED) + count * len(reply):
         return False
     with open(taken, "rb") as file:
         if file.read(len(GREETED)) != GREETED:
             return False
-        while chunk := file.read(65536 * len(REPLY)):
-            if chunk != REPLY * (len(chunk) // len(REPLY)):
+        while chunk := file.read(4096 * len(reply)):
+            if chunk != reply * (len(chunk) // len(reply)):
                 return False
     return True
 
 
-def best(measure, words, files, updates, runs):
+def best(measure, words, files, replies, runs):
     """The quickest of the runs, and the greatest peak."""
     given, taken = files
     seconds, peak = None, 0
     for _ in range(runs):
         took, kib = measured(measure, words, given, taken)
-        if not is_answered(taken, updates):
+        if not is_answered(taken, *replies):
             sys.exit(f"once.py: {words[0]} gave other replies")
         seconds = took if seconds is None else min(seconds, took)
         peak = max(peak, kib)
     return seconds, peak
 
 
+def compare(folder, programs, what, front, one, reply, count, runs):
+    """Runs both programs over the front and so many of one message, and prints a line for each."""
+    measure, loop = programs
+    given, taken = os.path.join(folder, "given"), os.path.join(folder, "taken")
+    with open(given, "wb") as file:
+        file.write(front)
+        for _ in range(count):
+            file.write(one)
+    rows = []
+    for name, words in (("plant", PLANT), ("loop in Rust", [loop, reply.hex()])):
+        seconds, kib = best(measure, words, (given, taken), (reply, count), runs)
+        rows.append((name, seconds, kib))
+    sizes = f"{os.path.getsize(given):12,} {os.path.getsize(taken):12,}"
+    print(f"{what:14} {'a second':>12} {'seconds':>9} {'bytes in':>12} {'bytes out':>12} {'peak MiB':>9}")
+    for name, seconds, kib in rows:
+        print(f"{name:14} {count / seconds:12,.0f} {seconds:9.3f} {sizes} {kib / 1024:9.1f}")
+    print(f"{'ratio':14} {rows[1][1] / rows[0][1]:12.2f}")
+
+
 def main():
     parser = argparse.ArgumentParser(description=__doc__.splitlines()[0])
     parser.add_argument("--updates", type=int, default=200_000, metavar="N", help="one-row updates (200000)")
+    parser.add_argument("--texts", type=int, default=50_000, metavar="N", help=f"queries of a table of {ROWS} rows (50000)")
     parser.add_argument("--runs", type=int, default=3, metavar="N", help="runs of each, of which the best counts (3)")
     options = parser.parse_args()
-    if options.updates < 1 or options.runs < 1:
+    if min(options.updates, options.texts, options.runs) < 1:
         parser.error("N is at least 1")
     with tempfile.TemporaryDirectory() as folder:
-        given, taken = os.path.join(folder, "given"), os.path.join(folder, "taken")
-        message = update()
-        with open(given, "wb") as file:
-            file.write(GREETING)
-            for _ in range(options.updates):
-                file.write(message)
-        measure = compiled(folder, "measure", MEASURE)
-        loop = compiled(folder, "loop", LOOP)
+        programs = built(folder)
         # Builds the plant where it must be, so that no run counts that.
         subprocess.run(PLANT, stdin=subprocess.DEVNULL, stdout=subprocess.DEVNULL, check=True)
-        rows = []
-        for name, words in (("plant", PLANT), ("loop in C", [loop])):
-            seconds, kib = best(measure, words, (given, taken), options.updates, options.runs)
-            rows.append((name, seconds, kib))
-        size_in, size_out = os.path.getsize(given), os.path.getsize(taken)
-    print(f"{'':10} {'updates/s':>12} {'seconds':>9} {'bytes in':>12} {'bytes out':>11} {'peak MiB':>9}")
-    for name, seconds, kib in rows:
-        rate = options.updates / seconds
-        print(f"{name:10} {rate:12,.0f} {seconds:9.3f} {size_in:12,} {size_out:11,} {kib / 1024:9.1f}")
-    print(f"{'ratio':10} {rows[1][1] / rows[0][1]:12.2f}")
+        done = message(RESPONSE, b"\x65\x00")
+        compare(folder, programs, "updates", GREETING, update(SYNC), done, options.updates, options.runs)
+        rows = GREETING + update(ASYNC) * ROWS
+        query = text(b"select from trade")
+        compare(folder, programs, "texts", rows, query, table(ROWS), options.texts, options.runs)
 
 
 if __name__ == "__main__":
