@@ -1,7 +1,8 @@
 -- What a reader holds and what it has still to take.
-use Rattle.std.proofs.Common.{◌≡◌, ◌≤◌, ◌+◌, ◌-◌, ℕ, Bool, true, false, List, ◌++◌, length, take, drop, refl, sym, ap, ◌∙◌, arith, append_assoc}
-use Rattle.std.proofs.lemmas.List.{take-append-drop, drop-take, drop-drop, length-take}
-use Rattle.ipc_frame.specs.Framing.{Stands, Feeds}
+use Rattle.std.proofs.Common.{◌≡◌, ◌≤◌, ◌<◌, ◌+◌, ◌-◌, ℕ, Bool, true, false, List, ◌++◌, length, take, drop, refl, sym, ap, ◌∙◌, arith, append_assoc, subst, zero, suc}
+use Rattle.std.proofs.lemmas.List.{take-append-drop, drop-take, drop-drop, length-take, length-take-le, length-append, append-nil}
+use Rattle.ipc_frame.specs.Framing.{IsNeeded, Stands, Feeds}
+use Rattle.ipc_frame.specs.Taking.{Takes}
 use Rattle.ipc_frame.specs.View.{FramerView}
 use Rattle.ipc_frame.specs.declared.next.Next.TheVariants as n
 use Rattle.q_values.specs.Tree.{Tree}
@@ -25,14 +26,27 @@ pub taken_over : (held : List ℕ) (from to t : ℕ) (p : List ℕ) → from ≤
 taken_over held from to t p rising within =
     sym (append_assoc held (take t (take (to - from) (drop from p))) (take (to - (from + t)) (drop (from + t) p)) ∙ ap (λ l. held ++ l) (left_over from to t p rising within))
 
+-- something is taken of bytes that are there, where more is needed
+takes_some : (N : List ℕ → Type 0) (held piece : List ℕ) (t : ℕ) → Takes N held piece t → N held → 0 < length piece → 0 < t
+takes_some N held piece zero takes needed some = absurd (takes.behind some (subst N (sym (append-nil held)) needed))
+takes_some N held piece (suc t) takes needed some = omega arith
+
+-- bytes that were taken are more behind those that were held
+holds_more : (held piece : List ℕ) (t : ℕ) → t ≤ length piece → 0 < t → length held < length (held ++ take t piece)
+holds_more held piece t within some =
+    let size = length-append held (take t piece) in
+    let part = length-take-le t piece within in
+    omega (arith, size, part)
+
 -- the framer took bytes of the piece
-pub gathered : (f g : FramerView) (from to t : ℕ) (p : List ℕ) → from ≤ to → Feeds f (take (to - from) (drop from p)) t g → Gathered (record { framer = f; pending = take (to - from) (drop from p) }) (record { framer = g; pending = take (to - (from + t)) (drop (from + t) p) }) More
-gathered f g from to t p rising fed = record {
+pub gathered : (f g : FramerView) (from to t : ℕ) (p : List ℕ) → from ≤ to → IsNeeded f.limits f.greeted f.held → 0 < length (take (to - from) (drop from p)) → Feeds f (take (to - from) (drop from p)) t g → Gathered (record { framer = f; pending = take (to - from) (drop from p) }) (record { framer = g; pending = take (to - (from + t)) (drop (from + t) p) }) More
+gathered f g from to t p rising needed some fed = record {
   more = refl;
   limits = ap (λ (v : FramerView). v.limits) fed.after;
   greeted = ap (λ (v : FramerView). v.greeted) fed.after;
   place = ap (λ (v : FramerView). v.place) fed.after;
   bytes = taken_over f.held from to t p rising fed.takes.within ∙ ap (λ (v : FramerView). v.held ++ take (to - (from + t)) (drop (from + t) p)) (sym fed.after);
+  some = subst (λ (v : FramerView). length f.held < length v.held) (sym fed.after) (holds_more f.held (take (to - from) (drop from p)) t fed.takes.within (takes_some (IsNeeded f.limits f.greeted) f.held (take (to - from) (drop from p)) t fed.takes needed some));
 }
 
 outside_by : (limits : Limits) (greeted : Bool) (place : ℕ) (held : List ℕ) (sync : Bool) (at : ℕ) → Stands (record { limits = limits; greeted = greeted; place = place; held = held }) (n.NotBuilt sync at) → (k : ℕ) × HoldsOutside (record { limits = limits; greeted = greeted; place = place; held = held }) sync k

@@ -1,5 +1,5 @@
 -- What reading a link gives.
-use Rattle.std.specs.Prelude.{◌≡◌, ◌+◌, ◌⊎◌, ℕ, Bool, true, false, List, [], ◌++◌, length, MatchBool, IsTrue, ◌↔◌}
+use Rattle.std.specs.Prelude.{◌≡◌, ◌<◌, ◌+◌, ◌⊎◌, ℕ, Bool, true, false, List, [], ◌++◌, length, MatchBool, IsTrue, ◌↔◌}
 use Rattle.outside_api.specs.Counts.{counted}
 use Rattle.outside_api.specs.Link.{LinkView}
 use Rattle.ipc_frame.specs.Framing.{IsNeeded, IsTooLong}
@@ -25,7 +25,7 @@ unheard r = r.framer.held ++ r.pending
 abbrev pub heard_by : ReaderView → ReaderView
 heard_by r = record r { framer = passed r.framer }
 
--- the link or the framer gave or took more, and nothing was heard
+-- the link gave more, or the framer took more, and nothing was heard
 pub record Gathers (old new : LinkView) (r s : ReaderView) : Type 0 where
   pub given : List ℕ
   pub link : new ≡ moved old given [] 0
@@ -33,6 +33,7 @@ pub record Gathers (old new : LinkView) (r s : ReaderView) : Type 0 where
   pub greeted : s.framer.greeted ≡ r.framer.greeted
   pub place : s.framer.place ≡ r.framer.place
   pub bytes : unheard r ++ given ≡ unheard s
+  pub some : length r.framer.held < length s.framer.held + length given
   pub opened : (given ≡ []) ⊎ (old.ended ≡ false)
 
 -- the bytes that are held are a whole message, or something outside the profile

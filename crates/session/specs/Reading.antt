@@ -1,5 +1,5 @@
 -- What a reader keeps, and what its own steps give.
-use Rattle.std.specs.Prelude.{◌≡◌, ◌≤◌, ◌<◌, ℕ}
+use Rattle.std.specs.Prelude.{◌≡◌, ◌≤◌, ◌<◌, ℕ, length}
 use Rattle.session.specs.Arrival.{ReaderView, unheard}
 use Rattle.session.specs.declared.reader.Arrival.{Arrival}
 use Rattle.session.specs.declared.reader.Arrival.TheVariants.{More}
@@ -17,3 +17,4 @@ pub record Gathered (r s : ReaderView) (arrival : Arrival) : Type 0 where
   pub greeted : s.framer.greeted ≡ r.framer.greeted
   pub place : s.framer.place ≡ r.framer.place
   pub bytes : unheard r ≡ unheard s
+  pub some : length r.framer.held < length s.framer.held

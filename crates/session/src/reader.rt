@@ -95,6 +95,8 @@ impl Reader {
 
     /// Gives the framer what it takes of the piece.
     fn take(&mut self) -> Arrival
+        requires needed { IsNeeded self.old.framer.limits self.old.framer.greeted self.old.framer.held }
+        requires some { 0 < length self.old.pending }
         ensures { Gathered self.old self.new result }
     {
         let fed = self.framer.feed(&self.piece[self.from..self.to]);

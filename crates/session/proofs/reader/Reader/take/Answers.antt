@@ -1,5 +1,6 @@
-use Rattle.std.proofs.Common.{subst, ◌-◌, ◌+◌, take, drop, List, ℕ}
-use Rattle.ipc_frame.specs.Framing.{Feeds}
+use Rattle.std.proofs.Common.{subst, sym, ◌<◌, length, ◌-◌, ◌+◌, take, drop, List, ℕ}
+use Rattle.ipc_frame.specs.Framing.{IsNeeded, Feeds}
+use Rattle.session.specs.Arrival.{ReaderView}
 use Rattle.session.proofs.ReaderLemmas.{gathered}
 use Rattle.session.specs.Reading.{Gathered}
 use Rattle.session.specs.declared.reader.Arrival.TheVariants.{More}
@@ -11,4 +12,6 @@ returns c =
     let to = c.self.inside.to in
     let fed = subst (λ (p : List ℕ). Feeds c.self.inside.framer (take (to - from) (drop from p)) c.feed-fed.result.taken c.feed-fed.new.self) c.deref.ensures.value c.feed-fed.ensures in
     let t = c.feed-fed.result.taken in
-    subst (λ v. Gathered v (record { framer = c.feed-fed.new.self; pending = take (to - (from + t)) (drop (from + t) c.self.inside.piece.items) }) More) c.self.view_is (gathered c.self.inside.framer c.feed-fed.new.self from to c.feed-fed.result.taken c.self.inside.piece.items c.self.invariant.rising fed)
+    let needed = subst (λ (v : ReaderView). IsNeeded v.framer.limits v.framer.greeted v.framer.held) (sym c.self.view_is) c.requires.needed in
+    let some = subst (λ (v : ReaderView). 0 < length v.pending) (sym c.self.view_is) c.requires.some in
+    subst (λ v. Gathered v (record { framer = c.feed-fed.new.self; pending = take (to - (from + t)) (drop (from + t) c.self.inside.piece.items) }) More) c.self.view_is (gathered c.self.inside.framer c.feed-fed.new.self from to c.feed-fed.result.taken c.self.inside.piece.items c.self.invariant.rising needed some fed)
