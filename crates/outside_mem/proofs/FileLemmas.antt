@@ -1,10 +1,12 @@
 -- Ranges of a file in memory, and files by their number.
-use Rattle.std.proofs.Common.{◌≡◌, ◌≢◌, ◌⊎◌, inl, inr, ◌<◌, ◌≤◌, ◌+◌, ℕ, zero, suc, List, [], ◌∷◌, ◌++◌, length, get_or, set, refl, sym, ◌∙◌, ap, subst, arith}
-use Rattle.std.proofs.lemmas.Bool.{cases_eq}
+use Rattle.std.proofs.Common.{◌≡◌, ◌≢◌, ◌⊎◌, inl, inr, ◌<◌, ◌≤◌, ◌+◌, ℕ, zero, suc, List, [], ◌∷◌, ◌++◌, length, take, slice_index, get_or, set, refl, sym, ◌∙◌, ap, subst, arith}
+use Rattle.std.proofs.lemmas.Bool.{cases_eq, cases_lt}
 use Rattle.std.proofs.lemmas.Bool.Decides.{nat_tests}
-use Rattle.outside_api.specs.Disk.{IsOutside, IsImage, FileState, empty_file, kept_file}
-use Rattle.outside_mem.specs.MemFile.{file_in, ChangesFile, IsFirst, IsAbsent, IsAbsentBefore}
-use Rattle.outside_mem.specs.MemDisk.{AreImages}
+use Rattle.outside_api.specs.Disk.{IsOutside, FileState, empty_file, kept_file}
+use Rattle.outside_mem.specs.MemFile.{file_in, ChangesFile, IsFirst, IsAbsent, IsAbsentBefore, IsInside, IsChosen, IsLeft}
+use Rattle.outside_mem.specs.MemDisk.{AreLeft}
+use Rattle.outside_mem.specs.declared.calling.Leaving.{Leaving}
+use Rattle.outside_mem.specs.declared.calling.Leaving.TheVariants.{Whole, Torn, Shortest}
 use Rattle.outside_mem.specs.declared.files.Numbered.{Numbered}
 
 -- a place outside all ranges lies outside each
@@ -12,6 +14,36 @@ pub outside_at : (j : ℕ) (ranges : List (ℕ × ℕ)) (i : ℕ) (d : ℕ × �
 outside_at j [] i d less all = absurd (omega arith)
 outside_at j (range ∷ ranges) zero d less all = all.0
 outside_at j (range ∷ ranges) (suc i) d less all = outside_at j ranges i d (omega arith) all.1
+
+-- a place within the first ranges lies within those before the last of them, or within that
+pub inside_first : (j : ℕ) (ranges : List (ℕ × ℕ)) (i : ℕ) (d : ℕ × ℕ) → i < length ranges → IsInside j (take (suc i) ranges) → IsInside j (take i ranges) ⊎ (((get_or ranges i d).0 ≤ j) × (j < (get_or ranges i d).0 + (get_or ranges i d).1))
+inside_first j [] i d less inside = absurd (omega arith)
+inside_first j (range ∷ ranges) zero d less (inl here) = inr here
+inside_first j (range ∷ ranges) zero d less (inr none) = absurd none
+inside_first j (range ∷ ranges) (suc i) d less (inl here) = inl (inl here)
+inside_first j (range ∷ ranges) (suc i) d less (inr rest) = elim (inside_first j ranges i d (omega arith) rest) [
+  | inl before ↦ inl (inr before)
+  | inr last ↦ inr last
+]
+
+-- behind one range more, each place within the ranges so far has the byte
+pub torn_on : (j : ℕ) (ranges : List (ℕ × ℕ)) (i n : ℕ) (d : ℕ × ℕ) (old new : List ℕ) (byte : ℕ) → n ≡ suc i → i < length ranges → length new ≡ length old
+    → ((k : ℕ) → (k < (get_or ranges i d).0) ⊎ ((get_or ranges i d).0 + (get_or ranges i d).1 ≤ k) → slice_index new k ≡ slice_index old k)
+    → ((k : ℕ) → k < length new → (get_or ranges i d).0 ≤ k → k < (get_or ranges i d).0 + (get_or ranges i d).1 → slice_index new k ≡ byte)
+    → ((k : ℕ) → k < length old → IsInside k (take i ranges) → slice_index old k ≡ byte)
+    → j < length new → IsInside j (take n ranges) → slice_index new j ≡ byte
+torn_on j ranges i n d old new byte next more size others torn before less inside = elim (inside_first j ranges i d more (subst (λ (m : ℕ). IsInside j (take m ranges)) next inside)) [
+  | inr last ↦ torn j less last.0 last.1
+  | inl first ↦
+      let same = before j (subst (λ n. j < n) size less) first in
+      elim (cases_lt j (get_or ranges i d).0) [
+        | inl low ↦ others j (inl low) ∙ same
+        | inr high ↦ elim (cases_lt j ((get_or ranges i d).0 + (get_or ranges i d).1)) [
+          | inl within ↦ torn j less high within
+          | inr behind ↦ others j (inr behind) ∙ same
+        ]
+      ]
+]
 
 file_in-here : (e : Numbered) (es : List Numbered) (n : ℕ) → e.number ≡ n → file_in (e ∷ es) n ≡ e.file
 unfolding file_in
@@ -106,32 +138,38 @@ changes_over old es now n i e made step reads same less first is sets =
     let changes = changes_at es now n i e made (step (file_in old n)) same less first is made_is in
     record { changed = changes.changed; others = λ k apart. changes.others k apart ∙ reads k }
 
--- entries of the same numbers, whose files are images
-abbrev pub AllImaged : List Numbered → List Numbered → Type 0
-AllImaged [] [] = Unit {0}
-AllImaged [] (y ∷ ys) = ⊥
-AllImaged (x ∷ xs) [] = ⊥
-AllImaged (x ∷ xs) (y ∷ ys) = (y.number ≡ x.number) × ((image : List ℕ) × IsImage x.file image × (y.file ≡ kept_file image)) × AllImaged xs ys
+-- entries of the same numbers, whose files are what a stop leaves
+abbrev pub AllLeft : Leaving → List Numbered → List Numbered → Type 0
+AllLeft leaving [] [] = Unit {0}
+AllLeft leaving [] (y ∷ ys) = ⊥
+AllLeft leaving (x ∷ xs) [] = ⊥
+AllLeft leaving (x ∷ xs) (y ∷ ys) = (y.number ≡ x.number) × ((image : List ℕ) × IsLeft leaving x.file image × (y.file ≡ kept_file image)) × AllLeft leaving xs ys
 
-pub imaged_push : (xs ys : List Numbered) (x y : Numbered) (image : List ℕ) → AllImaged xs ys → y.number ≡ x.number → IsImage x.file image → y.file ≡ kept_file image → AllImaged (xs ++ x ∷ []) (ys ++ y ∷ [])
-imaged_push [] [] x y image all number is kept = (number, (image, is, kept), tt)
-imaged_push [] (b ∷ ys) x y image all number is kept = absurd all
-imaged_push (a ∷ xs) [] x y image all number is kept = absurd all
-imaged_push (a ∷ xs) (b ∷ ys) x y image all number is kept = (all.0, all.1, imaged_push xs ys x y image all.2 number is kept)
+pub left_push : (leaving : Leaving) (xs ys : List Numbered) (x y : Numbered) (image : List ℕ) → AllLeft leaving xs ys → y.number ≡ x.number → IsLeft leaving x.file image → y.file ≡ kept_file image → AllLeft leaving (xs ++ x ∷ []) (ys ++ y ∷ [])
+left_push leaving [] [] x y image all number is kept = (number, (image, is, kept), tt)
+left_push leaving [] (b ∷ ys) x y image all number is kept = absurd all
+left_push leaving (a ∷ xs) [] x y image all number is kept = absurd all
+left_push leaving (a ∷ xs) (b ∷ ys) x y image all number is kept = (all.0, all.1, left_push leaving xs ys x y image all.2 number is kept)
 
-pub imaged : (xs ys : List Numbered) → AllImaged xs ys → AreImages (file_in xs) (file_in ys)
+-- a stop leaves nothing of a file that was never written
+nothing_left : (leaving : Leaving) → IsChosen leaving empty_file []
+nothing_left Whole = refl
+nothing_left (Torn byte) = record { size = refl; others = λ k outside. refl; torn = λ k less inside. absurd inside }
+nothing_left Shortest = refl
+
+pub all_left : (leaving : Leaving) (xs ys : List Numbered) → AllLeft leaving xs ys → AreLeft leaving (file_in xs) (file_in ys)
 unfolding file_in
-imaged [] [] all k = ([], record { no_shorter = omega arith; no_longer = omega arith; agrees = λ j less outside. refl }, refl)
-imaged [] (b ∷ ys) all k = absurd all
-imaged (a ∷ xs) [] all k = absurd all
-imaged (a ∷ xs) (b ∷ ys) all k = elim (cases_eq a.number k) [
+all_left leaving [] [] all k = ([], record { image = record { no_shorter = omega arith; no_longer = omega arith; agrees = λ j less outside. refl }; chosen = nothing_left leaving }, refl)
+all_left leaving [] (b ∷ ys) all k = absurd all
+all_left leaving (a ∷ xs) [] all k = absurd all
+all_left leaving (a ∷ xs) (b ∷ ys) all k = elim (cases_eq a.number k) [
   | inl same ↦
       let here = file_in-here a xs k same in
       let there = file_in-here b ys k (all.0 ∙ same) in
-      (all.1.0, subst (λ (f : FileState). IsImage f all.1.0) (sym here) all.1.1, there ∙ all.1.2)
+      (all.1.0, subst (λ (f : FileState). IsLeft leaving f all.1.0) (sym here) all.1.1, there ∙ all.1.2)
   | inr apart ↦
-      let rest = imaged xs ys all.2 k in
+      let rest = all_left leaving xs ys all.2 k in
       let here = file_in-there a xs k apart in
       let there = file_in-there b ys k (λ same. apart (sym all.0 ∙ same)) in
-      (rest.0, subst (λ (f : FileState). IsImage f rest.0) (sym here) rest.1, there ∙ rest.2)
+      (rest.0, subst (λ (f : FileState). IsLeft leaving f rest.0) (sym here) rest.1, there ∙ rest.2)
 ]

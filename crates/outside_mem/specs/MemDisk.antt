@@ -1,11 +1,12 @@
 -- What a disk in memory is seen as, and how its script decides its calls.
 use Rattle.std.specs.Prelude.{◌≡◌, ◌≢◌, ◌⊎◌, ◌-◌, ◌==◌, ℕ, if◌then◌else◌, true, List, [], ◌∷◌, map, drop, Option, Some, None, Result, Ok, Err}
 use Rattle.outside_api.specs.Counts.{counted}
-use Rattle.outside_api.specs.Disk.{FileState, DiskView, IsImage, kept_file}
+use Rattle.outside_api.specs.Disk.{FileState, DiskView, kept_file}
 use Rattle.outside_api.specs.declared.disk.DiskFault.{DiskFault}
-use Rattle.outside_mem.specs.MemFile.{file_in}
+use Rattle.outside_mem.specs.MemFile.{file_in, IsLeft}
 use Rattle.outside_mem.specs.declared.files.Numbered.{Numbered}
 use Rattle.outside_mem.specs.declared.calling.Calling.{Calling}
+use Rattle.outside_mem.specs.declared.calling.Leaving.{Leaving}
 use Rattle.outside_mem.specs.declared.calling.Calling.TheVariants.{Succeeds, FailsUndone}
 
 pub record MemDiskView : Type 0 where
@@ -57,6 +58,6 @@ pub record PlaysOn (old new : MemDiskView) : Type 0 where
   pub callings : new.callings ≡ drop 1 old.callings
   pub left : new.left ≡ fewer old.left
 
--- each file holds, all of it kept, an image of what it held
-abbrev pub AreImages : (ℕ → FileState) → (ℕ → FileState) → Type 0
-AreImages old new = (number : ℕ) → (image : List ℕ) × IsImage (old number) image × (new number ≡ kept_file image)
+-- each file holds, all of it kept, what a stop leaves of it
+abbrev pub AreLeft : Leaving → (ℕ → FileState) → (ℕ → FileState) → Type 0
+AreLeft leaving old new = (number : ℕ) → (image : List ℕ) × IsLeft leaving (old number) image × (new number ≡ kept_file image)

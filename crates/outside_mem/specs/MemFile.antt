@@ -1,6 +1,8 @@
 -- A file in memory, and the files of a disk in memory.
-use Rattle.std.specs.Prelude.{◌≡◌, ◌≢◌, ◌<◌, ◌==◌, ℕ, List, [], ◌∷◌, length, get_or, if◌then◌else◌}
-use Rattle.outside_api.specs.Disk.{FileState, empty_file}
+use Rattle.std.specs.Prelude.{◌≡◌, ◌≢◌, ◌⊎◌, ◌<◌, ◌≤◌, ◌+◌, ◌==◌, ℕ, List, [], ◌∷◌, length, take, slice_index, get_or, if◌then◌else◌}
+use Rattle.outside_api.specs.Disk.{FileState, IsOutside, IsImage, empty_file}
+use Rattle.outside_mem.specs.declared.calling.Leaving.{Leaving}
+use Rattle.outside_mem.specs.declared.calling.Leaving.TheVariants.{Whole, Torn, Shortest}
 use Rattle.outside_mem.specs.declared.files.Numbered.{Numbered}
 
 -- the file of this number: the first one that has it, or one that was never written
@@ -23,3 +25,25 @@ IsFirst entries number i = IsAbsentBefore entries number i × ((d : Numbered) �
 
 abbrev pub IsAbsent : List Numbered → ℕ → Type 0
 IsAbsent entries number = IsAbsentBefore entries number (length entries)
+
+-- a place lies in one of these ranges
+abbrev pub IsInside : ℕ → List (ℕ × ℕ) → Type 0
+IsInside k [] = ⊥
+IsInside k (range ∷ ranges) = ((range.0 ≤ k) × (k < range.0 + range.1)) ⊎ IsInside k ranges
+
+-- these are the file's bytes, but for this one throughout the ranges that were written since its last sync
+pub record IsTornBy (byte : ℕ) (file : FileState) (image : List ℕ) : Type 0 where
+  pub size : length image ≡ length file.bytes
+  pub others : (k : ℕ) → IsOutside k file.unsynced → slice_index image k ≡ slice_index file.bytes k
+  pub torn : (k : ℕ) → k < length image → IsInside k file.unsynced → slice_index image k ≡ byte
+
+-- what a stop leaves of a file, as it was chosen
+abbrev pub IsChosen : Leaving → FileState → List ℕ → Type 0
+IsChosen Whole file image = image ≡ file.bytes
+IsChosen (Torn byte) file image = IsTornBy byte file image
+IsChosen Shortest file image = image ≡ take file.least file.bytes
+
+-- what a stop leaves of a file is one of its images, and the one that was chosen
+pub record IsLeft (leaving : Leaving) (file : FileState) (left : List ℕ) : Type 0 where
+  pub image : IsImage file left
+  pub chosen : IsChosen leaving file left

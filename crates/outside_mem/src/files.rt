@@ -46,7 +46,7 @@ fn place_of(entries: &[Numbered], number: u64) -> Option<usize>
 
 impl Files {
     ghost use Rattle.std.specs.Prelude.{[]};
-    ghost use Rattle.outside_mem.specs.MemDisk.{AreImages};
+    ghost use Rattle.outside_mem.specs.MemDisk.{AreLeft};
 
     pub fn new(alloc: Global) -> Files
         ensures { result ≡ [] }
@@ -120,7 +120,7 @@ impl Files {
 
     // The files as a stop leaves them, all of them kept.
     pub fn images(&self, alloc: Global, leaving: Leaving) -> Result<Files, NoMemory>
-        ensures { IfOk result (λ f. AreImages (file_in self.now) (file_in f)) }
+        ensures { IfOk result (λ f. AreLeft leaving (file_in self.now) (file_in f)) }
     {
         let mut entries = Vec::with_capacity(alloc, self.entries.as_slice().len())?;
         for entry in &self.entries {

@@ -2,7 +2,7 @@
 ghost use Rattle.std.specs.Prelude.{◌≡◌, ◌<◌, ◌≤◌, ◌+◌, ◌^◌, [], ◌∷◌, Option, None, Some, IfOk, OnOk, OnErr, IsTrue, length, take, drop};
 ghost use Rattle.outside_api.specs.Counts.{counted};
 ghost use Rattle.outside_mem.specs.MemFile.{file_in};
-ghost use Rattle.outside_mem.specs.MemDisk.{new_disk, shown_by, next_calling, PlaysOn, AreImages};
+ghost use Rattle.outside_mem.specs.MemDisk.{new_disk, shown_by, next_calling, PlaysOn, AreLeft};
 
 use crate::calling::{Calling, Leaving};
 use crate::files::Files;
@@ -68,9 +68,10 @@ impl MemDisk {
         self.left = left;
     }
 
-    /// The disk as a stop at this moment leaves it, and as a restart finds it: of each file an image, all of it kept.
+    /// The disk as a stop at this moment leaves it, and as a restart finds it: of each file the image that is chosen, all
+    /// of it kept.
     pub fn restart(&self, alloc: Global, leaving: Leaving) -> Result<MemDisk, NoMemory>
-        ensures images { IfOk result (λ d. AreImages (file_in self.now.files) (file_in d.files)) }
+        ensures left { IfOk result (λ d. AreLeft leaving (file_in self.now.files) (file_in d.files)) }
         ensures fresh { IfOk result (λ d. d ≡ record (new_disk [] None) { files = d.files }) }
     {
         Ok(MemDisk {

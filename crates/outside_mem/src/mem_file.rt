@@ -2,6 +2,7 @@
 ghost use Rattle.std.specs.Prelude.{◌≡◌, ◌⊎◌, ◌<◌, ◌≤◌, ◌+◌, ◌^◌, ℕ, length, take, drop, slice_index, IfOk, OnOk, OnErr, [], ◌∷◌};
 ghost use Rattle.std.specs.List.{AllByRecursion};
 ghost use Rattle.outside_api.specs.Disk.{put, IsOutside};
+ghost use Rattle.outside_mem.specs.MemFile.{IsInside};
 
 use crate::calling::Leaving;
 use q_values::NoMemory;
@@ -30,7 +31,8 @@ impl Model for MemFile {
 }
 
 impl MemFile {
-    ghost use Rattle.outside_api.specs.Disk.{FileState, IsImage, empty_file, kept_file, written, cut_to};
+    ghost use Rattle.outside_api.specs.Disk.{FileState, empty_file, kept_file, written, cut_to};
+    ghost use Rattle.outside_mem.specs.MemFile.{IsLeft};
 
     pub fn new(alloc: Global) -> MemFile
         ensures { result ≡ empty_file }
@@ -98,7 +100,7 @@ impl MemFile {
 
     // What a stop leaves of it.
     pub fn image(&self, alloc: Global, leaving: Leaving) -> Result<Vec<u8>, NoMemory>
-        ensures image { IfOk result (λ v. IsImage self.now v.items) }
+        ensures left { IfOk result (λ v. IsLeft leaving self.now v.items) }
         ensures small { IfOk result (λ v. length v.items < 2 ^ 63) }
     {
         match leaving {
@@ -142,6 +144,7 @@ fn tear(bytes: &mut [u8], ranges: &[(u64, u64)], byte: u8)
     requires { AllByRecursion (λ range. range.0 + range.1 < 2 ^ 63) ranges.now }
     ensures length { length bytes.new ≡ length bytes.old }
     ensures others { (k : ℕ) → IsOutside k ranges.now → slice_index bytes.new k ≡ slice_index bytes.old k }
+    ensures torn { (k : ℕ) → k < length bytes.new → IsInside k ranges.now → slice_index bytes.new k ≡ byte }
 {
     for (at, size) in ranges {
         tear_one(bytes, *at, *at + *size, byte);
@@ -151,6 +154,7 @@ fn tear(bytes: &mut [u8], ranges: &[(u64, u64)], byte: u8)
 fn tear_one(bytes: &mut [u8], from: u64, to: u64, byte: u8)
     ensures length { length bytes.new ≡ length bytes.old }
     ensures others { (k : ℕ) → (k < from) ⊎ (to ≤ k) → slice_index bytes.new k ≡ slice_index bytes.old k }
+    ensures torn { (k : ℕ) → k < length bytes.new → from ≤ k → k < to → slice_index bytes.new k ≡ byte }
 {
     let end = to.min(bytes.len() as u64);
     for k in from..end {

@@ -1,11 +1,11 @@
 use Rattle.std.proofs.Common.{◌≡◌, ◌++◌, ◌∷◌, ◌<◌, ◌+◌, [], List, take, length, get_or, refl, sym, ap, subst, ◌∙◌, arith}
 use Rattle.std.proofs.lemmas.List.{take_more, take_all}
 use Rattle.outside_mem.specs.declared.files.Numbered.{Numbered}
-use Rattle.outside_mem.proofs.FileLemmas.{AllImaged, imaged, imaged_push}
+use Rattle.outside_mem.proofs.FileLemmas.{AllLeft, all_left, left_push}
 use Rattle.outside_mem.proofs.files.Files.images.Goals as goal
 
 pub loop-entry-init : goal.loop-entry-init
-loop-entry-init c = subst (λ (l : List Numbered). AllImaged [] l) (sym c.in_ok-entries.ensures.items) tt
+loop-entry-init c = subst (λ (l : List Numbered). AllLeft c.args.leaving [] l) (sym c.in_ok-entries.ensures.items) tt
 
 pub loop-entry-preserved : goal.loop-entry-preserved
 loop-entry-preserved c =
@@ -16,9 +16,9 @@ loop-entry-preserved c =
     let here : x ≡ get_or all i x = c.entry-item.is ∙ ap (λ (l : List Numbered). get_or l i x) same in
     let less : i < length all = omega (arith, c.loop-entry-test.true, ap length same) in
     let front : take (i + 1) all ≡ take i all ++ x ∷ [] = take_more all i x less ∙ ap (λ (e : Numbered). take i all ++ e ∷ []) (sym here) in
-    let step = imaged_push (take i all) c.loop-entry.entries.items x (record { number = x.number; file = c.of.result }) c.in_ok-image.image.items c.loop-entry.invariant refl c.in_ok-image.ensures.image c.of.ensures in
-    subst (λ (l : List Numbered). AllImaged (take (i + 1) all) l) (sym c.in_ok-push.ensures.items)
-    (subst (λ (l : List Numbered). AllImaged l (c.loop-entry.entries.items ++ record { number = x.number; file = c.of.result } ∷ [])) (sym front) step)
+    let step = left_push c.args.leaving (take i all) c.loop-entry.entries.items x (record { number = x.number; file = c.of.result }) c.in_ok-image.image.items c.loop-entry.invariant refl c.in_ok-image.ensures.left c.of.ensures in
+    subst (λ (l : List Numbered). AllLeft c.args.leaving (take (i + 1) all) l) (sym c.in_ok-push.ensures.items)
+    (subst (λ (l : List Numbered). AllLeft c.args.leaving l (c.loop-entry.entries.items ++ record { number = x.number; file = c.of.result } ∷ [])) (sym front) step)
 
 pub returns : goal.returns
 returns c =
@@ -26,4 +26,4 @@ returns c =
     let i = c.loop-entry.entry-index in
     let same = c.deref-entry-items.ensures.value ∙ c.self.view_is in
     let whole : take i all ≡ all = take_all i all (omega (arith, c.loop-entry-test.false, ap length same)) in
-    imaged all c.loop-entry.entries.items (subst (λ (l : List Numbered). AllImaged l c.loop-entry.entries.items) whole c.loop-entry.invariant)
+    all_left c.args.leaving all c.loop-entry.entries.items (subst (λ (l : List Numbered). AllLeft c.args.leaving l c.loop-entry.entries.items) whole c.loop-entry.invariant)
