@@ -1,0 +1,65 @@
+#!/usr/bin/env python3
+"""Times takes and gives of the plant's lock beside a ticket lock and std's Mutex in Rust, by one thread and by four.
+
+Prints the takes and gives a second, the median of all runs, and the ratio of the plant's time to each of the others, the
+median of the ratios within a run. Wants rustc, the kit's `rt`, and nothing else but Python 3.
+"""
+
+import argparse
+import os
+import statistics
+import subprocess
+import sys
+import tempfile
+
+HERE = os.path.dirname(os.path.realpath(__file__))
+CRATE = os.path.join(os.path.dirname(HERE), "crates", "lock_bench")
+PROGRAM = os.path.join(CRATE, "out", "lock_bench")
+LOCKS = ("lock", "ticket", "mutex")
+
+
+def built():
+    """Builds the program where it must be; without words it does nothing."""
+    done = subprocess.run(["rt", "run"], cwd=CRATE, stdin=subprocess.DEVNULL, stdout=subprocess.PIPE, stderr=subprocess.STDOUT, text=True)
+    if done.returncode != 0:
+        sys.exit(f"lock.py: the program isn't built\n{done.stdout}")
+
+
+def compiled(folder):
+    program = os.path.join(folder, "lock")
+    subprocess.run(["rustc", "--edition", "2024", "-O", "-o", program, os.path.join(HERE, "lock.rs")], check=True)
+    return program
+
+
+def timed(words, times):
+    """Runs a program and adds the nanoseconds of each of its lines."""
+    done = subprocess.run(words, stdout=subprocess.PIPE, text=True, check=True)
+    for line in done.stdout.splitlines():
+        name, threads, nanoseconds = line.split()
+        times.setdefault((name, int(threads)), []).append(int(nanoseconds))
+
+
+def main():
+    parser = argparse.ArgumentParser(description=__doc__.splitlines()[0])
+    parser.add_argument("--takes", type=int, default=1_000_000, metavar="N", help="takes and gives of each thread (1000000)")
+    parser.add_argument("--runs", type=int, default=9, metavar="N", help="runs of each program (9)")
+    options = parser.parse_args()
+    if min(options.takes, options.runs) < 1 or options.takes > 4_294_967_295:
+        parser.error("N is at least 1, and at most 4294967295")
+    built()
+    times = {}
+    with tempfile.TemporaryDirectory() as folder:
+        loop = compiled(folder)
+        for _ in range(options.runs):
+            timed([PROGRAM, str(options.takes)], times)
+            timed([loop, str(options.takes)], times)
+    print(f"{'threads':8}" + "".join(f"{name + '/s':>14}" for name in LOCKS) + f"{'to ticket':>12}{'to mutex':>12}")
+    for threads in (1, 4):
+        rates = [threads * options.takes * 1e9 / statistics.median(times[name, threads]) for name in LOCKS]
+        own = times["lock", threads]
+        ratios = [statistics.median(a / b for a, b in zip(own, times[name, threads])) for name in LOCKS[1:]]
+        print(f"{threads:<8}" + "".join(f"{rate:14,.0f}" for rate in rates) + "".join(f"{ratio:12.2f}" for ratio in ratios))
+
+
+if __name__ == "__main__":
+    main()
