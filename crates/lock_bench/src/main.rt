@@ -7,14 +7,19 @@ mod turns;
 use crate::turns::{Turns, take_all, take_by_four};
 use anyhow::{Result, bail};
 use plant_lock::PlantLock;
+use std::alloc::Global;
 use std::env;
 use std::rt::Clock;
 use std::sync::Wait;
 use std::thread::Threads;
 use std::time::Instant;
 
-fn report<R: Alloc + Clock + Print + Threads + Wait + Sync>(rt: &R, count: u32) -> Result<()> {
-    let Ok((lock, pass)) = PlantLock::new(rt, rt.alloc(), Turns { taken: 0 }, 1) else {
+fn report<R: Clock + Print + Threads + Wait + Sync>(
+    rt: &R,
+    alloc: Global,
+    count: u32,
+) -> Result<()> {
+    let Ok((lock, pass)) = PlantLock::new(rt, alloc, Turns { taken: 0 }, 1) else {
         bail!("lock_bench: no memory")
     };
     let start = Instant::now(rt)?;
@@ -36,7 +41,7 @@ fn main(rt: HostRuntime) -> Result<()> {
     let mut words = env::args(&rt)?;
     let _program = words.next();
     if let Some(count) = words.next() {
-        report(&rt, count.as_str().parse::<u32>()?)?;
+        report(&rt, rt.alloc(), count.as_str().parse::<u32>()?)?;
     }
     Ok(())
 }

@@ -1,7 +1,6 @@
 -- What stays true of the other seats when one seat makes a step.
-use Rattle.std.proofs.Common.{◌≡◌, ◌≢◌, ℕ, ◌+◌, ◌<◌, ◌≤◌, Bool, true, false, List, [], ◌∷◌, ◌++◌, set, length, All, sym, refl, ap, ◌∙◌, subst, arith, append-nil, lt_of_not-le, true≢false, Option, Some, None}
+use Rattle.std.proofs.Common.{◌≡◌, ◌≢◌, ℕ, ◌+◌, ◌≤◌, Bool, true, false, List, ◌++◌, set, All, sym, refl, ap, ◌∙◌, arith, append-nil, lt_of_not-le, true≢false, Option}
 use mathlib.Core.Logic.{dite}
-use mathlib.Core.List.{IsPrefix}
 use mathlib.Core.Option.{some, some-injective}
 use mathlib.Core.Option as maybe
 use native.Mathlib.Decide.{ℕ_discrete, dec_le}
@@ -12,7 +11,7 @@ use Rattle.plant_lock.specs.declared.view.Stage.{Stage}
 use Rattle.plant_lock.specs.declared.view.Stage.TheVariants.{Idle, Waits, Turns, Holds}
 use Rattle.plant_lock.specs.Entries.{own}
 use Rattle.plant_lock.specs.Law.{Ledger, Stands, Knows, Home}
-use Rattle.plant_lock.proofs.ListLemmas.{put, put_here, put_else, set_at, prefix_trans, own-append, own_none}
+use Rattle.plant_lock.proofs.ListLemmas.{put, put_else, set_at, prefix_trans, own-append, own_none}
 
 abbrev pub holds_slot : Stage → Bool
 holds_slot Holds = true

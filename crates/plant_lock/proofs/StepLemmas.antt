@@ -1,5 +1,5 @@
 -- Each step keeps the rule of the table.
-use Rattle.std.proofs.Common.{◌≡◌, ◌≢◌, ℕ, zero, suc, ◌+◌, ◌-◌, ◌%◌, ◌^◌, ◌<◌, ◌≤◌, Bool, true, false, eqb, List, [], ◌∷◌, ◌++◌, get_or, drop, set, length, map, All, sym, refl, ap, ◌∙◌, subst, arith, append-nil, length-append, ⊎_elim, inl, inr, true≢false, mod-eq_of_lt, eq-eqb, ne_eqb, Option, Some, None, unwrap_or}
+use Rattle.std.proofs.Common.{◌≡◌, ◌≢◌, ℕ, zero, suc, ◌+◌, ◌-◌, ◌%◌, ◌^◌, ◌<◌, ◌≤◌, Bool, true, false, eqb, List, [], ◌∷◌, ◌++◌, get_or, drop, set, length, All, sym, refl, ap, ◌∙◌, subst, arith, append-nil, length-append, ⊎_elim, true≢false, mod-eq_of_lt, Option, Some, unwrap_or}
 use mathlib.Core.Logic.{dite}
 use mathlib.Core.List.{IsPrefix}
 use mathlib.Core.Option.{none, some, some-injective, some-ne-none}
@@ -16,8 +16,8 @@ use Rattle.plant_lock.specs.declared.view.View.{View}
 use Rattle.plant_lock.specs.declared.view.Stage.{Stage}
 use Rattle.plant_lock.specs.declared.view.Stage.TheVariants.{Idle, Waits, Turns, Holds}
 use Rattle.plant_lock.specs.Entries.{own, longer}
-use Rattle.plant_lock.specs.Law.{Ledger, Stands, Knows, Home, Kept, starting, daughter, joined, spent, turned, ticketed, looked, took, counted, served, numbered, settled}
-use Rattle.plant_lock.proofs.ListLemmas.{put, put_here, put_else, set_at, prefix_refl, prefix_nil, prefix_trans, prefix_length, prefix_shorter, longer_cases, own-append, own_all, own_none, own_between, own_fresh, below_raised, below_same, below_prefix}
+use Rattle.plant_lock.specs.Law.{Ledger, Stands, Knows, Home, Kept, starting, daughter, joined, spent, ticketed, looked, took, counted, served, numbered, settled}
+use Rattle.plant_lock.proofs.ListLemmas.{put, put_here, put_else, set_at, prefix_refl, prefix_nil, prefix_trans, prefix_shorter, longer_cases, own-append, own_all, own_between, own_fresh, below_raised, below_same, below_prefix}
 use Rattle.plant_lock.proofs.SeatLemmas.{holds_slot, ticket_or, not_held, after_ticket, after_take, after_serve, after_count, after_number, knows_ticket, knows_take, knows_serve, knows_count, stands_number, knows_number, home_stays, home_found}
 
 at_one : {A : Type 0} (a : A) (i : ℕ) (b : A) → get_elem? (a ∷ []) i ≡ some b → (i ≡ 0) × (a ≡ b)

@@ -1,5 +1,5 @@
 -- What the views of passes, notes and held states tell.
-use Rattle.std.proofs.Common.{◌≡◌, ℕ, ◌<◌, ◌≤◌, true, false, List, [], ◌∷◌, length, max, sym, refl, ap, ◌∙◌, subst, arith, Option, Some, None}
+use Rattle.std.proofs.Common.{◌≡◌, ℕ, ◌≤◌, true, List, [], ◌∷◌, length, max, sym, refl, ap, ◌∙◌, subst, arith, Option, None}
 use Rattle.atomic_table.specs.Seated.{TableId}
 use Rattle.atomic_table.specs.Table.{Me}
 use Rattle.plant_lock.specs.declared.view.View.{View}
@@ -7,7 +7,7 @@ use Rattle.plant_lock.specs.declared.view.Stage.TheVariants.{Idle, Turns, Holds}
 use Rattle.plant_lock.specs.Entries.{longer}
 use Rattle.plant_lock.specs.Law.{daughter, joined}
 use Rattle.plant_lock.specs.Told.{Told, Noted}
-use Rattle.plant_lock.specs.Seated.{resting, noting, holding, told_of, told_by, noted_by, IsResting, IsNoting, IsHolding}
+use Rattle.plant_lock.specs.Seated.{resting, noting, holding, told_of, told_by, noted_by, IsResting, IsNoting}
 use Rattle.plant_lock.proofs.ListLemmas.{head_or, longer_cases}
 
 -- a seat's view and its slot

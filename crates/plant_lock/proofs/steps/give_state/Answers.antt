@@ -1,4 +1,4 @@
-use Rattle.std.proofs.Common.{rules, arith, ◌≡◌, ◌<◌, ◌+◌, ◌++◌, length, length-append, ap, ◌∙◌, sym, subst, All, Some, None}
+use Rattle.std.proofs.Common.{rules, arith, ◌≡◌, ◌+◌, ◌++◌, length, length-append, ap, ◌∙◌, sym, subst, All}
 use Rattle.plant_lock.proofs.StepLemmas.{counts}
 use Rattle.plant_lock.proofs.steps.give_state.Goals as goal
 

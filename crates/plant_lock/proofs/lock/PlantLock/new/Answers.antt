@@ -1,4 +1,4 @@
-use Rattle.std.proofs.Common.{rules, arith, refl}
+use Rattle.std.proofs.Common.{arith, refl}
 use Rattle.plant_lock.proofs.StepLemmas.{starts}
 use Rattle.plant_lock.proofs.ListLemmas.{own_fresh}
 use Rattle.plant_lock.proofs.lock.PlantLock.new.Goals as goal
