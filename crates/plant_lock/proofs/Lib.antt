@@ -1,4 +1,3 @@
 pub mod ListLemmas
 pub mod SeatLemmas
 pub mod StepLemmas
-pub mod ViewLemmas

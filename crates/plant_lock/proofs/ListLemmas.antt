@@ -78,6 +78,12 @@ module _ {A : Type 0} where
       go true e = k (ltb-true (length xs) (length ys) e)
       go false e = h (ltb-false (length xs) (length ys) e)
 
+  pub longer_first : (xs ys : List A) → length xs ≤ length (longer xs ys)
+  longer_first xs ys = longer_cases xs ys (λ (l : List A). length xs ≤ length l) (λ _. omega arith) (λ lt. omega arith)
+
+  pub longer_second : (xs ys : List A) → length ys ≤ length (longer xs ys)
+  longer_second xs ys = longer_cases xs ys (λ (l : List A). length ys ≤ length l) (λ le. le) (λ _. omega arith)
+
 module _ {E : Type 0} (by : E → ℕ) where
   pub own-append : (n : ℕ) (xs ys : List E) → own by n (xs ++ ys) ≡ own by n xs ++ own by n ys
   own-append n xs ys = filter-append (λ e. eqb (by e) n) xs ys

@@ -1,6 +1,6 @@
 use Rattle.std.proofs.Common.{rules, length, ◌≤◌, subst, sym}
 use Rattle.plant_lock.proofs.StepLemmas.{settles}
-use Rattle.plant_lock.proofs.ViewLemmas.{longer_first, longer_second}
+use Rattle.plant_lock.proofs.ListLemmas.{longer_first, longer_second}
 use Rattle.plant_lock.proofs.steps.settle.Goals as goal
 
 pub load-requires : goal.load-requires
