@@ -1,6 +1,6 @@
-// Takes and gives of a ticket lock and of std's Mutex round a count, by one thread and by four. The ticket lock waits as
-// the plant's does: it looks for a while and then sleeps on the word that is served. One line for each: the lock, the
-// number of threads and the nanoseconds.
+// Takes and gives of a ticket lock and of std's Mutex round a count, by one thread and by four. The ticket lock waits and
+// wakes as the plant's does: it looks for a while and then sleeps on the word that is served. One line for each: the lock,
+// the number of threads and the nanoseconds.
 use std::cell::UnsafeCell;
 use std::ffi::{c_int, c_long};
 use std::hint::{black_box, spin_loop};
@@ -27,6 +27,7 @@ unsafe extern "C" {
 struct TicketLock {
     tickets: AtomicU64,
     serving: AtomicU64,
+    sleepers: AtomicU64,
     taken: UnsafeCell<u64>,
 }
 
@@ -35,7 +36,9 @@ unsafe impl Sync for TicketLock {}
 
 impl TicketLock {
     fn sleep(&self, found: u64) {
+        self.sleepers.fetch_add(1, SeqCst);
         unsafe { syscall(FUTEX, self.serving.as_ptr(), WAIT, found as u32, null::<u64>()) };
+        self.sleepers.fetch_sub(1, SeqCst);
     }
 
     fn wake_all(&self) {
@@ -60,8 +63,8 @@ impl TicketLock {
     }
 
     fn give(&self) {
-        let served = self.serving.fetch_add(1, SeqCst);
-        if self.tickets.load(SeqCst) != served + 1 {
+        self.serving.fetch_add(1, SeqCst);
+        if self.sleepers.load(SeqCst) != 0 {
             self.wake_all();
         }
     }

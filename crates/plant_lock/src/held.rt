@@ -88,7 +88,7 @@ impl<'a, S: Chronicle> Held<'a, S> {
             taken,
             state,
         } = self;
-        give_state(&lock.table.shared, &mut seat, state, taken);
+        give_state(&lock.table.shared, &lock.sleepers, &mut seat, state, taken);
         Pass::of_seat(seat, number)
     }
 }

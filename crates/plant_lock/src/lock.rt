@@ -15,6 +15,7 @@ use std::alloc::{AllocFailed, Global};
 use std::marker::Model;
 use std::snapshot::Snapshot;
 use std::sync::Wait;
+use std::sync::atomic::AtomicU64;
 
 /// A pass of a lock round `S`.
 pub type PassOf<S> = Pass<<S as Chronicle>::Entry>;
@@ -29,6 +30,8 @@ pub type NoteOf<S> = Note<<S as Chronicle>::Entry>;
 #[derive(Drop)]
 pub struct PlantLock<S: Chronicle> {
     pub(crate) table: Board<S>,
+    /// How many sleep until their ticket is served.
+    pub(crate) sleepers: AtomicU64,
 }
 
 impl<S: Chronicle> Model for PlantLock<S> {
@@ -111,7 +114,10 @@ impl<S: Chronicle> PlantLock<S> {
             alloc, &words, slots, &about,
         );
         match made {
-            Ok((table, seat)) => Ok((PlantLock { table }, Pass::of_seat(seat, first))),
+            Ok((table, seat)) => {
+                let sleepers = AtomicU64::new(0);
+                Ok((PlantLock { table, sleepers }, Pass::of_seat(seat, first)))
+            }
             Err(Refused { slots }) => Err(NewFailure::NoMemory(state_of(slots))),
         }
     }
@@ -149,7 +155,7 @@ impl<S: Chronicle> PlantLock<S> {
         let top = &self.table.shared;
         let number = pass.number();
         let mut seat: Place<S> = pass.into_seat();
-        queue(rt, top, &mut seat);
+        queue(rt, top, &self.sleepers, &mut seat);
         let state = take_state(top, &mut seat);
         Held::of_seat(self, seat, number, state)
     }
@@ -188,9 +194,9 @@ impl<S: Chronicle> PlantLock<S> {
         ensures frame { S.frame result ≡ S.frame self.made }
         ensures own { own S.by pass.number (S.entries result) ≡ pass.mine }
     {
-        let PlantLock { table } = self;
+        let PlantLock { table, sleepers } = self;
         let mut seat: Place<S> = pass.into_seat();
-        queue(rt, &table.shared, &mut seat);
+        queue(rt, &table.shared, &sleepers, &mut seat);
         let mut closed = table.close_with(seat);
         let state = closed.take(0);
         closed.free();

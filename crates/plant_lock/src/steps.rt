@@ -12,6 +12,8 @@ use crate::plays::{Count, Framed, Learn, Look, Number, Serve, Settle, Take, Tick
 use std::hint;
 use std::marker::Brand;
 use std::sync::Wait;
+use std::sync::atomic::AtomicU64;
+use std::sync::atomic::Ordering::SeqCst;
 
 // How often a seat looks before it sleeps.
 const LOOKS: u32 = 128;
@@ -36,19 +38,28 @@ fn draw_ticket<S: Chronicle, R: Wait>(rt: &R, top: &Top<S>, seat: &mut Place<S>)
     unreachable!()
 }
 
-// Looks again at once, or sleeps until another ticket is served than the one that was found.
-fn pause<S: Chronicle, R: Wait>(rt: &R, top: &Top<S>, found: u64, looks: u32)
+// Looks again at once, or sleeps until another ticket is served than the one that was found. It counts itself among the
+// sleepers first: who serves the next ticket later finds the count, and whoever served one before has changed the word.
+fn pause<S: Chronicle, R: Wait>(rt: &R, top: &Top<S>, sleepers: &AtomicU64, found: u64, looks: u32)
     requires { IsSized top.now.table_id }
 {
     if looks < LOOKS {
         hint::spin_loop();
     } else {
+        sleepers.fetch_add(1, SeqCst);
         top.park(rt, SERVING, (found % 4294967296) as u32);
+        sleepers.fetch_sub(1, SeqCst);
     }
 }
 
 // Waits until its ticket is served.
-fn wait_turn<S: Chronicle, R: Wait>(rt: &R, top: &Top<S>, seat: &mut Place<S>, ticket: u64)
+fn wait_turn<S: Chronicle, R: Wait>(
+    rt: &R,
+    top: &Top<S>,
+    sleepers: &AtomicU64,
+    seat: &mut Place<S>,
+    ticket: u64,
+)
     requires table { (seat.old.table_id ≡ top.now.table_id) × IsSized top.now.table_id }
     requires waits { seat.old.me.0.stage ≡ Waits ticket }
     ensures same { IsSameSeat seat.old seat.new × (seat.new.me.1 ≡ seat.old.me.1) }
@@ -61,20 +72,25 @@ fn wait_turn<S: Chronicle, R: Wait>(rt: &R, top: &Top<S>, seat: &mut Place<S>, t
             return;
         }
         looks = looks.saturating_add(1);
-        pause(rt, top, found, looks);
+        pause(rt, top, sleepers, found, looks);
     }
     unreachable!()
 }
 
 /// Waits for the seat's turn. It then sees the whole history.
-pub(crate) fn queue<S: Chronicle, R: Wait>(rt: &R, top: &Top<S>, seat: &mut Place<S>)
+pub(crate) fn queue<S: Chronicle, R: Wait>(
+    rt: &R,
+    top: &Top<S>,
+    sleepers: &AtomicU64,
+    seat: &mut Place<S>,
+)
     requires table { (seat.old.table_id ≡ top.now.table_id) × IsSized top.now.table_id }
     requires idle { seat.old.me.0.stage ≡ Idle }
     ensures same { IsSameSeat seat.old seat.new × (seat.new.me.1 ≡ seat.old.me.1) }
     ensures turned { turned S.by seat.old.me.0 seat.new.me.0 }
 {
     let ticket = draw_ticket(rt, top, seat);
-    wait_turn(rt, top, seat, ticket);
+    wait_turn(rt, top, sleepers, seat, ticket);
 }
 
 // Takes the state, of the frame that is named, out of the slot.
@@ -122,21 +138,27 @@ fn put_state<S: Chronicle>(top: &Top<S>, seat: &mut Place<S>, state: S)
     }
 }
 
-// Serves the next ticket, and wakes those who wait for it.
-fn serve_next<S: Chronicle>(top: &Top<S>, seat: &mut Place<S>)
+// Serves the next ticket, and wakes those who sleep. They sleep on one word, and it isn't known who has that ticket.
+fn serve_next<S: Chronicle>(top: &Top<S>, sleepers: &AtomicU64, seat: &mut Place<S>)
     requires table { (seat.old.table_id ≡ top.now.table_id) × IsSized top.now.table_id }
     requires holds { (x : S) × (seat.old.me.0.stage ≡ Holds) × (seat.old.me.1 ≡ (0, Some x) ∷ []) × (S.entries x ≡ seat.old.me.0.seen) × (S.frame x ≡ S.frame top.now.key.state.value) }
     ensures same { IsSameSeat seat.old seat.new }
     ensures served { seat.new.me ≡ (record seat.old.me.0 { stage = Idle }, []) }
 {
-    let served = top.fetch_add::<Serve>(seat, SERVING, 1);
-    if top.peek(TICKETS) != served.wrapping_add(1) {
+    top.fetch_add::<Serve>(seat, SERVING, 1);
+    if sleepers.load(SeqCst) != 0 {
         top.wake_all(SERVING);
     }
 }
 
 /// Puts the state back, counts the entries that were added, and serves the next ticket.
-pub(crate) fn give_state<S: Chronicle>(top: &Top<S>, seat: &mut Place<S>, state: S, taken: u64)
+pub(crate) fn give_state<S: Chronicle>(
+    top: &Top<S>,
+    sleepers: &AtomicU64,
+    seat: &mut Place<S>,
+    state: S,
+    taken: u64,
+)
     requires table { (seat.old.table_id ≡ top.now.table_id) × IsSized top.now.table_id }
     requires holds { (seat.old.me.0.stage ≡ Holds) × (seat.old.me.0.drawn ≡ true) × (seat.old.me.1 ≡ (0, None) ∷ []) }
     requires counted { taken ≡ length seat.old.me.0.seen }
@@ -149,7 +171,7 @@ pub(crate) fn give_state<S: Chronicle>(top: &Top<S>, seat: &mut Place<S>, state:
     let added = state.length() - taken;
     put_state(top, seat, state);
     top.fetch_add::<Count<S>>(seat, ENTRIES, added);
-    serve_next(top, seat);
+    serve_next(top, sleepers, seat);
 }
 
 /// Draws a number for a seat that has none.
