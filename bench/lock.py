@@ -41,8 +41,8 @@ def timed(words, times):
 
 def main():
     parser = argparse.ArgumentParser(description=__doc__.splitlines()[0])
-    parser.add_argument("--takes", type=int, default=1_000_000, metavar="N", help="takes and gives of each thread (1000000)")
-    parser.add_argument("--runs", type=int, default=9, metavar="N", help="runs of each program (9)")
+    parser.add_argument("--takes", type=int, default=100_000, metavar="N", help="takes and gives of each thread (100000)")
+    parser.add_argument("--runs", type=int, default=21, metavar="N", help="runs of each program (21)")
     options = parser.parse_args()
     if min(options.takes, options.runs) < 1 or options.takes > 4_294_967_295:
         parser.error("N is at least 1, and at most 4294967295")
