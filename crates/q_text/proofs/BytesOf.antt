@@ -1,0 +1,12 @@
+-- Bytes of pairs of hexadecimal digits.
+use Rattle.std.proofs.Common.{◌≡◌, ℕ, zero, suc, ◌+◌, ◌-◌, ◌<◌, List, [], ◌∷◌, ◌++◌, length, drop, refl, sym, ◌∙◌, arith, ℤ}
+use Rattle.std.proofs.Math.ListN.{drop_of_length-le}
+use Rattle.std.proofs.Math.Seq.{drop-cons}
+use Rattle.std.proofs.lemmas.List.{append-nil}
+use Rattle.q_text.specs.Numbers.{bytes_of}
+
+-- one digit alone spells no byte
+pub bytes_of-one : (xs ys : List ℤ) (w : List ℕ) (place : ℕ) → place < length w → length w - place < 2 → xs ++ bytes_of (drop place w) ≡ ys → xs ≡ ys
+bytes_of-one xs ys w place less one h =
+    let e : bytes_of (drop place w) ≡ [] = rw (drop-cons w place 0 less, drop_of_length-le w {i = suc place} (omega arith)) refl in
+    sym (append-nil xs) ∙ (rw e at h)

@@ -1,0 +1,11 @@
+pub mod Dates
+pub mod Forms
+pub mod Grammar
+pub mod Laws
+pub mod Literal
+pub mod Numbers
+pub mod Runs
+pub mod Stored
+pub mod Strings
+pub mod Symbols
+pub mod Words

@@ -1,0 +1,68 @@
+//! Text in quotes.
+ghost use Rattle.std.specs.Prelude.{◌≡◌, ◌≤◌, length, drop, map, IfOk, IfSome, false};
+ghost use Rattle.q_values.specs.declared.kind.Kind.TheVariants as k;
+ghost use Rattle.q_values.specs.declared.atom.Atom.TheVariants as a;
+ghost use Rattle.q_values.specs.Tree.{tree};
+ghost use Rattle.q_text.specs.Strings as spec;
+ghost use Rattle.q_text.specs.Numbers.{valued};
+
+use crate::columns::value_of;
+use q_values::{ByteKind, Column, NoMemory, Value, Vector};
+use std::alloc::Global;
+
+/// The bytes of a text, and the place behind its closing quote.
+#[derive(Drop)]
+pub struct Quoted {
+    pub bytes: Vec<u8>,
+    pub end: usize,
+}
+
+// What a byte behind a backslash stands for.
+fn escape(b: u8) -> Option<u8>
+    ensures { result ≡ spec.escape b }
+{
+    match b {
+        b'"' => Some(b'"'),
+        b'\\' => Some(b'\\'),
+        b'n' => Some(b'\n'),
+        b't' => Some(b'\t'),
+        _ => None,
+    }
+}
+
+/// The text from a place behind an opening quote on, or nothing where it is at fault.
+pub fn quoted_at(alloc: Global, text: &[u8], from: usize) -> Result<Option<Quoted>, NoMemory>
+    requires { from ≤ length text.now }
+    ensures value { IfOk result (spec.IsQuoted from (spec.quoted false (drop from text.now))) }
+    ensures within { IfOk result (λ found. IfSome found (λ q. (from ≤ q.end) × (q.end ≤ length text.now))) }
+{
+    let mut bytes = Vec::new(alloc);
+    let mut escaped = false;
+    let mut place = from;
+    while place < text.len() {
+        let b = text[place];
+        place += 1;
+        if escaped {
+            match escape(b) {
+                Some(meant) => bytes.push(meant)?,
+                None => return Ok(None),
+            }
+            escaped = false;
+        } else if b == b'"' {
+            return Ok(Some(Quoted { bytes, end: place }));
+        } else if b == b'\\' {
+            escaped = true;
+        } else {
+            bytes.push(b)?;
+        }
+    }
+    Ok(None)
+}
+
+/// The value of a text.
+pub fn characters_of(alloc: Global, bytes: Vec<u8>) -> Result<Value, NoMemory>
+    ensures { IfOk result (λ value. tree value
+        ≡ valued (record { kind = k.Character; atoms = map (λ b. a.Character b) bytes.items })) }
+{
+    value_of(alloc, Vector::of(Column::Bytes(ByteKind::Character, bytes)))
+}
