@@ -1,18 +1,21 @@
 -- What is read at a place is what the forms have there.
-use Rattle.std.proofs.Common.{◌≡◌, ℕ, zero, suc, ◌+◌, ◌<◌, ◌≤◌, ◌||◌, ◌&&◌, Bool, true, false, not, cond, List, [], ◌∷◌, length, drop, get_or, eqb, Option, Some, None, refl, sym, ap, ap₂, ◌∙◌, arith, subst, inl, inr, ⊎_elim, ℤ}
+use Rattle.std.proofs.Common.{◌≡◌, ℕ, zero, suc, ◌+◌, ◌<◌, ◌≤◌, ◌||◌, ◌&&◌, Bool, true, false, not, cond, List, [], ◌∷◌, length, drop, get_or, eqb, Option, Some, None, refl, sym, ap, ap₂, ◌∙◌, arith, subst, inl, inr, ⊎_elim, ℤ, Result, Ok, Err}
 use Rattle.std.proofs.lemmas.Bool.{eqb-true, eq-eqb, or_cases, and_parts, cases_lt}
 use Rattle.std.proofs.lemmas.Bool.Decides.{nat_tests}
 use Rattle.std.proofs.lemmas.List.{get_or_past}
-use Rattle.q_values.specs.Tree.{Tree}
+use Rattle.q_values.specs.Tree.{Tree, tree}
+use Rattle.q_values.specs.declared.value.Value.{Value}
 use Rattle.q_text.specs.Words.{is_digit, is_behind_operand, begins_word, word_at, word_end}
 use Rattle.q_text.specs.Forms.{form_of}
 use Rattle.q_text.specs.Runs.{run_of}
 use Rattle.q_text.specs.Numbers.{numbers_from, vector_of, valued}
-use Rattle.q_text.specs.Literal.{Literal, starts_literal, begins_negative, literal_at, numbers_at, symbols_at, characters_at, with_form, with_run, ended, run_tree}
-use Rattle.q_text.specs.Grammar.{HasForm, IsRun, IsNumbers, IsSymbols, IsQuotation, IsLiteral}
+use Rattle.q_text.specs.Literal.{Literal, starts_literal, begins_negative, literal_at, numbers_at, symbols_at, characters_at, with_form, with_run, ended, run_tree, ReadsLiteral}
+use Rattle.q_text.specs.Grammar.{HasForm, IsRun, IsNumbers, IsSymbols, IsQuotation, IsLiteral, ReadsForms}
 use Rattle.q_text.specs.Laws.{LiteralsAreForms}
 use Rattle.q_text.specs.declared.forms.Form.{Form}
 use Rattle.q_text.specs.declared.runs.Run.{Run}
+use Rattle.q_text.specs.declared.refusal.LiteralRefusal.{LiteralRefusal}
+use Rattle.q_text.specs.declared.refusal.LiteralRefusal.TheVariants as r
 use Rattle.q_text.proofs.Openings.{starts-word}
 use Rattle.q_text.proofs.OneForm.{form-sound, form-complete}
 use Rattle.q_text.proofs.RunForms.{run-sound, run-complete, begins-within, word-within}
@@ -143,3 +146,13 @@ literals-forms text at found = (literal-sound text at found, back)
     back (inl is) = numbers-complete text at found is
     back (inr (inl is)) = symbols-read text at found is
     back (inr (inr is)) = quotation-read text at found is
+
+-- so what is read are the forms
+pub reads-forms : (text : List ℕ) (at : ℕ) (result : Result (Value × ℕ) LiteralRefusal) → ReadsLiteral (literal_at text at) at result → ReadsForms text at result
+reads-forms text at (Ok read) h = literal-sound text at (record { value = tree read.0; end = read.1 }) h
+reads-forms text at (Err (r.BadLiteral place)) h = (h.0, λ found is. absurd (let some : literal_at text at ≡ Some found = (literals-forms text at found).1 is in let none : literal_at text at ≡ None = h.1 in cc))
+reads-forms text at (Err r.NoMemory) h = tt
+
+pub none-there : (text : List ℕ) (at : ℕ) → starts_literal text at ≡ false → ReadsForms text at (Err (r.BadLiteral at))
+unfolding literal_at
+none-there text at h = reads-forms text at (Err (r.BadLiteral at)) (refl, rw h refl)

@@ -1,6 +1,8 @@
 -- Literals by their forms: which bytes spell which value (Q for Mortals, 2; KX, Datatypes reference).
-use Rattle.std.specs.Prelude.{◌≡◌, ◌<◌, ◌≢◌, ℕ, zero, suc, ◌+◌, ◌%◌, ◌==◌, ◌||◌, Bool, true, false, List, [], ◌∷◌, ◌++◌, drop, length, map, slice_index, Option, Some, None, ℤ, ◌⊎◌, ◌↔◌}
+use Rattle.std.specs.Prelude.{◌≡◌, ◌<◌, ◌≢◌, ℕ, zero, suc, ◌+◌, ◌%◌, ◌==◌, ◌||◌, Bool, true, false, List, [], ◌∷◌, ◌++◌, drop, length, map, slice_index, Option, Some, None, ℤ, ◌⊎◌, Result, Ok, Err}
 use Rattle.std.specs.List.{AllByRecursion}
+use Rattle.q_values.specs.Tree.{tree}
+use Rattle.q_values.specs.declared.value.Value.{Value}
 use Rattle.q_values.specs.declared.atom.Atom.TheVariants as a
 use Rattle.q_values.specs.declared.kind.Kind.TheVariants as k
 use Rattle.q_values.specs.declared.kind.IntegerKind.TheVariants as ik
@@ -12,6 +14,8 @@ use Rattle.q_text.specs.declared.words.Class.TheVariants as c
 use Rattle.q_text.specs.declared.forms.Form.{Form}
 use Rattle.q_text.specs.declared.forms.Form.TheVariants as f
 use Rattle.q_text.specs.declared.runs.Run.{Run}
+use Rattle.q_text.specs.declared.refusal.LiteralRefusal.{LiteralRefusal}
+use Rattle.q_text.specs.declared.refusal.LiteralRefusal.TheVariants as r
 use Rattle.q_text.specs.Words.{is_digit, is_of, word_at, word_end}
 use Rattle.q_text.specs.Forms.{is_date, is_year_month, is_timestamp, is_timespan, is_minute, is_second, is_time, is_plain, is_special, suffix_form, letter_form}
 use Rattle.q_text.specs.Runs.{next_form, next_end, goes_on_with, is_whole}
@@ -145,3 +149,9 @@ pub record IsQuotation (text : List ℕ) (at : ℕ) (found : Literal) : Type 0 w
 -- the literal that begins at a place
 abbrev pub IsLiteral : List ℕ → ℕ → Literal → Type 0
 IsLiteral text at found = IsNumbers text at found ⊎ (IsSymbols text at found ⊎ IsQuotation text at found)
+
+-- reading gives the literal that begins at the place, and is refused there where none does, unless memory ran out
+abbrev pub ReadsForms : List ℕ → ℕ → Result (Value × ℕ) LiteralRefusal → Type 0
+ReadsForms text at (Ok read) = IsLiteral text at (record { value = tree read.0; end = read.1 })
+ReadsForms text at (Err (r.BadLiteral place)) = (place ≡ at) × ((found : Literal) → IsLiteral text at found → ⊥)
+ReadsForms text at (Err r.NoMemory) = Unit {0}

@@ -2,6 +2,7 @@
 ghost use Rattle.std.specs.Prelude.{◌≡◌, ◌<◌, ◌≤◌, ◌+◌, length, slice_index, true, false, IfOk};
 ghost use Rattle.q_text.specs.Literal as spec;
 ghost use Rattle.q_text.specs.Words.{begins_word};
+ghost use Rattle.q_text.specs.Grammar.{ReadsForms};
 
 use crate::columns::run_value;
 use crate::forms::form_of;
@@ -83,25 +84,39 @@ fn numbers_at(alloc: Global, text: &[u8], at: usize) -> Result<(Value, usize), L
     }
 }
 
-/// Reads the literal that begins at a place: its value, and the place behind it (Q for Mortals, 2; KX, Datatypes
-/// reference).
-///
-/// Words of one form with blanks between them are one vector, symbols without blanks another; one value is an atom. A
-/// number may have the suffix `h`, `i` or `j`, which holds for its whole run; dates and times are read as q writes
-/// them. Places are counted in bytes from 0; any place is allowed.
+// The literal at a place where one is to be read.
 #[tactic(auto, unfolding(crate::specs::Literal::literal_at))]
-pub fn read_literal(alloc: Global, text: &[u8], at: usize) -> Result<(Value, usize), LiteralRefusal>
+fn literal_from(alloc: Global, text: &[u8], at: usize) -> Result<(Value, usize), LiteralRefusal>
+    requires within { at < length text.now }
+    requires starts { spec.starts_literal text.now at ≡ true }
     ensures value { spec.ReadsLiteral (spec.literal_at text.now at) at result }
     ensures within { spec.EndsWithin text.now at result }
 {
-    if !begins_literal(text, at) {
-        return Err(LiteralRefusal::BadLiteral(at));
-    }
     if text[at] == b'`' {
         symbols_at(alloc, text, at)
     } else if text[at] == b'"' {
         characters_at(alloc, text, at)
     } else {
         numbers_at(alloc, text, at)
+    }
+}
+
+/// Reads the literal that begins at a place: its value, and the place behind it (Q for Mortals, 2; KX, Datatypes
+/// reference).
+///
+/// Words of one form with blanks between them are one vector, symbols without blanks another; one value is an atom. A
+/// number may have the suffix `h`, `i` or `j`, which holds for its whole run; dates and times are read as q writes
+/// them. Places are counted in bytes from 0; any place is allowed. `BadLiteral` names the place itself, and comes where
+/// no literal begins there.
+#[tactic(auto, unfolding(crate::specs::Literal::literal_at))]
+pub fn read_literal(alloc: Global, text: &[u8], at: usize) -> Result<(Value, usize), LiteralRefusal>
+    ensures forms { ReadsForms text.now at result }
+    ensures value { spec.ReadsLiteral (spec.literal_at text.now at) at result }
+    ensures within { spec.EndsWithin text.now at result }
+{
+    if begins_literal(text, at) {
+        literal_from(alloc, text, at)
+    } else {
+        Err(LiteralRefusal::BadLiteral(at))
     }
 }
