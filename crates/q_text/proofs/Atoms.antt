@@ -1,8 +1,7 @@
 -- Atoms of numbers.
-use Rattle.std.proofs.Common.{◌≡◌, ℕ, ◌%◌, Bool, not, List, [], ◌∷◌, map, eqb, refl, ap, ap₂, ◌∙◌, ℤ, unsigned_abs}
+use Rattle.std.proofs.Common.{◌≡◌, ℕ, ◌%◌, Bool, not, List, [], ◌∷◌, map, eqb, refl, ap, ◌∙◌, ℤ, unsigned_abs}
 use Rattle.q_values.specs.Contents.{Contents}
 use Rattle.q_values.specs.declared.kind.Kind.TheVariants as k
-use Rattle.q_values.specs.declared.atom.Atom.{Atom}
 use Rattle.q_values.specs.declared.atom.Atom.TheVariants as a
 use Rattle.q_text.specs.Numbers.{atom_of, vector_of}
 use Rattle.q_text.specs.declared.kinds.NumberKind.TheVariants as nk

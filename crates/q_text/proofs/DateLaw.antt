@@ -1,20 +1,19 @@
 -- A written date is read back.
-use Rattle.std.proofs.Common.{◌≡◌, ℕ, zero, suc, ◌+◌, ◌-◌, ◌*◌, ◌/◌, ◌%◌, ◌<◌, ◌≤◌, ◌&&◌, ◌||◌, Bool, true, false, cond, nat_le, nat_lt, eqb, List, [], ◌∷◌, ◌++◌, length, codes, drop, take, get_or, Option, Some, None, refl, sym, ap, ap₂, ◌∙◌, arith, subst, ℤ, pos, negsuc, ◌+ℤ◌, ◌-ℤ◌, ◌≤ℤ◌, unsigned_abs}
+use Rattle.std.proofs.Common.{◌≡◌, ℕ, suc, ◌+◌, ◌-◌, ◌*◌, ◌/◌, ◌%◌, ◌<◌, ◌≤◌, true, false, nat_le, eqb, List, [], ◌∷◌, length, codes, drop, take, get_or, Some, None, refl, sym, ap, ◌∙◌, arith, subst, ℤ, pos, negsuc, ◌+ℤ◌, ◌≤ℤ◌, unsigned_abs}
 use Rattle.std.proofs.lemmas.Bool.Decides.{nat_tests}
 use Rattle.jiff_core.specs.Calendar.{days_from_civil, days_in_month, IsCivilDate}
 use Rattle.jiff_core.proofs.SignedLemmas.{signed_arith}
 use Rattle.jiff_core.proofs.CalendarLemmas.{days_in_month_bounds}
-use Rattle.q_values.specs.Tree.{Tree, atom}
+use Rattle.q_values.specs.Tree.{atom}
 use Rattle.q_values.specs.declared.atom.Atom.TheVariants as a
 use Rattle.q_values.specs.declared.kind.IntegerKind.TheVariants as ik
-use Rattle.q_text.specs.Words.{is_digit, is_letter, is_word, span, word_at, word_end}
-use Rattle.q_text.specs.Forms.{is_date, is_civil, is_like, is_front, form_of, calendar_form, year_of, month_of, day_of, pair, digit}
-use Rattle.q_text.specs.Runs.{run_of, next_form, followers}
+use Rattle.q_text.specs.Words.{is_digit, word_at, word_end}
+use Rattle.q_text.specs.Forms.{is_date, is_civil, is_like, form_of, calendar_form, year_of, month_of, day_of}
+use Rattle.q_text.specs.Runs.{run_of, next_form}
 use Rattle.q_text.specs.Numbers.{numbers_from, numbers_as, temporal, in_range, days_of}
-use Rattle.q_text.specs.Literal.{Literal, literal_at, numbers_at, starts_literal}
-use Rattle.q_text.specs.Dates.{IsDay, SpellsDate, IsPlantDate, date_text, two_digits, written_digit}
+use Rattle.q_text.specs.Literal.{literal_at, numbers_at, starts_literal}
+use Rattle.q_text.specs.Dates.{IsDay, IsPlantDate, date_text, written_digit}
 use Rattle.q_text.specs.Laws.{WrittenDatesAreRead}
-use Rattle.q_text.specs.declared.words.Class.TheVariants as c
 use Rattle.q_text.specs.declared.forms.Form.TheVariants as f
 use Rattle.q_text.specs.declared.kinds.NumberKind.TheVariants as nk
 use Rattle.q_text.specs.declared.runs.Run.{Run}

@@ -1,5 +1,5 @@
 -- The words of one form, counted from the front.
-use Rattle.std.proofs.Common.{◌≡◌, ℕ, zero, suc, ◌+◌, ◌-◌, ◌<◌, List, length, true, false, refl, ap, arith, cond}
+use Rattle.std.proofs.Common.{◌≡◌, ℕ, zero, suc, ◌+◌, ◌-◌, ◌<◌, List, true, false, refl, ap, arith}
 use Rattle.q_text.specs.Runs.{followers, goes_on_with, next_form, next_end}
 use Rattle.q_text.specs.declared.forms.Form.{Form}
 use Rattle.q_text.specs.declared.runs.Extent.{Extent}

@@ -1,5 +1,5 @@
 -- Numbers of words, one word more.
-use Rattle.std.proofs.Common.{◌≡◌, ℕ, zero, suc, ◌+◌, ◌-◌, ◌<◌, Bool, List, [], ◌++◌, Option, Some, None, refl, sym, ap, arith, append_assoc, ℤ}
+use Rattle.std.proofs.Common.{◌≡◌, ℕ, zero, suc, ◌+◌, ◌-◌, ◌<◌, Bool, List, [], Option, Some, None, refl, sym, ap, arith, append_assoc, ℤ}
 use Rattle.std.proofs.lemmas.List.{append-nil}
 use Rattle.q_text.specs.Words.{word_at, word_end}
 use Rattle.q_text.specs.Runs.{next_place}

@@ -1,9 +1,9 @@
 -- The byte behind a word's leading digits, by which its form is known.
-use Rattle.std.proofs.Common.{◌≡◌, ℕ, zero, suc, ◌+◌, ◌-◌, ◌<◌, ◌≤◌, ◌||◌, ◌&&◌, Bool, true, false, cond, List, [], ◌∷◌, ◌++◌, length, codes, take, drop, get_or, eqb, nat_le, Option, Some, None, refl, sym, ap, ap₂, ◌∙◌, arith, ⊎_elim, subst}
+use Rattle.std.proofs.Common.{◌≡◌, ℕ, zero, suc, ◌+◌, ◌-◌, ◌<◌, ◌≤◌, ◌||◌, ◌&&◌, Bool, true, false, cond, List, [], ◌∷◌, ◌++◌, length, codes, take, drop, get_or, eqb, nat_le, refl, sym, ap, ◌∙◌, arith, ⊎_elim, subst}
 use Rattle.std.specs.Str.{bytes_eq}
 use Rattle.std.proofs.Math.Seq.{drop-cons, get_or-append_seam}
-use Rattle.std.proofs.lemmas.Bool.{eqb-true, and_parts, or_cases, cases_lt, leb-true}
-use Rattle.std.proofs.lemmas.List.{get_or_past, length-drop, take-append-drop}
+use Rattle.std.proofs.lemmas.Bool.{eqb-true, and_parts, or_cases, leb-true}
+use Rattle.std.proofs.lemmas.List.{get_or_past, length-drop}
 use Rattle.std.proofs.lemmas.Slice.Eq.{bytes_eq-Decides}
 use Rattle.q_text.specs.Words.{is_digit, is_of, span}
 use Rattle.q_text.specs.Forms.{fits, is_front, is_like, is_civil, is_month, is_clock, is_clock_length, ends_clock, is_date, is_year_month, is_timestamp, is_timespan, is_minute, is_second, is_time, is_special, is_digits, is_plain, sign, digits, begins_bytes}
@@ -174,9 +174,9 @@ unfolding is_special
 special-is w h P null most least = ⊎_elim
     (λ a. subst P (sym ((bytes_eq-Decides w (codes "0N")).0 a)) null)
     (λ more. ⊎_elim
-        (λ a. subst P (sym ((bytes_eq-Decides w (codes "0W")).0 a)) most)
-        (λ a. subst P (sym ((bytes_eq-Decides w (codes "-0W")).0 a)) least)
-        (or_cases (bytes_eq w (codes "0W")) (bytes_eq w (codes "-0W")) more))
+    (λ a. subst P (sym ((bytes_eq-Decides w (codes "0W")).0 a)) most)
+    (λ a. subst P (sym ((bytes_eq-Decides w (codes "-0W")).0 a)) least)
+    (or_cases (bytes_eq w (codes "0W")) (bytes_eq w (codes "-0W")) more))
     (or_cases (bytes_eq w (codes "0N")) (bytes_eq w (codes "0W") || bytes_eq w (codes "-0W")) h)
 
 pub all-digits : (w : List ℕ) → is_digits w ≡ true → (1 ≤ length w) × (digits w ≡ length w)
@@ -217,11 +217,14 @@ lettered-key v letter h known other = ⊎_elim
     take-all : (x : List ℕ) → take (length x) x ≡ x
     take-all [] = refl
     take-all (b ∷ bs) = ap (λ l. b ∷ l) (take-all bs)
+
     whole : (x : List ℕ) → span c.Digit x ≡ length x → AllOf c.Digit x
     whole x all = let same : take (span c.Digit x) x ≡ x = rw all (take-all x) in subst (AllOf c.Digit) same (all-taken c.Digit x)
+
     front-is : (x : List ℕ) → get_or x 0 0 ≡ 45 → get_or (x ++ letter ∷ []) 0 0 ≡ 45
     front-is [] e = absurd (cc)
     front-is (b ∷ bs) e = e
+
     go : (t : Bool) → eqb (get_or v 0 0) 45 ≡ t → is_digits (drop (cond t 1 0) v) ≡ true → number_key (key (v ++ letter ∷ [])) ≡ true
     go true e digits_are = let is : key (v ++ letter ∷ []) ≡ 45 = signed-key (v ++ letter ∷ []) (front-is v (eqb-true (get_or v 0 0) 45 e)) in rw is refl
     go false e digits_are =

@@ -1,5 +1,5 @@
 -- What is read at a place is what the forms have there.
-use Rattle.std.proofs.Common.{◌≡◌, ℕ, zero, suc, ◌+◌, ◌<◌, ◌≤◌, ◌||◌, ◌&&◌, Bool, true, false, not, cond, List, [], ◌∷◌, length, drop, get_or, eqb, Option, Some, None, refl, sym, ap, ap₂, ◌∙◌, arith, subst, inl, inr, ⊎_elim, ℤ, Result, Ok, Err}
+use Rattle.std.proofs.Common.{◌≡◌, ℕ, ◌+◌, ◌<◌, ◌≤◌, ◌||◌, ◌&&◌, Bool, true, false, not, cond, List, length, get_or, eqb, Option, Some, None, refl, sym, ap₂, arith, subst, inl, inr, ⊎_elim, ℤ, Result, Ok, Err}
 use Rattle.std.proofs.lemmas.Bool.{eqb-true, eq-eqb, or_cases, and_parts, cases_lt}
 use Rattle.std.proofs.lemmas.Bool.Decides.{nat_tests}
 use Rattle.std.proofs.lemmas.List.{get_or_past}

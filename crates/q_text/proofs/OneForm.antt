@@ -1,25 +1,22 @@
 -- A word has one form at most, and that is the one found in it.
-use Rattle.std.proofs.Common.{◌≡◌, ℕ, zero, suc, ◌+◌, ◌-◌, ◌%◌, ◌<◌, ◌≤◌, ◌||◌, ◌&&◌, Bool, true, false, cond, List, [], ◌∷◌, ◌++◌, length, codes, take, drop, get_or, eqb, nat_le, Option, Some, None, refl, sym, ap, ap₂, ◌∙◌, arith, ⊎_elim, inl, inr, subst, ◌⊎◌}
-use Rattle.std.proofs.Math.Numerals.{add-one}
+use Rattle.std.proofs.Common.{◌≡◌, ℕ, suc, ◌+◌, ◌-◌, ◌%◌, ◌<◌, ◌≤◌, ◌&&◌, Bool, true, false, cond, List, [], ◌∷◌, ◌++◌, length, take, drop, get_or, eqb, nat_le, Option, Some, None, refl, sym, ap, ap₂, ◌∙◌, arith, ⊎_elim, inl, inr, subst, ◌⊎◌}
 use Rattle.std.proofs.Math.Seq.{take-suc, take-append_seam, get_or-append_seam, drop-cons}
 use Rattle.std.proofs.Math.ListN.{drop_of_length-le}
-use Rattle.std.proofs.lemmas.Bool.{eqb-true, eqb-false, eq-eqb, and_parts, or_cases, leb-true, le-leb, lt-leb, false_from_ne_true, ne_eqb}
-use Rattle.std.proofs.lemmas.Bool.Decides.{nat_tests}
+use Rattle.std.proofs.lemmas.Bool.{eqb-true, eqb-false, eq-eqb, and_parts, or_cases, leb-true, le-leb, false_from_ne_true, ne_eqb}
 use Rattle.std.proofs.lemmas.List.{length-append, length-drop, length-take, take-append-drop, get_or-drop}
 use Rattle.q_values.specs.declared.kind.IntegerKind.TheVariants as ik
 use Rattle.q_values.specs.declared.kind.LongKind.TheVariants as lk
 use Rattle.q_text.specs.Words.{is_digit, is_of, span}
-use Rattle.q_text.specs.Forms.{is_date, is_year_month, is_timestamp, is_timespan, is_minute, is_second, is_time, is_special, is_digits, is_plain, sign, digits, begins_bytes, is_hex_behind, either, front, last, calendar_form, clock_form, bits_form, bytes_form, suffix_form, letter_form, lettered_form, number_form, form_of}
-use Rattle.q_text.specs.Grammar.{AllOf, IsLettered, IsBits, IsBytes, HasForm}
+use Rattle.q_text.specs.Forms.{is_date, is_year_month, is_timestamp, is_timespan, is_minute, is_second, is_time, is_special, is_digits, is_plain, sign, begins_bytes, is_hex_behind, either, front, last, calendar_form, clock_form, bits_form, bytes_form, suffix_form, letter_form, lettered_form, number_form, form_of}
+use Rattle.q_text.specs.Grammar.{AllOf, HasForm}
 use Rattle.q_text.specs.Laws.{WordsHaveOneForm}
 use Rattle.q_text.specs.declared.kinds.NumberKind.{NumberKind}
 use Rattle.q_text.specs.declared.kinds.NumberKind.TheVariants as nk
-use Rattle.q_text.specs.declared.words.Class.{Class}
 use Rattle.q_text.specs.declared.words.Class.TheVariants as c
 use Rattle.q_text.specs.declared.forms.Form.{Form}
 use Rattle.q_text.specs.declared.forms.Form.TheVariants as f
 use Rattle.q_text.proofs.Spans.{all-taken, span-all}
-use Rattle.q_text.proofs.Keys.{key, number_key, Known, date-known, month-known, timestamp-known, timespan-known, minute-known, second-known, time-known, bits-known, bytes-known, plain-key, lettered-key, special-is, all-digits, span-below}
+use Rattle.q_text.proofs.Keys.{key, number_key, date-known, month-known, timestamp-known, timespan-known, minute-known, second-known, time-known, bits-known, bytes-known, plain-key, lettered-key, special-is, all-digits, span-below}
 
 either-cases : (a b : Option Form) (form : Form) → either a b ≡ Some form → (a ≡ Some form) ⊎ ((a ≡ None) × (b ≡ Some form))
 either-cases None b form h = inr (refl, h)
@@ -95,14 +92,18 @@ many-bits w form t h = go (eqb (span c.Bit w) 1) refl h
   where
     n : ℕ
     n = span c.Bit w
+
     facts : (span c.Bit w + 1 ≡ length w) × (get_or w (span c.Bit w) 0 ≡ 98) × (1 ≤ span c.Bit w)
     facts = bits-read w t
+
     len : length (take (span c.Bit w) w) ≡ span c.Bit w
     len = omega (arith, length-take (span c.Bit w) w, facts.0)
+
     source : w ≡ take (span c.Bit w) w ++ 98 ∷ []
     source =
         let rest : drop (span c.Bit w) w ≡ 98 ∷ [] = rw (drop-cons w (span c.Bit w) 0 (omega (arith, facts.0)), facts.1, drop_of_length-le w {i = suc (span c.Bit w)} (omega (arith, facts.0))) refl in
         sym (take-append-drop (span c.Bit w) w) ∙ ap (λ l. take (span c.Bit w) w ++ l) rest
+
     go : (o : Bool) → eqb (span c.Bit w) 1 ≡ o → cond o (Some (f.Item nk.Boolean)) (Some (f.Row nk.Boolean)) ≡ Some form → HasForm form w
     go true e h =
         let P : Form → Type 0 = λ g. HasForm g w in
@@ -278,14 +279,15 @@ plain-last v letter h other no_n no_w =
     let w : List ℕ = v ++ letter ∷ [] in
     let l : last w ≡ letter = last-is v letter in
     ⊎_elim
-        (λ special. ends w l special)
-        (λ all. digits-last w l (eqb (get_or w 0 0) 45) all)
-        (or_cases (is_special w) (is_digits (drop (sign w) w)) h)
+    (λ special. ends w l special)
+    (λ all. digits-last w l (eqb (get_or w 0 0) 45) all)
+    (or_cases (is_special w) (is_digits (drop (sign w) w)) h)
   where
     ends : (w : List ℕ) → last w ≡ letter → is_special w ≡ true → ⊥
     ends w l special =
         let P : List ℕ → Type 0 = λ x. last x ≡ letter → ⊥ in
         special-is w special P (λ e. eqb-false letter 78 no_n (sym e)) (λ e. eqb-false letter 87 no_w (sym e)) (λ e. eqb-false letter 87 no_w (sym e)) l
+
     digits-last : (w : List ℕ) → last w ≡ letter → (t : Bool) → is_digits (drop (cond t 1 0) w) ≡ true → ⊥
     digits-last w l true all =
         let (some, full) = all-digits (drop 1 w) all in
@@ -305,14 +307,17 @@ lettered-sound special w form some plain is h = ⊎_elim suffixed (λ more. lett
   where
     source : w ≡ front w ++ last w ∷ []
     source = sym (front-last w some)
+
     P : Form → Type 0
     P g = HasForm g w
+
     suffixed : suffix_form (last w) ≡ Some form → HasForm form w
     suffixed e =
         let s : Suffix form (last w) = suffix-known (last w) form e in
         let Q : Form → Type 0 = λ g. HasForm g w in
         let e' : suffix_form (last w) ≡ Some (f.Suffixed s.kind) = e ∙ ap (λ g. Some g) s.is in
         subst Q (sym s.is) (front w, last w, source, plain, e')
+
     lettered : (t : Bool) → is_special (front w) ≡ t → cond t (letter_form (last w)) None ≡ Some form → HasForm form w
     lettered false k e = absurd (cc)
     lettered true k e =
@@ -454,15 +459,15 @@ unfolding form_of
 form-sound form w h = ⊎_elim
     (λ calendar. calendar-sound w form calendar)
     (λ a. ⊎_elim
-        (λ clock. clock-sound w form clock)
-        (λ b. ⊎_elim
-            (λ bits. bits-sound w form bits)
-            (λ d. ⊎_elim
-                (λ bytes. bytes-sound w form bytes)
-                (λ e. number-sound w form e.1)
-                (either-cases (bytes_form w) (number_form w) form d.1))
-            (either-cases (bits_form w) (either (bytes_form w) (number_form w)) form b.1))
-        (either-cases (clock_form w) (either (bits_form w) (either (bytes_form w) (number_form w))) form a.1))
+    (λ clock. clock-sound w form clock)
+    (λ b. ⊎_elim
+    (λ bits. bits-sound w form bits)
+    (λ d. ⊎_elim
+    (λ bytes. bytes-sound w form bytes)
+    (λ e. number-sound w form e.1)
+    (either-cases (bytes_form w) (number_form w) form d.1))
+    (either-cases (bits_form w) (either (bytes_form w) (number_form w)) form b.1))
+    (either-cases (clock_form w) (either (bits_form w) (either (bytes_form w) (number_form w))) form a.1))
     (either-cases (calendar_form w) (either (clock_form w) (either (bits_form w) (either (bytes_form w) (number_form w)))) form h)
 
 whole-found : (w : List ℕ) → is_plain w ≡ true → number_form w ≡ Some f.Whole

@@ -1,8 +1,8 @@
 -- What stands where a literal begins.
-use Rattle.std.proofs.Common.{◌≡◌, ℕ, suc, ◌+◌, ◌<◌, ◌≤◌, ◌&&◌, ◌||◌, Bool, true, false, not, cond, List, ◌∷◌, length, drop, get_or, eqb, refl, sym, ap, ◌∙◌, arith}
+use Rattle.std.proofs.Common.{◌≡◌, ℕ, ◌+◌, ◌<◌, ◌≤◌, ◌&&◌, ◌||◌, Bool, true, false, not, List, length, drop, get_or, eqb, refl, arith}
 use Rattle.std.proofs.Math.Seq.{drop-cons}
 use Rattle.q_text.specs.Words.{is_digit, is_letter, is_word, is_behind_operand, begins_word, span}
-use Rattle.q_text.specs.Literal.{starts_literal, begins_negative}
+use Rattle.q_text.specs.Literal.{starts_literal}
 use Rattle.q_text.specs.declared.words.Class.TheVariants as c
 
 pub word-digit : (b : ℕ) → is_digit b ≡ true → is_word b ≡ true

@@ -1,5 +1,5 @@
 -- Text in quotes is characters with escapes.
-use Rattle.std.proofs.Common.{◌≡◌, ℕ, zero, suc, ◌+◌, ◌-◌, ◌<◌, ◌≤◌, Bool, true, false, cond, List, [], ◌∷◌, ◌++◌, length, drop, get_or, eqb, Option, Some, None, refl, sym, ap, ap₂, ◌∙◌, arith, map, inl, inr, subst}
+use Rattle.std.proofs.Common.{◌≡◌, ℕ, ◌+◌, ◌<◌, Bool, true, false, cond, List, [], ◌∷◌, length, drop, get_or, eqb, Option, Some, None, refl, sym, ap, ap₂, arith, map, inl, inr, subst}
 use Rattle.std.proofs.lemmas.Bool.{eqb-true}
 use Rattle.std.proofs.lemmas.List.{length-drop}
 use Rattle.q_values.specs.Tree.{Tree}
@@ -76,6 +76,7 @@ read-byte b bs behind_slash plain = go (eqb b 34) refl (eqb b 92) refl
   where
     closed : eqb b 34 ≡ true → Closed (b ∷ bs) [] 1
     closed h = record { rest = bs; spelled = ap (λ x. x ∷ bs) (eqb-true b 34 h); len = omega arith }
+
     go : (t : Bool) → eqb b 34 ≡ t → (s : Bool) → eqb b 92 ≡ s → Read false (b ∷ bs) (cond t (Some ([], 1)) (cond s (before [] 1 (quoted true bs)) (before (b ∷ []) 1 (quoted false bs))))
     go true h s e = closed h
     go false h true e = read-slash b bs e (quoted true bs) behind_slash

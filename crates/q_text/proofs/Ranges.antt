@@ -1,5 +1,5 @@
 -- Numbers in and out of range.
-use Rattle.std.proofs.Common.{◌≡◌, ℕ, zero, suc, ◌+◌, ◌-◌, ◌*◌, ◌^◌, ◌<◌, ◌≤◌, Bool, true, false, cond, nat_le, Option, Some, None, min, refl, sym, ap, ◌∙◌, arith, ⊎_elim, ℤ, pos, negsuc, neg_ℤ, unsigned_abs, List, eqb, get_or}
+use Rattle.std.proofs.Common.{◌≡◌, ℕ, zero, suc, ◌+◌, ◌-◌, ◌*◌, ◌^◌, ◌<◌, Bool, true, false, nat_le, Option, None, min, refl, sym, ◌∙◌, arith, ⊎_elim, ℤ, pos, unsigned_abs, List, eqb, get_or}
 use Rattle.std.proofs.lemmas.Bool.{cases_lt}
 use Rattle.std.proofs.lemmas.Bool.Decides.{nat_tests}
 use Rattle.q_values.specs.declared.kind.LongKind.TheVariants as lk

@@ -1,10 +1,10 @@
 -- Runs are as many words of one form as follow.
-use Rattle.std.proofs.Common.{◌≡◌, ℕ, zero, suc, ◌+◌, ◌-◌, ◌*◌, ◌<◌, ◌≤◌, ◌||◌, ◌&&◌, Bool, true, false, cond, List, [], ◌∷◌, length, drop, get_or, eqb, nat_lt, Option, Some, None, refl, sym, ap, ap₂, ◌∙◌, arith, inl, inr, ⊎_elim, ◌⊎◌}
+use Rattle.std.proofs.Common.{◌≡◌, ℕ, zero, suc, ◌+◌, ◌*◌, ◌<◌, ◌≤◌, ◌||◌, ◌&&◌, Bool, true, false, cond, List, length, get_or, eqb, nat_lt, Option, Some, None, refl, sym, ap, ◌∙◌, arith, inl, inr, ⊎_elim, ◌⊎◌}
 use Rattle.std.proofs.Math.Numerals.{add-one}
-use Rattle.std.proofs.lemmas.Bool.{and_parts, or_cases, ltb-true, cases_order, cases_lt}
-use Rattle.std.proofs.lemmas.List.{get_or_past, length-drop}
+use Rattle.std.proofs.lemmas.Bool.{and_parts, ltb-true, cases_order, cases_lt}
+use Rattle.std.proofs.lemmas.List.{get_or_past}
 use Rattle.q_values.specs.declared.kind.LongKind.TheVariants as lk
-use Rattle.q_text.specs.Words.{is_digit, span, behind, begins_word, word_end, word_at}
+use Rattle.q_text.specs.Words.{is_digit, behind, begins_word, word_end, word_at}
 use Rattle.q_text.specs.Forms.{form_of}
 use Rattle.q_text.specs.Runs.{followers, goes_on_with, next_form, next_place, next_end, is_whole, suffixed_run, whole_run, plain_run, run_of}
 use Rattle.q_text.specs.Grammar.{end_after, following, IsLongest, IsLast, IsUniform, IsWholeRun, IsRun}
@@ -131,9 +131,9 @@ longest-unique : (form : Form) (text : List ℕ) (end n m : ℕ) → IsLongest f
 longest-unique form text end n m a b = ⊎_elim
     (λ same. same)
     (λ other. ⊎_elim
-        (λ below. absurd (let yes : goes_on_with form (following text end n) ≡ true = b.each n below in let no : goes_on_with form (following text end n) ≡ false = a.stops in cc))
-        (λ above. absurd (let yes : goes_on_with form (following text end m) ≡ true = a.each m above in let no : goes_on_with form (following text end m) ≡ false = b.stops in cc))
-        other)
+    (λ below. absurd (let yes : goes_on_with form (following text end n) ≡ true = b.each n below in let no : goes_on_with form (following text end n) ≡ false = a.stops in cc))
+    (λ above. absurd (let yes : goes_on_with form (following text end m) ≡ true = a.each m above in let no : goes_on_with form (following text end m) ≡ false = b.stops in cc))
+    other)
     (cases_order n m)
 
 -- the word behind so many

@@ -1,5 +1,5 @@
 -- The byte before a place, as part of a symbol literal.
-use Rattle.std.proofs.Common.{◌≡◌, ℕ, zero, suc, ◌+◌, ◌-◌, ◌<◌, ◌≤◌, ◌||◌, ◌&&◌, Bool, true, false, List, [], ◌∷◌, length, take, refl, ap, subst, arith, eqb, get_or}
+use Rattle.std.proofs.Common.{◌≡◌, ℕ, zero, suc, ◌-◌, ◌<◌, ◌≤◌, ◌||◌, ◌&&◌, Bool, true, false, List, [], ◌∷◌, length, take, refl, subst, arith, eqb, get_or}
 use Rattle.std.proofs.lemmas.Bool.{eqb-true}
 use Rattle.q_text.specs.Words.{in_symbol, is_symbol}
 

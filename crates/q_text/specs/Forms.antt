@@ -1,10 +1,9 @@
 -- The forms of the words that spell numbers, dates and times (Q for Mortals, 2; KX, Datatypes reference).
-use Rattle.std.specs.Prelude.{ℕ, suc, ◌+◌, ◌-◌, ◌*◌, ◌%◌, ◌==◌, ◌||◌, ◌&&◌, Bool, true, false, not, nat_le, nat_lt, if◌then◌else◌, List, [], ◌∷◌, length, take, drop, slice_index, codes, Option, Some, None, pos}
+use Rattle.std.specs.Prelude.{ℕ, ◌+◌, ◌-◌, ◌*◌, ◌%◌, ◌==◌, ◌||◌, ◌&&◌, Bool, true, false, nat_le, if◌then◌else◌, List, [], ◌∷◌, length, take, drop, slice_index, codes, Option, Some, None, pos}
 use Rattle.std.specs.Str.{bytes_eq}
 use Rattle.jiff_core.specs.Calendar.{days_in_month}
 use Rattle.q_values.specs.declared.kind.IntegerKind.TheVariants as ik
 use Rattle.q_values.specs.declared.kind.LongKind.TheVariants as lk
-use Rattle.q_text.specs.declared.kinds.NumberKind.{NumberKind}
 use Rattle.q_text.specs.declared.kinds.NumberKind.TheVariants as nk
 use Rattle.q_text.specs.Words.{is_digit, span}
 use Rattle.q_text.specs.declared.words.Class.TheVariants as c

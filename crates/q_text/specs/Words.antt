@@ -1,5 +1,5 @@
 -- The bytes of a text: classes, words, and where a literal begins.
-use Rattle.std.specs.Prelude.{ℕ, suc, ◌+◌, ◌-◌, ◌==◌, ◌||◌, ◌&&◌, Bool, true, false, not, nat_le, nat_lt, if◌then◌else◌, List, [], ◌∷◌, take, drop, slice_index}
+use Rattle.std.specs.Prelude.{ℕ, suc, ◌+◌, ◌-◌, ◌==◌, ◌||◌, ◌&&◌, Bool, false, nat_le, nat_lt, if◌then◌else◌, List, [], ◌∷◌, take, drop, slice_index}
 use Rattle.q_text.specs.declared.words.Class.{Class}
 use Rattle.q_text.specs.declared.words.Class.TheVariants as c
 

@@ -64,7 +64,9 @@ fn has_numbers(vector: &Vector, numbers: &[i64]) -> bool {
 fn is_value(value: &Value, type_: i64, numbers: &[i64]) -> bool {
     match value {
         Value::Atom(atom) => {
-            numbers.len() == 1 && -kind_number(atom.kind()) == type_ && is_number(atom, numbers[0])
+            numbers.len() == 1
+                && kind_number(atom.kind()).wrapping_neg() == type_
+                && is_number(atom, numbers[0])
         }
         Value::Vector(vector) => {
             kind_number(vector.kind()) == type_ && has_numbers(vector, numbers)

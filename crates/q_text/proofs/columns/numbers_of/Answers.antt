@@ -1,5 +1,4 @@
-use Rattle.std.proofs.Common.{◌≡◌, ◌≤◌, ◌-◌, ◌+◌, ◌∙◌, sym, length, arith, true, false, Some, None}
-use Rattle.q_text.specs.Numbers.{joined, numbers_from, numbers_as}
+use Rattle.std.proofs.Common.{◌-◌, ◌∙◌, sym, arith, true, false}
 use Rattle.q_text.proofs.Joins.{push-read, numbers_from-step, numbers_from-fault, numbers_from-end}
 use Rattle.q_text.proofs.columns.numbers_of.Goals as goal
 

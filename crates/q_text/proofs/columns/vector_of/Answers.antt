@@ -1,4 +1,4 @@
-use Rattle.std.proofs.Common.{◌≡◌, ◌∙◌, ap, map, not, eqb, ◌%◌, unsigned_abs}
+use Rattle.std.proofs.Common.{◌∙◌, ap, map, not, eqb, ◌%◌, unsigned_abs}
 use Rattle.q_text.proofs.Atoms.{booleans-held, bytes-held}
 use Rattle.q_text.proofs.columns.vector_of.Goals as goal
 

@@ -1,4 +1,4 @@
-use Rattle.std.proofs.Common.{arith, pos, negsuc, ◌+ℤ◌, ◌≤ℤ◌}
+use Rattle.std.proofs.Common.{arith}
 use Rattle.jiff_core.proofs.SignedLemmas.{signed_arith}
 use Rattle.q_text.proofs.Calendars.{year_positive}
 use Rattle.q_text.proofs.dates.day_of_plant.Goals as goal

@@ -1,4 +1,4 @@
-use Rattle.std.proofs.Common.{◌≡◌, ◌≤◌, ◌-◌, ◌++◌, length, drop}
+use Rattle.std.proofs.Common.{◌≡◌, ◌-◌, ◌++◌, length, drop}
 use Rattle.q_text.specs.Numbers.{bytes_of}
 use Rattle.q_text.proofs.numbers.push_bytes.Given as goal
 

@@ -1,5 +1,4 @@
-use Rattle.std.proofs.Common.{◌≡◌, ◌≤◌, arith, ◌∙◌, sym, length, drop, min, ◌+◌, ◌*◌}
-use Rattle.std.proofs.Math.ListN.{drop_of_length-le}
+use Rattle.std.proofs.Common.{◌≤◌, arith, ◌∙◌, length, ◌+◌}
 use Rattle.q_text.proofs.Spelling.{spelled-step, spelled-end, spelled-out, spelled-stop}
 use Rattle.q_text.proofs.numbers.spelled.Goals as goal
 

@@ -1,4 +1,4 @@
-use Rattle.std.proofs.Common.{◌≡◌, ◌≤◌, ◌-◌, ◌+◌, ◌∙◌, sym, length, arith, true, false}
+use Rattle.std.proofs.Common.{◌-◌, ◌∙◌, sym, length, arith}
 use Rattle.q_text.proofs.Followers.{counted-more, counted-none, counted-end}
 use Rattle.q_text.proofs.runs.followers.Goals as goal
 

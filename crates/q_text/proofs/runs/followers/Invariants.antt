@@ -1,6 +1,5 @@
-use Rattle.std.proofs.Common.{length, ◌-◌, ◌≡◌, ◌≤◌, ◌+◌}
+use Rattle.std.proofs.Common.{length, ◌-◌, ◌≡◌, ◌≤◌}
 use Rattle.q_text.specs.Runs.{followers}
-use Rattle.q_text.specs.declared.runs.Extent.{Extent}
 use Rattle.q_text.proofs.Followers.{counted}
 use Rattle.q_text.proofs.runs.followers.Given as goal
 

@@ -1,5 +1,4 @@
-use Rattle.std.proofs.Common.{◌≡◌, ◌≤◌, ◌+◌, ◌-◌, suc, arith, ◌∙◌, sym, length, take, true, false, get_or}
-use Rattle.q_text.specs.Words.{in_symbol, is_symbol}
+use Rattle.std.proofs.Common.{arith, ◌∙◌}
 use Rattle.q_text.proofs.Symbolic.{in_symbol-back, in_symbol-stop}
 use Rattle.q_text.proofs.words.ends_symbol.Goals as goal
 use Rattle.q_text.proofs.words.ends_symbol.Goals.{then-loop-place-test+else-is_symbol, else-loop-place-test}
@@ -13,5 +12,6 @@ loop-place-preserved c = record {
 pub returns-then-place-gt0 : goal.returns-then-place-gt0
 returns-then-place-gt0 c =
     elim c.loop-place-test.branch [
-      then-loop-place-test+else-is_symbol w ↦ in_symbol-stop c.args.text.now c.loop-place.place (omega arith) c.loop-place.invariant.within (cc) ∙ c.loop-place.invariant.value
-    | else-loop-place-test w ↦ absurd (omega arith) ]
+      | then-loop-place-test+else-is_symbol w ↦ in_symbol-stop c.args.text.now c.loop-place.place (omega arith) c.loop-place.invariant.within (cc) ∙ c.loop-place.invariant.value
+      | else-loop-place-test w ↦ absurd (omega arith)
+    ]
