@@ -29,9 +29,14 @@ any_same : (x : ℤ) (items : List ℤ) → list_any (λ y. int_eq (canonical x)
 any_same x [] = refl
 any_same x (y ∷ ys) = (λ i. same_worth x y i || any_same x ys i)
 
-pub among_same : (test : ℤ → Bool) (left items : List ℤ) → ((q : ℤ) → test q ≡ list_any (λ y. int_eq q (canonical y)) items) → map (λ x. test (canonical x)) left ≡ map (λ x. list_any (λ y. is_eq (worth_cmp (worth_in_64 x) (worth_in_64 y))) items) left
-among_same test [] items e = refl
-among_same test (x ∷ xs) items e = (λ i. (e (canonical x) ∙ any_same x items) i ∷ among_same test xs items e i)
+pub among_same : (left items : List ℤ) → map (λ x. list_any (λ y. int_eq (canonical x) (canonical y)) items) left ≡ map (λ x. list_any (λ y. is_eq (worth_cmp (worth_in_64 x) (worth_in_64 y))) items) left
+among_same [] items = refl
+among_same (x ∷ xs) items = (λ i. any_same x items i ∷ among_same xs items i)
+
+-- what a set of the items tells
+pub set_told : (test : ℤ → Bool) (left items : List ℤ) → ((q : ℤ) → test q ≡ list_any (λ y. int_eq q (canonical y)) items) → map (λ x. test (canonical x)) left ≡ map (λ x. list_any (λ y. int_eq (canonical x) (canonical y)) items) left
+set_told test [] items e = refl
+set_told test (x ∷ xs) items e = (λ i. e (canonical x) i ∷ set_told test xs items e i)
 
 any-mapped : {X W : Type 0} (p : W → Bool) (g : X → W) (items : List X) → list_any (λ y. p (g y)) items ≡ list_any p (map g items)
 any-mapped p g [] = refl

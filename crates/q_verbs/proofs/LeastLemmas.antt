@@ -1,6 +1,6 @@
 -- What min finds.
 use Rattle.std.proofs.Common.{◌≡◌, ◌≤ℤ◌, ◌<ℤ◌, ◌⊎◌, inl, inr, ⊎_elim, ℤ, cond, List, [], ◌∷◌, Option, Some, None, refl, sym, ap, ◌∙◌, subst, arith}
-use Rattle.std.specs.Prelude.{fold, is_some}
+use Rattle.std.specs.Prelude.{fold, is_some, unwrap_or}
 use Rattle.std.specs.declared.cmp.Ordering.{Ordering}
 use Rattle.std.specs.declared.cmp.Ordering.TheVariants.{Less, Equal, Greater}
 use Rattle.std.specs.Ordering.{MatchOrdering, int_cmp, nat_cmp, is_le, ordering_then}
@@ -11,7 +11,8 @@ use Rattle.q_values.specs.declared.atom.Atom.{Atom}
 use Rattle.q_verbs.specs.declared.verb.Verb.TheVariants as v
 use Rattle.q_verbs.specs.Numbers.{worth, number_cmp}
 use Rattle.q_verbs.specs.Places.{chosen}
-use Rattle.q_verbs.specs.Aggregates.{number_of, best_of, choose_present}
+use Rattle.q_values.specs.declared.kind.Kind.{Kind}
+use Rattle.q_verbs.specs.Aggregates.{number_of, best_of, choose_present, greatest}
 use Rattle.q_verbs.specs.Laws.{IsItem, NoneIsLess, LeastIsItem}
 
 abbrev Picked : Atom → Atom → Atom → ℤ → ℤ → Type 0
@@ -109,7 +110,37 @@ least_of : (xs : List Atom) (best : Atom) → fold step None xs ≡ Some best �
 least_of [] best e = cc
 least_of (x ∷ xs) best e = first_number x xs best (number_of x) refl (least_of xs best) e
 
-pub least_is_item : LeastIsItem
-least_is_item xs best e =
+abbrev Stays : List Atom → Type 0
+Stays xs = (b : Atom) → fold step (Some b) xs ≡ None → ⊥
+
+stays_over : (x : Atom) (xs : List Atom) (o : Option ℤ) → number_of x ≡ o → Stays xs → Stays (x ∷ xs)
+stays_over x xs None p rest b e = rest b (ap (λ s. fold step s xs) (sym (passed (Some b) x p)) ∙ e)
+stays_over x xs (Some z) p rest b e = rest (chosen v.Lesser b x) (ap (λ s. fold step s xs) (sym (taken (Some b) x z p)) ∙ e)
+
+-- where something was chosen, something stays chosen
+stays : (xs : List Atom) → Stays xs
+stays [] b e = cc
+stays (x ∷ xs) b e = stays_over x xs (number_of x) refl (stays xs) b e
+
+null_over : (m : ℤ) (x : Atom) (xs : List Atom) (o : Option ℤ) → number_of x ≡ o → (fold step None xs ≡ None → NoneIsLess m xs) → fold step None (x ∷ xs) ≡ None → NoneIsLess m (x ∷ xs)
+null_over m x xs None p rest e = ((λ z q. absurd (not_null x z p q)), rest (ap (λ s. fold step s xs) (sym (passed None x p)) ∙ e))
+null_over m x xs (Some z) p rest e = absurd (stays xs x (ap (λ s. fold step s xs) (sym (taken None x z p)) ∙ e))
+
+-- where nothing is chosen, no item has a number
+all_null : (m : ℤ) (xs : List Atom) → fold step None xs ≡ None → NoneIsLess m xs
+all_null m [] e = tt
+all_null m (x ∷ xs) e = null_over m x xs (number_of x) refl (all_null m xs) e
+
+abbrev Given : Kind → List Atom → Option Atom → Type 0
+Given kind xs o =
+    (IsItem (unwrap_or o (greatest kind)) xs ⊎ (unwrap_or o (greatest kind) ≡ greatest kind))
+    × ((m : ℤ) → number_of (unwrap_or o (greatest kind)) ≡ Some m → NoneIsLess m xs)
+
+given_by : (kind : Kind) (xs : List Atom) (o : Option Atom) → fold step None xs ≡ o → Given kind xs o
+given_by kind xs None e = (inr refl, λ m q. all_null m xs e)
+given_by kind xs (Some best) e =
     let r = least_of xs best e in
-    (r.item, λ m q. subst (λ t. NoneIsLess t xs) (one_number best r.least m r.is q) r.none)
+    (inl r.item, λ m q. subst (λ t. NoneIsLess t xs) (one_number best r.least m r.is q) r.none)
+
+pub least_is_item : LeastIsItem
+least_is_item kind xs = given_by kind xs (fold step None xs) refl

@@ -2,6 +2,7 @@
 use Rattle.std.proofs.Common.{◌≡◌, ℕ, zero, suc, ◌+◌, ◌-◌, ◌<◌, ◌≤◌, ◌⊎◌, ⊎_elim, Bool, true, false, ◌&&◌, ◌||◌, ◌==◌, if◌then◌else◌, List, [], ◌∷◌, length, get_or, drop, refl, sym, ap, ◌∙◌, subst, arith}
 use Rattle.std.specs.List.{list_any}
 use Rattle.std.proofs.lemmas.List.{drop_more}
+use Rattle.q_verbs.proofs.LawLemmas.{any_bytes_match_all}
 use Rattle.q_verbs.specs.Like.{suffixes, fits_byte, one_byte, matches, IsRow}
 
 drop_end : (text : List ℕ) → drop (length text) text ≡ []
@@ -59,3 +60,36 @@ row_any p pattern text old new star size before places end =
     from (suc d) k e =
         let below : k < length text = omega arith in
         places k below ∙ (λ i. before.value k (omega arith) i || from d (k + 1) (omega arith) i) ∙ here k below
+
+first_byte : (p : ℕ) (pattern text : List ℕ) → (p == 42) ≡ false → matches (p ∷ pattern) text ≡ one_byte p (matches pattern) text
+first_byte p pattern text other = ap (λ b. if b then list_any (matches pattern) (suffixes text) else one_byte p (matches pattern) text) other
+
+byte_at : (pattern text : List ℕ) (i : ℕ) → i < length pattern → (get_or pattern i 0 == 42) ≡ false → matches (drop i pattern) (drop i text) ≡ one_byte (get_or pattern i 0) (matches (drop (i + 1) pattern)) (drop i text)
+byte_at pattern text i below other = ap (λ q. matches q (drop i text)) (drop_more pattern i 0 below) ∙ first_byte (get_or pattern i 0) (drop (i + 1) pattern) (drop i text) other
+
+two_bytes : (pattern text : List ℕ) (i : ℕ) → i < length pattern → i < length text → (get_or pattern i 0 == 42) ≡ false → matches (drop i pattern) (drop i text) ≡ (fits_byte (get_or pattern i 0) (get_or text i 0) && matches (drop (i + 1) pattern) (drop (i + 1) text))
+two_bytes pattern text i below within other = byte_at pattern text i below other ∙ ap (one_byte (get_or pattern i 0) (matches (drop (i + 1) pattern))) (drop_more text i 0 within)
+
+-- a byte of the pattern that fits leaves the rest to decide
+pub front_fits : (pattern text : List ℕ) (i : ℕ) → i < length pattern → i < length text → (get_or pattern i 0 == 42) ≡ false → fits_byte (get_or pattern i 0) (get_or text i 0) ≡ true → matches (drop i pattern) (drop i text) ≡ matches (drop (i + 1) pattern) (drop (i + 1) text)
+front_fits pattern text i below within other fits = two_bytes pattern text i below within other ∙ ap (λ b. b && matches (drop (i + 1) pattern) (drop (i + 1) text)) fits
+
+-- a byte that doesn't fit matches nothing
+pub front_other : (pattern text : List ℕ) (i : ℕ) → i < length pattern → i < length text → (get_or pattern i 0 == 42) ≡ false → fits_byte (get_or pattern i 0) (get_or text i 0) ≡ false → matches (drop i pattern) (drop i text) ≡ false
+front_other pattern text i below within other fits = two_bytes pattern text i below within other ∙ ap (λ b. b && matches (drop (i + 1) pattern) (drop (i + 1) text)) fits
+
+-- nor does one behind the text's end
+pub front_short : (pattern text : List ℕ) (i : ℕ) → i < length pattern → i ≡ length text → (get_or pattern i 0 == 42) ≡ false → matches (drop i pattern) (drop i text) ≡ false
+front_short pattern text i below end other = byte_at pattern text i below other ∙ ap (one_byte (get_or pattern i 0) (matches (drop (i + 1) pattern))) (ap (λ n. drop n text) end ∙ drop_end text)
+
+-- the empty pattern matches the empty text alone
+pub no_pattern : (pattern text : List ℕ) → length pattern ≡ 0 → (length text == 0) ≡ matches pattern text
+no_pattern [] [] e = refl
+no_pattern [] (b ∷ text) e = grind arith
+no_pattern (p ∷ pattern) text e = absurd (omega arith)
+
+-- a pattern that is `*` alone matches every text
+pub lone_star : (pattern text : List ℕ) → length pattern ≡ 1 → get_or pattern 0 0 ≡ 42 → matches pattern text ≡ true
+lone_star [] text size star = absurd (omega arith)
+lone_star (p ∷ []) text size star = ap (λ q. matches (q ∷ []) text) star ∙ any_bytes_match_all text
+lone_star (p ∷ q ∷ pattern) text size star = absurd (omega arith)

@@ -2,10 +2,11 @@
 use Rattle.std.specs.Prelude.{◌≡◌, ℕ, ℤ, pos, ◌+ℤ◌, ◌*ℤ◌, ◌≤ℤ◌, ◌<ℤ◌, Bool, true, not, ◌&&◌, ◌==◌, List, [], ◌∷◌, ◌++◌, map, Some, ◌⊎◌}
 use Rattle.std.specs.Int.{Width, int_wrap}
 use Rattle.q_values.specs.declared.atom.Atom.{Atom}
+use Rattle.q_values.specs.declared.kind.Kind.{Kind}
 use Rattle.q_verbs.specs.Numbers.{reduced}
-use Rattle.q_verbs.specs.declared.verb.Verb.TheVariants as v
-use Rattle.q_verbs.specs.Places.{quotient_of, remainder_of, multiple_of, chosen}
-use Rattle.q_verbs.specs.Aggregates.{total, number_of, chosen_of}
+use Rattle.q_verbs.specs.Places.{quotient_of, remainder_of, multiple_of}
+use Rattle.q_verbs.specs.declared.verb.Verb1.TheVariants as u
+use Rattle.q_verbs.specs.Aggregates.{total, number_of, greatest, aggregate_of}
 use Rattle.q_verbs.specs.Like.{matches}
 
 -- x = y * (x div y) + x mod y
@@ -15,6 +16,10 @@ DivisionIsWhole = (x y q r : ℤ) → quotient_of x y ≡ Some q → remainder_o
 -- a remainder lies from 0 to below a divisor above 0
 abbrev pub RemainderLiesBelow : Type 0
 RemainderLiesBelow = (x y r : ℤ) → pos 0 <ℤ y → remainder_of x y ≡ Some r → (pos 0 ≤ℤ r) × (r <ℤ y)
+
+-- a remainder lies from above a divisor below 0 to 0
+abbrev pub RemainderLiesAbove : Type 0
+RemainderLiesAbove = (x y r : ℤ) → y <ℤ pos 0 → remainder_of x y ≡ Some r → (y <ℤ r) × (r ≤ℤ pos 0)
 
 -- with a width above 0, xbar gives the greatest multiple of it that is not above the number
 abbrev pub BarIsGreatestMultiple : Type 0
@@ -34,9 +39,11 @@ abbrev pub NoneIsLess : ℤ → List Atom → Type 0
 NoneIsLess m [] = Unit {0}
 NoneIsLess m (x ∷ xs) = ((z : ℤ) → number_of x ≡ Some z → m ≤ℤ z) × NoneIsLess m xs
 
--- what min finds is an item, and no number of the list is less
+-- what min gives is an item or the greatest value of the kind, and no number of the list is less
 abbrev pub LeastIsItem : Type 0
-LeastIsItem = (xs : List Atom) (best : Atom) → chosen_of number_of (chosen v.Lesser) xs ≡ Some best → IsItem best xs × ((m : ℤ) → number_of best ≡ Some m → NoneIsLess m xs)
+LeastIsItem = (kind : Kind) (xs : List Atom) →
+    (IsItem (aggregate_of u.Min kind xs) xs ⊎ (aggregate_of u.Min kind xs ≡ greatest kind))
+    × ((m : ℤ) → number_of (aggregate_of u.Min kind xs) ≡ Some m → NoneIsLess m xs)
 
 -- a pattern without `*` and `?`
 abbrev pub is_plain : List ℕ → Bool

@@ -26,3 +26,9 @@ matches (p ∷ pattern) text = if p == 42 then list_any (matches pattern) (suffi
 pub record IsRow (test : List ℕ → Bool) (text : List ℕ) (row : List Bool) : Type 0 where
   pub size : length row ≡ length text + 1
   pub value : (k : ℕ) → k ≤ length text → slice_index_or row k false ≡ test (drop k text)
+
+-- so many bytes at the front of a pattern stand for as many bytes of a text, and the rest decides
+pub record IsFront (pattern text : List ℕ) (n : ℕ) : Type 0 where
+  pub in_pattern : n ≤ length pattern
+  pub in_text : n ≤ length text
+  pub rest : matches pattern text ≡ matches (drop n pattern) (drop n text)

@@ -19,6 +19,9 @@ use std::alloc::{AllocError, Global};
 use std::collections::HashSet;
 use std::hash::Hash;
 
+// So many items at most are compared one by one, which is quicker than a set.
+const FEW: usize = 12;
+
 // A number that the prover knows to be the least where it is a null.
 fn key_of(x: &i64) -> i64
     ensures { result ≡ canonical x.now }
@@ -53,13 +56,48 @@ fn among_set(alloc: Global, left: &[i64], set: &HashSet<i64>) -> Result<Vec<bool
     Ok(values)
 }
 
-fn among_numbers(alloc: Global, left: &[i64], items: &[i64]) -> Result<Vec<bool>, AllocError>
-    ensures { IfOk result (λ v. v.items ≡ map (λ x. list_any
-        (λ y. is_eq (worth_cmp (worth_in_64 x) (worth_in_64 y))) items.now) left.now) }
+// Whether the number is one of few items, told with no branch for each.
+fn is_one_of(items: &[i64], x: &i64) -> bool
+    ensures { result ≡ list_any (λ y. int_eq (canonical x.now) (canonical y)) items.now }
+{
+    let mut found = false;
+    for item in items {
+        found |= key_of(x) == key_of(item);
+    }
+    found
+}
+
+fn among_few(alloc: Global, left: &[i64], items: &[i64]) -> Result<Vec<bool>, AllocError>
+    ensures { IfOk result (λ v. v.items
+        ≡ map (λ x. list_any (λ y. int_eq (canonical x) (canonical y)) items.now) left.now) }
+{
+    let mut values = Vec::with_capacity(alloc, left.len())?;
+    for item in left {
+        values.push_reserved(is_one_of(items, item));
+    }
+    Ok(values)
+}
+
+fn among_many(alloc: Global, left: &[i64], items: &[i64]) -> Result<Vec<bool>, AllocError>
+    ensures { IfOk result (λ v. v.items
+        ≡ map (λ x. list_any (λ y. int_eq (canonical x) (canonical y)) items.now) left.now) }
 {
     let set = set_of_numbers(alloc, items)?;
     let values = among_set(alloc, left, &set)?;
     Ok(values)
+}
+
+fn among_numbers(alloc: Global, left: &[i64], items: &[i64]) -> Result<Vec<bool>, AllocError>
+    ensures { IfOk result (λ v. v.items ≡ map (λ x. list_any
+        (λ y. is_eq (worth_cmp (worth_in_64 x) (worth_in_64 y))) items.now) left.now) }
+{
+    if items.len() <= FEW {
+        let values = among_few(alloc, left, items)?;
+        Ok(values)
+    } else {
+        let values = among_many(alloc, left, items)?;
+        Ok(values)
+    }
 }
 
 fn set_of<T: Eq + Hash + Copy>(alloc: Global, items: &[T]) -> Result<HashSet<T>, AllocError>

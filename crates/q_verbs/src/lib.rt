@@ -30,4 +30,12 @@ pub use verb::{Verb, Verb1};
 pub use within::is_within;
 
 #[cfg(test)]
+mod kinds_rows;
+#[cfg(test)]
+mod one_side_rows;
+#[cfg(test)]
+mod table_test;
+#[cfg(test)]
 mod tests;
+#[cfg(test)]
+mod two_sides_rows;

@@ -1,9 +1,9 @@
 //! Whether symbols match a pattern.
-ghost use Rattle.std.specs.Prelude.{◌≡◌, ◌<◌, ◌+◌, ◌||◌, ◌&&◌, ◌∷◌, ℕ, List, Bool, true, false, [], vec_len, length, map, slice_index, slice_index_or, IfOk, OnOk};
+ghost use Rattle.std.specs.Prelude.{◌≡◌, ◌<◌, ◌+◌, ◌||◌, ◌&&◌, ◌∷◌, ℕ, List, Bool, true, false, [], vec_len, length, map, slice_index, slice_index_or, IfOk, OnOk, IfSome, IfNone};
 ghost use Rattle.q_values.specs.declared.atom.Atom.TheVariants as a;
 ghost use Rattle.q_values.specs.declared.kind.Kind.TheVariants as k;
 ghost use Rattle.q_verbs.specs.Numbers.{worth};
-ghost use Rattle.q_verbs.specs.Like.{fits_byte, matches, IsRow};
+ghost use Rattle.q_verbs.specs.Like.{fits_byte, matches, IsRow, IsFront};
 
 use crate::comparison::booleans;
 use q_values::{Column, NoMemory, Symbols, Vector};
@@ -84,13 +84,67 @@ fn step_all(row: &mut [bool], pattern: &[u8], text: &[u8])
     }
 }
 
-fn is_match(row: &mut Vec<bool>, pattern: &[u8], text: &[u8]) -> Result<bool, AllocError>
+// Row by row, from the end of the pattern to its front.
+fn is_match_by_rows(
+    row: &mut Vec<bool>,
+    pattern: &[u8],
+    text: &[u8],
+) -> Result<bool, AllocError>
     ensures { IfOk result (λ b. b ≡ matches pattern.now text.now) }
 {
     end_row(row, text.len())?;
     let cells = row.as_mut_slice();
     step_all(cells, pattern, text);
     Ok(cells[0])
+}
+
+// How many bytes at the front of the pattern, up to its first `*`, stand for as many bytes of the text; none where one
+// of them doesn't.
+fn front_len(pattern: &[u8], text: &[u8]) -> Option<usize>
+    ensures some { IfSome result (IsFront pattern.now text.now) }
+    ensures none { IfNone result (matches pattern.now text.now ≡ false) }
+{
+    for i in 0..pattern.len() {
+        if pattern[i] == ANY_BYTES {
+            return Some(i);
+        }
+        if i == text.len() {
+            return None;
+        }
+        if !fits(pattern[i], text[i]) {
+            return None;
+        }
+    }
+    Some(pattern.len())
+}
+
+// What is left of a pattern behind its front: nothing, one `*`, or more.
+fn is_match_of_rest(
+    row: &mut Vec<bool>,
+    pattern: &[u8],
+    text: &[u8],
+) -> Result<bool, AllocError>
+    ensures { IfOk result (λ b. b ≡ matches pattern.now text.now) }
+{
+    if pattern.is_empty() {
+        return Ok(text.is_empty());
+    }
+    if pattern.len() == 1 && pattern[0] == ANY_BYTES {
+        return Ok(true);
+    }
+    is_match_by_rows(row, pattern, text)
+}
+
+fn is_match(row: &mut Vec<bool>, pattern: &[u8], text: &[u8]) -> Result<bool, AllocError>
+    ensures { IfOk result (λ b. b ≡ matches pattern.now text.now) }
+{
+    match front_len(pattern, text) {
+        Some(n) => {
+            let found = is_match_of_rest(row, &pattern[n..], &text[n..])?;
+            Ok(found)
+        }
+        None => Ok(false),
+    }
 }
 
 fn like_symbols(alloc: Global, items: &Symbols, pattern: &[u8]) -> Result<Vec<bool>, AllocError>
@@ -105,7 +159,8 @@ fn like_symbols(alloc: Global, items: &Symbols, pattern: &[u8]) -> Result<Vec<bo
 }
 
 /// Whether each symbol matches the pattern (KX, like): `*` stands for any bytes, `?` for any one byte, another byte for
-/// itself. The time of one symbol is the product of its length and the pattern's at most.
+/// itself. The time of one symbol is the product of its length and the pattern's at most, and without a `*` but at the
+/// pattern's end it is the lesser of the two lengths.
 pub fn is_like(alloc: Global, left: &Vector, pattern: &[u8]) -> Result<Vector, NoMemory>
     requires { left.now.kind ≡ k.Symbol }
     ensures { IfOk result (λ v. v ≡ record {

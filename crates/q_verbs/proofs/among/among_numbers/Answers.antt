@@ -1,8 +1,9 @@
 use Rattle.std.proofs.Common.{◌∙◌}
-use Rattle.std.specs.Ordering.{int_eq}
-use Rattle.std.specs.HashSet.{contains}
 use Rattle.q_verbs.proofs.AmongLemmas.{among_same}
 use Rattle.q_verbs.proofs.among.among_numbers.Goals as goal
 
-pub returns : goal.returns
-returns c = c.in_ok-values.ensures ∙ among_same (contains int_eq c.in_ok-set.set) c.args.left.now c.args.items.now c.in_ok-set.ensures
+pub returns-in_ok-values : goal.returns-in_ok-values
+returns-in_ok-values c = c.in_ok-values.ensures ∙ among_same c.args.left.now c.args.items.now
+
+pub returns-in_ok-values-2 : goal.returns-in_ok-values-2
+returns-in_ok-values-2 c = c.in_ok-values-2.ensures ∙ among_same c.args.left.now c.args.items.now
