@@ -22,7 +22,8 @@ CALLS = (
     ("longs", "plus", "x+y"),
     ("longs", "above", "x>y"),
     ("longs", "in", "x in five"),
-    ("symbols", "like", 'x like "S4*"'),
+    ("symbols", "in", "s in five"),
+    ("symbols", "like", 's like "S4*"'),
 )
 
 

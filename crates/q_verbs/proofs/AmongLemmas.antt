@@ -1,6 +1,8 @@
 -- Equality of numbers and of what they are worth.
-use Rattle.std.proofs.Common.{◌≡◌, ℤ, Bool, List, [], ◌∷◌, ◌||◌, map, refl, sym, ap, ◌∙◌, arith}
-use Rattle.std.proofs.Common.{ℕ}
+use Rattle.std.proofs.Common.{◌≡◌, ◌<◌, ◌+◌, ℕ, ℤ, Bool, true, false, List, [], ◌∷◌, ◌||◌, length, get_or, take, map, refl, sym, ap, ◌∙◌, arith, Some, slice_get}
+use Rattle.std.proofs.lemmas.List.{take_more}
+use Rattle.std.proofs.lemmas.List.Folds.{list_any-append}
+use Rattle.std.proofs.lemmas.Option.{get_or_from_slice_get}
 use Rattle.std.specs.Prelude.{nat_eq}
 use lib.Pointwise.{pointwise}
 use Rattle.std.specs.Cmp.Lexicographic.{slice_cmp, lists_ties}
@@ -37,6 +39,17 @@ among_same (x ∷ xs) items = (λ i. any_same x items i ∷ among_same xs items 
 pub set_told : (test : ℤ → Bool) (left items : List ℤ) → ((q : ℤ) → test q ≡ list_any (λ y. int_eq q (canonical y)) items) → map (λ x. test (canonical x)) left ≡ map (λ x. list_any (λ y. int_eq (canonical x) (canonical y)) items) left
 set_told test [] items e = refl
 set_told test (x ∷ xs) items e = (λ i. e (canonical x) i ∷ set_told test xs items e i)
+
+or_false : (b : Bool) → (b || false) ≡ b
+or_false true = refl
+or_false false = refl
+
+-- one more item, where a call read it
+pub any_more_read : {X : Type 0} (p : X → Bool) (xs : List X) (i : ℕ) (x : X) → i < length xs → slice_get xs i ≡ Some x → list_any p (take (i + 1) xs) ≡ (list_any p (take i xs) || p x)
+any_more_read p xs i x h e =
+    ap (list_any p) (take_more xs i x h)
+    ∙ list_any-append p (take i xs) (get_or xs i x ∷ [])
+    ∙ ap (λ b. list_any p (take i xs) || b) (or_false (p (get_or xs i x)) ∙ ap p (get_or_from_slice_get xs i x x e))
 
 any-mapped : {X W : Type 0} (p : W → Bool) (g : X → W) (items : List X) → list_any (λ y. p (g y)) items ≡ list_any p (map g items)
 any-mapped p g [] = refl

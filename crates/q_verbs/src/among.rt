@@ -135,7 +135,49 @@ pub(crate) fn texts_of(alloc: Global, symbols: &Symbols) -> Result<Vec<&[u8]>, A
     Ok(texts)
 }
 
+fn is_one_of_symbols(items: &Symbols, x: &[u8]) -> bool
+    ensures { result ≡ list_any (λ t. is_eq (slice_cmp nat_cmp x.now t)) items.now }
+{
+    let mut found = false;
+    for i in 0..items.len() {
+        found |= x == items.at(i);
+    }
+    found
+}
+
+fn among_few_symbols(
+    alloc: Global,
+    left: &Symbols,
+    items: &Symbols,
+) -> Result<Vec<bool>, AllocError>
+    ensures { IfOk result (λ v. v.items
+        ≡ map (λ s. list_any (λ t. is_eq (slice_cmp nat_cmp s t)) items.now) left.now) }
+{
+    let mut values = Vec::with_capacity(alloc, left.len())?;
+    for i in 0..left.len() {
+        values.push_reserved(is_one_of_symbols(items, left.at(i)));
+    }
+    Ok(values)
+}
+
 fn among_symbols(alloc: Global, left: &Symbols, items: &Symbols) -> Result<Vec<bool>, AllocError>
+    ensures { IfOk result (λ v. v.items
+        ≡ map (λ s. list_any (λ t. is_eq (slice_cmp nat_cmp s t)) items.now) left.now) }
+{
+    if items.len() <= FEW {
+        let values = among_few_symbols(alloc, left, items)?;
+        Ok(values)
+    } else {
+        let values = among_many_symbols(alloc, left, items)?;
+        Ok(values)
+    }
+}
+
+fn among_many_symbols(
+    alloc: Global,
+    left: &Symbols,
+    items: &Symbols,
+) -> Result<Vec<bool>, AllocError>
     ensures { IfOk result (λ v. v.items
         ≡ map (λ s. list_any (λ t. is_eq (slice_cmp nat_cmp s t)) items.now) left.now) }
 {

@@ -57,3 +57,12 @@ pub fn symbols(alloc: Global, count: u32) -> Result<Vector> {
     }
     Ok(items)
 }
+
+/// Five of the symbols.
+pub fn five_symbols(alloc: Global) -> Result<Vector> {
+    let mut items = Vector::new(alloc, Kind::Symbol);
+    for name in ["S002", "S003", "S005", "S007", "S011"] {
+        items.push(Atom::Symbol(Sym::of(alloc, name.as_bytes())?))?;
+    }
+    Ok(items)
+}

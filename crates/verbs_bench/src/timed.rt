@@ -76,7 +76,13 @@ fn binary_timed<R: Clock + Print>(
     Ok(())
 }
 
-fn in_timed<R: Clock + Print>(rt: &R, alloc: Global, left: &Vector, items: &Vector) -> Result<()> {
+fn in_timed<R: Clock + Print>(
+    rt: &R,
+    alloc: Global,
+    what: &str,
+    left: &Vector,
+    items: &Vector,
+) -> Result<()> {
     if result_kind(Verb::In, left.kind(), items.kind()).is_none() {
         bail!("no such kinds");
     }
@@ -84,7 +90,7 @@ fn in_timed<R: Clock + Print>(rt: &R, alloc: Global, left: &Vector, items: &Vect
     let found = is_in(alloc, left, items)?;
     let nanos = start.elapsed(rt)?.as_nanos();
     let sum = sum_of(alloc, &found)?;
-    println!(rt; "longs in {nanos} {sum}")?;
+    println!(rt; "{what} in {nanos} {sum}")?;
     Ok(())
 }
 
@@ -126,7 +132,7 @@ fn codes_reported<R: Clock + Print>(rt: &R, alloc: Global, count: u32) -> Result
     let codes = made::codes(alloc, count)?;
     let five = made::five(alloc)?;
     for _ in 0..ROUNDS {
-        in_timed(rt, alloc, &codes, &five)?;
+        in_timed(rt, alloc, "longs", &codes, &five)?;
     }
     Ok(())
 }
@@ -138,11 +144,13 @@ pub fn report_longs<R: Clock + Print + AllocGlobal>(rt: &R, count: u32) -> Resul
     Ok(())
 }
 
-/// Times `like` over so many symbols.
+/// Times `in` and `like` over so many symbols.
 pub fn report_symbols<R: Clock + Print + AllocGlobal>(rt: &R, count: u32) -> Result<()> {
     let alloc = rt.alloc();
     let items = made::symbols(alloc, count)?;
+    let five = made::five_symbols(alloc)?;
     for _ in 0..ROUNDS {
+        in_timed(rt, alloc, "symbols", &items, &five)?;
         like_timed(rt, alloc, &items)?;
     }
     Ok(())

@@ -6,7 +6,7 @@ use Rattle.std.specs.Cmp.Lexicographic.{slice_cmp}
 use Rattle.std.specs.HashSet.{contains}
 use lib.Pointwise.{pointwise}
 use Rattle.q_verbs.proofs.AmongLemmas.{among_read, text_ties}
-use Rattle.q_verbs.proofs.among.among_symbols.Goals as goal
+use Rattle.q_verbs.proofs.among.among_many_symbols.Goals as goal
 
 pub returns : goal.returns
 returns c =
