@@ -1,4 +1,4 @@
-//! The kinds of the verbs' results, worked out by hand, as the letters of the kinds (KX, Datatypes reference).
+//! The kinds of the verbs' results, worked out apart from this code, as the letters of the kinds (KX, Datatypes reference).
 //!
 //! A table has a line for each kind at the left and a letter for each kind at the right, both in the order of [`KINDS`];
 //! `.` stands where the verb takes no such kinds.

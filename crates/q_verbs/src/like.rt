@@ -85,11 +85,7 @@ fn step_all(row: &mut [bool], pattern: &[u8], text: &[u8])
 }
 
 // Row by row, from the end of the pattern to its front.
-fn is_match_by_rows(
-    row: &mut Vec<bool>,
-    pattern: &[u8],
-    text: &[u8],
-) -> Result<bool, AllocError>
+fn is_match_by_rows(row: &mut Vec<bool>, pattern: &[u8], text: &[u8]) -> Result<bool, AllocError>
     ensures { IfOk result (λ b. b ≡ matches pattern.now text.now) }
 {
     end_row(row, text.len())?;
@@ -119,11 +115,7 @@ fn front_len(pattern: &[u8], text: &[u8]) -> Option<usize>
 }
 
 // What is left of a pattern behind its front: nothing, one `*`, or more.
-fn is_match_of_rest(
-    row: &mut Vec<bool>,
-    pattern: &[u8],
-    text: &[u8],
-) -> Result<bool, AllocError>
+fn is_match_of_rest(row: &mut Vec<bool>, pattern: &[u8], text: &[u8]) -> Result<bool, AllocError>
     ensures { IfOk result (λ b. b ≡ matches pattern.now text.now) }
 {
     if pattern.is_empty() {

@@ -1,13 +1,15 @@
-//! Each verb over whole columns, against rows that were worked out by hand: at a null, at both ends of a kind, at a
-//! negative, at 0 and of no item.
+//! Each verb over whole columns, against rows that were worked out apart from this code: at a null, at both ends of a
+//! kind, at a negative, at 0 and of no item.
 ghost use Rattle.std.specs.Prelude.{◌≡◌};
 ghost use Rattle.q_verbs.specs.Places.{is_by_place};
 ghost use Rattle.q_verbs.specs.Lists.{is_unary};
 ghost use Rattle.q_verbs.specs.Aggregates.{is_aggregate};
 
 use crate::verb::{Verb, Verb1};
-use crate::{aggregate, binary, is_in, is_like, is_within, result_kind, result_kind1, unary};
-use crate::{kinds_rows, one_side_rows, two_sides_rows};
+use crate::{
+    aggregate, binary, is_in, is_like, is_within, kinds_rows, one_side_rows, result_kind,
+    result_kind1, two_sides_rows, unary,
+};
 use q_values::{Atom, Column, Kind, NoMemory, Sym, Symbols, Vector};
 use std::alloc::Global;
 use std::test::Fail;
@@ -395,7 +397,11 @@ fn each_row_of_the_verbs(rt: HostRuntime) -> Result<(), Fail> {
         assert_eq!(rt; first_wrong(rt.alloc(), verb, rows)?, None, "{verb:?}");
     }
     for (verb, rows) in one_side_rows::ONE_SIDE {
-        assert_eq!(rt; first_wrong_of_one(rt.alloc(), verb, rows)?, None, "{verb:?}");
+        assert_eq!(rt;
+            first_wrong_of_one(rt.alloc(), verb, rows)?,
+            None,
+            "{verb:?}"
+        );
     }
     Ok(())
 }

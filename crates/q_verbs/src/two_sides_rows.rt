@@ -1,4 +1,4 @@
-//! The rows of the verbs with two sides, worked out by hand.
+//! The rows of the verbs with two sides, worked out apart from this code.
 //!
 //! A row is the left column, the right column and the result, each as the letter of its kind (KX, Datatypes reference)
 //! and its items: `0N` is the null, `0W` the greatest value of the kind, and a symbol has a backtick in front. At the right

@@ -7,9 +7,7 @@ ghost use Rattle.q_verbs.specs.Places.{is_by_place};
 use crate::made;
 use anyhow::{Result, bail};
 use q_values::{Atom, Kind, Vector};
-use q_verbs::{
-    Verb, Verb1, aggregate, binary, is_in, is_like, result_kind, result_kind1,
-};
+use q_verbs::{Verb, Verb1, aggregate, binary, is_in, is_like, result_kind, result_kind1};
 use std::alloc::Global;
 use std::rt::Clock;
 use std::time::Instant;
