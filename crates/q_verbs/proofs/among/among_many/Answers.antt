@@ -1,4 +1,4 @@
-use Rattle.std.proofs.Common.{ap, ◌∙◌}
+use Rattle.std.proofs.Common.{◌∙◌}
 use Rattle.std.specs.Ordering.{int_eq}
 use Rattle.std.specs.HashSet.{contains}
 use Rattle.q_verbs.proofs.AmongLemmas.{set_told}
