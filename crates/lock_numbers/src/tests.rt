@@ -1,7 +1,7 @@
 ghost use Rattle.std.specs.Prelude.{◌≡◌, ◌<◌, ◌-◌, ◌^◌, IfOk};
 
 use crate::{Asker, Numbers, add, add_all, push_both};
-use plant_lock::{NewFailure, PlantLock};
+use plant_lock::PlantLock;
 use std::alloc::{AllocError, Global};
 use std::sync::Wait;
 use std::test::Fail;
@@ -17,7 +17,7 @@ fn opened<R>(rt: &R, alloc: Global, first: u64) -> Result<(PlantLock<Numbers>, A
     };
     match PlantLock::new(rt, alloc, empty, first) {
         Ok(made) => Ok(made),
-        Err(NewFailure::NoMemory(_empty)) => Err(AllocError),
+        Err(_failure) => Err(AllocError),
     }
 }
 

@@ -2,7 +2,6 @@
 ghost use Rattle.std.specs.Prelude.{◌≡◌, ◌-◌, ◌<◌, ◌^◌, max, [], ◌∷◌, All, Some, IfOk, IfErr};
 ghost use mathlib.Core.List.{IsPrefix};
 ghost use Rattle.plant_lock.specs.Entries.{own, longer};
-ghost use Rattle.plant_lock.specs.declared.lock.NewFailure.TheVariants.{NoMemory};
 
 use crate::board::{Board, Place, Start};
 use crate::chronicle::Chronicle;
@@ -47,17 +46,17 @@ impl<S: Chronicle> Model for PlantLock<S> {
     ghost invariant = { λ l. IsSized l.table.shared.table_id };
 }
 
-/// Why there is no lock. The state comes back.
+/// There was no memory for a lock. The state comes back.
 #[derive(Debug, Drop)]
-pub enum NewFailure<S> {
-    /// There was no memory for it.
-    NoMemory(S),
+pub struct NewFailure<S> {
+    /// The state that was given.
+    pub back: S,
 }
 
 // The state as the one slot of a table.
 fn one_slot<S>(alloc: Global, state: S) -> Result<Vec<Option<S>>, NewFailure<S>>
     ensures ok { IfOk result (λ v. v.items ≡ Some state ∷ []) }
-    ensures err { IfErr result (λ e. e ≡ NoMemory state) }
+    ensures err { IfErr result (λ e. e.back ≡ state) }
 {
     let mut slots = Vec::new(alloc);
     match slots.push(Some(state)) {
@@ -66,7 +65,7 @@ fn one_slot<S>(alloc: Global, state: S) -> Result<Vec<Option<S>>, NewFailure<S>>
             let AllocFailed { value } = failed;
             slots.destroy_empty();
             match value {
-                Some(state) => Err(NewFailure::NoMemory(state)),
+                Some(back) => Err(NewFailure { back }),
                 None => unreachable!(),
             }
         }
@@ -102,7 +101,7 @@ impl<S: Chronicle> PlantLock<S> {
         ensures lock { IfOk result (λ r. r.0.made ≡ state) }
         ensures pass { IfOk result (λ r. r.1 ≡ record { lock = r.0.id; number = first; latest = first; seen = S.entries state; mine = [] }) }
         ensures own { IfOk result (λ r. own S.by r.1.number r.1.seen ≡ r.1.mine) }
-        ensures back { IfErr result (λ e. e ≡ NoMemory state) }
+        ensures back { IfErr result (λ e. e.back ≡ state) }
     {
         let about = Start {
             state: Snapshot::of(&state),
@@ -118,7 +117,9 @@ impl<S: Chronicle> PlantLock<S> {
                 let sleepers = AtomicU64::new(0);
                 Ok((PlantLock { table, sleepers }, Pass::of_seat(seat, first)))
             }
-            Err(Refused { slots }) => Err(NewFailure::NoMemory(state_of(slots))),
+            Err(Refused { slots }) => Err(NewFailure {
+                back: state_of(slots),
+            }),
         }
     }
 
