@@ -1,0 +1,10 @@
+pub mod Columns
+pub mod Complete
+pub mod Sound
+pub mod Live
+pub mod Faults
+pub mod Once
+pub mod Verdicts
+pub mod Words
+pub mod Lists
+pub mod Lexed

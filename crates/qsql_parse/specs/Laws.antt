@@ -1,0 +1,14 @@
+-- What holds of the grammar, in other words.
+use Rattle.std.specs.Prelude.{◌≡◌, ℕ, List}
+use Rattle.qsql_parse.specs.Forms.{RequestForm}
+use Rattle.qsql_parse.specs.Tokens.{Token}
+use Rattle.qsql_parse.specs.Grammar.{IsRequest}
+use Rattle.qsql_parse.specs.Verdicts.{Verdict, IsVerdict}
+
+-- tokens are one request at most
+abbrev pub OneRequest : Type 0
+OneRequest = (tokens : List Token) (some other : RequestForm) → IsRequest tokens some → IsRequest tokens other → some ≡ other
+
+-- a text has one verdict at most
+abbrev pub OneVerdict : Type 0
+OneVerdict = (text : List ℕ) (some other : Verdict) → IsVerdict text some → IsVerdict text other → some ≡ other

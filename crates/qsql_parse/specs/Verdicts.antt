@@ -1,0 +1,74 @@
+-- What the language says of a text: its request, or the first refusal that holds.
+use Rattle.std.specs.Prelude.{◌≡◌, ◌≤◌, ◌<◌, ℕ, ◌+◌, ◌-◌, nat_lt, ◌||◌, Bool, true, false, List, [], ◌∷◌, length, Result, Ok, Err, ◌⊎◌}
+use Rattle.qsql_parse.specs.Forms.{RequestForm}
+use Rattle.qsql_parse.specs.Views.{request_of}
+use Rattle.qsql_parse.specs.Tokens.{Token, mark, Placed, AreTokens, IsTokenFault, only_tokens}
+use Rattle.qsql_parse.specs.Grammar.{IsRequest, IsFault}
+use Rattle.qsql_parse.specs.Unbuilt.{is_unbuilt}
+use Rattle.qsql_parse.specs.declared.token.Mark.{Mark}
+use Rattle.qsql_parse.specs.declared.token.Mark.TheVariants as m
+use Rattle.qsql_parse.specs.declared.request.Request.{Request}
+use Rattle.qsql_parse.specs.declared.refusal.ParseRefusal.{ParseRefusal}
+use Rattle.qsql_parse.specs.declared.refusal.ParseRefusal.TheVariants as r
+
+-- how many brackets are open behind a sign: a closing one closes the last open one, of whatever kind
+abbrev pub open_behind_mark : ℕ → Mark → ℕ
+open_behind_mark depth m.Left = depth + 1
+open_behind_mark depth m.Open = depth + 1
+open_behind_mark depth m.Right = depth - 1
+open_behind_mark depth m.Close = depth - 1
+open_behind_mark depth _ = depth
+
+abbrev pub open_behind : ℕ → Token → ℕ
+open_behind depth (mark which) = open_behind_mark depth which
+open_behind depth _ = depth
+
+-- whether more than 64 brackets are open behind one of the tokens
+abbrev pub nests : ℕ → List Token → Bool
+nests depth [] = false
+nests depth (t ∷ ts) = nat_lt 64 (open_behind depth t) || nests (open_behind depth t) ts
+
+-- more than 1,024 tokens, or brackets deeper than 64
+abbrev pub is_too_much : List Token → Bool
+is_too_much tokens = nat_lt 1024 (length tokens) || nests 0 tokens
+
+-- the text has these tokens, within the limits
+abbrev pub HasTokens : List ℕ → List Placed → Type 0
+HasTokens text placed = (length text ≤ 65536) × AreTokens text 0 placed × (is_too_much (only_tokens placed) ≡ false)
+
+-- the text asks for this
+abbrev pub IsText : List ℕ → RequestForm → Type 0
+IsText text request = (placed : List Placed) × HasTokens text placed × IsRequest (only_tokens placed) request
+
+-- what the language says of a text
+pub data Verdict : Type 0 where
+  asks : RequestForm → Verdict
+  too_much : Verdict
+  -- at this place
+  no_request : ℕ → Verdict
+  not_built : Verdict
+
+abbrev pub IsVerdict : List ℕ → Verdict → Type 0
+IsVerdict text (asks request) = IsText text request × (is_unbuilt request ≡ false)
+IsVerdict text too_much = (65536 < length text) ⊎ ((placed : List Placed) × AreTokens text 0 placed × (is_too_much (only_tokens placed) ≡ true))
+IsVerdict text (no_request at) = (length text ≤ 65536) × (IsTokenFault text 0 at ⊎ ((placed : List Placed) × HasTokens text placed × IsFault placed (length text) at))
+IsVerdict text not_built = (request : RequestForm) × IsText text request × (is_unbuilt request ≡ true)
+
+-- a cause for each refusal; want of memory needs none
+abbrev pub RefusesText : List ℕ → ParseRefusal → Type 0
+RefusesText text r.Limit = IsVerdict text too_much
+RefusesText text (r.Parse at) = IsVerdict text (no_request at)
+RefusesText text r.Nyi = IsVerdict text not_built
+RefusesText text r.NoMemory = Unit {0}
+
+-- an answer gives this verdict; want of memory gives none
+abbrev pub Gives : Result Request ParseRefusal → Verdict → Type 0
+Gives (Ok request) verdict = verdict ≡ asks (request_of request)
+Gives (Err r.Limit) verdict = verdict ≡ too_much
+Gives (Err (r.Parse at)) verdict = verdict ≡ no_request at
+Gives (Err r.Nyi) verdict = verdict ≡ not_built
+Gives (Err r.NoMemory) verdict = Unit {0}
+
+-- where the language has a verdict on the text, the answer gives that one
+abbrev pub GivesOnly : List ℕ → Result Request ParseRefusal → Type 0
+GivesOnly text result = (verdict : Verdict) → IsVerdict text verdict → Gives result verdict

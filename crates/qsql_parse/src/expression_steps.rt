@@ -1,0 +1,126 @@
+//! Steps within expressions.
+ghost use Rattle.std.specs.Prelude.{◌≡◌};
+ghost use Rattle.qsql_parse.specs.States.{token_of, base_of, stack_of, Steps};
+ghost use Rattle.qsql_parse.specs.Views.{form};
+ghost use Rattle.qsql_parse.specs.Machine.{step_close, step_got, step_wanted, step_monad};
+ghost use Rattle.qsql_parse.specs.Tokens;
+
+use crate::outer_steps::at_sign;
+use crate::query_steps::behind_base;
+use crate::refusal::Stop;
+use crate::request::Expr;
+use crate::state::{ExpressionState, Stack, State};
+use crate::token::{Mark, Token};
+use q_values::{Atom, Value};
+use q_verbs::Verb1;
+use std::alloc::Global;
+
+/// Behind an expression that ends here: the verbs before it take it as their right side.
+pub fn behind_expression(
+    alloc: Global,
+    stack: Stack,
+    expr: Expr,
+    token: &Token,
+) -> Result<State, Stop>
+    ensures { Steps result (step_close (stack_of stack) (form expr) (token_of token.now)) }
+{
+    match stack {
+        Stack::Base(base) => behind_base(alloc, base, expr, token),
+        Stack::RightOf(verb, left, outer) => {
+            let both = Expr::Two(verb, Box::new(alloc, left)?, Box::new(alloc, expr)?);
+            behind_expression(alloc, Box::into_inner(outer), both, token)
+        }
+        Stack::Under(verb, outer) => {
+            let one = Expr::One(verb, Box::new(alloc, expr)?);
+            behind_expression(alloc, Box::into_inner(outer), one, token)
+        }
+        Stack::InBrackets(outer) => at_sign(
+            token,
+            Mark::Right,
+            State::InExpression(Box::into_inner(outer), ExpressionState::Got(expr)),
+        ),
+        Stack::Applied(verb, outer) => {
+            let one = Expr::One(verb, Box::new(alloc, expr)?);
+            at_sign(
+                token,
+                Mark::Close,
+                State::InExpression(Box::into_inner(outer), ExpressionState::Got(one)),
+            )
+        }
+        Stack::FirstOfTwo(verb, outer) => at_sign(
+            token,
+            Mark::Semicolon,
+            State::InExpression(
+                Stack::SecondOfTwo(verb, expr, outer),
+                ExpressionState::Wanted,
+            ),
+        ),
+        Stack::SecondOfTwo(verb, left, outer) => {
+            let both = Expr::Two(verb, Box::new(alloc, left)?, Box::new(alloc, expr)?);
+            at_sign(
+                token,
+                Mark::Close,
+                State::InExpression(Box::into_inner(outer), ExpressionState::Got(both)),
+            )
+        }
+    }
+}
+
+/// Behind a term: a verb wants its right side, and any other token ends the expression.
+pub fn behind_term(alloc: Global, expr: Expr, stack: Stack, token: &Token) -> Result<State, Stop>
+    ensures { Steps result (step_got (form expr) (stack_of stack) (token_of token.now)) }
+{
+    match token.verb() {
+        Some(verb) => Ok(State::InExpression(
+            Stack::RightOf(verb, expr, Box::new(alloc, stack)?),
+            ExpressionState::Wanted,
+        )),
+        None => behind_expression(alloc, stack, expr, token),
+    }
+}
+
+fn at_mark(alloc: Global, stack: Stack, mark: Mark) -> Result<State, Stop>
+    ensures { Steps result (step_wanted (stack_of stack) (Tokens.mark mark)) }
+{
+    match mark {
+        Mark::Left => Ok(State::InExpression(
+            Stack::InBrackets(Box::new(alloc, stack)?),
+            ExpressionState::Wanted,
+        )),
+        _ => Err(Stop::Here),
+    }
+}
+
+/// Before an expression.
+pub fn before_expression(alloc: Global, stack: Stack, token: Token) -> Result<State, Stop>
+    ensures { Steps result (step_wanted (stack_of stack) (token_of token)) }
+{
+    match token {
+        Token::Number(number) => Ok(State::InExpression(
+            stack,
+            ExpressionState::Got(Expr::Literal(Value::Atom(Atom::Long(number)))),
+        )),
+        Token::Literal(value) => Ok(State::InExpression(
+            stack,
+            ExpressionState::Got(Expr::Literal(value)),
+        )),
+        Token::Name(name) => Ok(State::InExpression(stack, ExpressionState::Got(Expr::Name(name)))),
+        Token::Monad(verb) => Ok(State::InExpression(stack, ExpressionState::MonadRead(verb))),
+        Token::Sign(_) => Err(Stop::Here),
+        Token::Dyad(verb) => Ok(State::InExpression(stack, ExpressionState::DyadRead(verb))),
+        Token::Word(_) => Err(Stop::Here),
+        Token::Mark(mark) => at_mark(alloc, stack, mark),
+    }
+}
+
+/// Behind a verb with one side.
+pub fn behind_monad(alloc: Global, verb: Verb1, stack: Stack, token: Token) -> Result<State, Stop>
+    ensures { Steps result (step_monad verb (stack_of stack) (token_of token)) }
+{
+    let outer = Box::new(alloc, stack)?;
+    if token.is(Mark::Open) {
+        Ok(State::InExpression(Stack::Applied(verb, outer), ExpressionState::Wanted))
+    } else {
+        before_expression(alloc, Stack::Under(verb, outer), token)
+    }
+}

@@ -1,0 +1,274 @@
+//! A request is read from its tokens, one after the other.
+ghost use Rattle.std.specs.Prelude.{◌≡◌, map, []};
+ghost use Rattle.qsql_parse.specs.States.{token_of, placed_of, state_of, query_state_of, expression_state_of, join_state_of, sub_state_of, outer_of, stack_of, Steps, Finds, IsFinished};
+ghost use Rattle.qsql_parse.specs.Views.{form, query_of, request_of};
+ghost use Rattle.qsql_parse.specs.Machine.{step, start, dyad_read, whole, whole_query, whole_base, whole_expr};
+ghost use Rattle.qsql_parse.specs.Reading.{reading, Reads};
+
+use crate::expression_steps::{before_expression, behind_monad, behind_term};
+use crate::outer_steps::{
+    at_sign, at_start, before_keys, before_names, before_query, before_source, before_tables,
+    behind_source,
+};
+use crate::query_steps::{
+    before_column, before_columns, before_number, before_table, behind_name, behind_number,
+    behind_table, behind_verb, with_condition,
+};
+use crate::refusal::{ParseRefusal, Stop};
+use crate::request::{Expr, Query, Request};
+use crate::state::{
+    Base, ExpressionState, JoinState, Outer, QueryState, Side, Stack, State, SubState,
+};
+use crate::token::{Mark, Placed, Token};
+use q_verbs::Verb;
+use std::alloc::Global;
+use std::collections::VecDeque;
+
+// A step within a query.
+fn next_in_query(
+    alloc: Global,
+    outer: Outer,
+    state: QueryState,
+    token: Token,
+) -> Result<State, Stop>
+    ensures { Steps result (step (query_state_of (outer_of outer) state) (token_of token)) }
+{
+    match state {
+        QueryState::VerbRead(exec) => behind_verb(alloc, outer, exec, token),
+        QueryState::NumberWanted(exec) => before_number(outer, exec, &token),
+        QueryState::NumberRead(exec, number) => behind_number(alloc, outer, exec, number, &token),
+        QueryState::ColumnsWanted(draft) => before_columns(alloc, outer, draft, token),
+        QueryState::ColumnWanted(draft, grouped) => {
+            before_column(alloc, outer, draft, grouped, token)
+        }
+        QueryState::NameRead(draft, grouped, name) => {
+            behind_name(alloc, outer, draft, grouped, name, &token)
+        }
+        QueryState::TableWanted(draft) => before_table(alloc, outer, draft, token),
+        QueryState::TableRead(query) => behind_table(alloc, outer, query, &token),
+    }
+}
+
+// A step behind a verb with two sides that is written before its brackets.
+fn behind_dyad(alloc: Global, verb: Verb, stack: Stack, token: &Token) -> Result<State, Stop>
+    ensures { Steps result (step (dyad_read verb (stack_of stack)) (token_of token.now)) }
+{
+    let outer = Box::new(alloc, stack)?;
+    at_sign(
+        token,
+        Mark::Open,
+        State::InExpression(Stack::FirstOfTwo(verb, outer), ExpressionState::Wanted),
+    )
+}
+
+// A step within an expression.
+fn next_in_expression(
+    alloc: Global,
+    stack: Stack,
+    state: ExpressionState,
+    token: Token,
+) -> Result<State, Stop>
+    ensures { Steps result (step (expression_state_of (stack_of stack) state) (token_of token)) }
+{
+    match state {
+        ExpressionState::Wanted => before_expression(alloc, stack, token),
+        ExpressionState::MonadRead(verb) => behind_monad(alloc, verb, stack, token),
+        ExpressionState::DyadRead(verb) => behind_dyad(alloc, verb, stack, &token),
+        ExpressionState::Got(expr) => behind_term(alloc, expr, stack, &token),
+    }
+}
+
+// A step within an as-of join.
+fn next_in_join(alloc: Global, state: JoinState, token: Token) -> Result<State, Stop>
+    ensures { Steps result (step (join_state_of state) (token_of token)) }
+{
+    match state {
+        JoinState::Begun => at_sign(&token, Mark::Open, State::InJoin(JoinState::KeysWanted)),
+        JoinState::KeysWanted => before_keys(alloc, &token),
+        JoinState::KeysRead(keys) => at_sign(
+            &token,
+            Mark::Semicolon,
+            State::InJoin(JoinState::SourceWanted(Side::ToLeft(keys))),
+        ),
+        JoinState::SourceWanted(side) => before_source(side, token),
+        JoinState::QueryWanted(side) => before_query(side, &token),
+        JoinState::SourceRead(side, source) => behind_source(side, source, &token),
+    }
+}
+
+// A step within a subscription.
+fn next_in_sub(alloc: Global, state: SubState, token: &Token) -> Result<State, Stop>
+    ensures { Steps result (step (sub_state_of state) (token_of token.now)) }
+{
+    match state {
+        SubState::Begun => at_sign(token, Mark::Open, State::InSub(SubState::TablesWanted)),
+        SubState::TablesWanted => before_tables(alloc, token),
+        SubState::TablesRead(tables) => at_sign(
+            token,
+            Mark::Semicolon,
+            State::InSub(SubState::NamesWanted(tables)),
+        ),
+        SubState::NamesWanted(tables) => before_names(alloc, tables, token),
+        SubState::NamesRead(sub) => at_sign(token, Mark::Close, State::Done(Request::Sub(sub))),
+    }
+}
+
+// What is read and wanted behind a token more.
+fn next_state(alloc: Global, state: State, token: Token) -> Result<State, Stop>
+    ensures { Steps result (step (state_of state) (token_of token)) }
+{
+    match state {
+        State::Start => at_start(&token),
+        State::InQuery(outer, state) => next_in_query(alloc, outer, state, token),
+        State::InExpression(stack, state) => next_in_expression(alloc, stack, state, token),
+        State::InJoin(state) => next_in_join(alloc, state, token),
+        State::InSub(state) => next_in_sub(alloc, state, &token),
+        State::Done(_) => Err(Stop::Here),
+    }
+}
+
+// A query that may end the text.
+fn whole_of_query(outer: Outer, query: Query) -> Result<Request, Stop>
+    ensures { Finds request_of result (whole_query (outer_of outer) (query_of query)) }
+{
+    match outer {
+        Outer::Alone => Ok(Request::Query(query)),
+        Outer::Bare(_) => Err(Stop::Here),
+        Outer::Bracketed(_) => Err(Stop::Here),
+    }
+}
+
+// An expression that may end the text.
+fn whole_of_expression(alloc: Global, stack: Stack, expr: Expr) -> Result<Request, Stop>
+    ensures { Finds request_of result (whole_expr (stack_of stack) (form expr)) }
+{
+    match stack {
+        Stack::Base(Base::Phrase(outer, query)) => {
+            let query = with_condition(query, expr)?;
+            whole_of_query(outer, query)
+        }
+        Stack::Base(Base::Column(_, _, _, _)) => Err(Stop::Here),
+        Stack::RightOf(verb, left, outer) => {
+            let both = Expr::Two(verb, Box::new(alloc, left)?, Box::new(alloc, expr)?);
+            whole_of_expression(alloc, Box::into_inner(outer), both)
+        }
+        Stack::Under(verb, outer) => {
+            let one = Expr::One(verb, Box::new(alloc, expr)?);
+            whole_of_expression(alloc, Box::into_inner(outer), one)
+        }
+        Stack::InBrackets(_) => Err(Stop::Here),
+        Stack::Applied(_, _) => Err(Stop::Here),
+        Stack::FirstOfTwo(_, _) => Err(Stop::Here),
+        Stack::SecondOfTwo(_, _, _) => Err(Stop::Here),
+    }
+}
+
+// The request of a query, where the text may end.
+fn whole_in_query(outer: Outer, state: QueryState) -> Result<Request, Stop>
+    ensures { Finds request_of result (whole (query_state_of (outer_of outer) state)) }
+{
+    match state {
+        QueryState::TableRead(query) => whole_of_query(outer, query),
+        QueryState::VerbRead(_) => Err(Stop::Here),
+        QueryState::NumberWanted(_) => Err(Stop::Here),
+        QueryState::NumberRead(_, _) => Err(Stop::Here),
+        QueryState::ColumnsWanted(_) => Err(Stop::Here),
+        QueryState::ColumnWanted(_, _) => Err(Stop::Here),
+        QueryState::NameRead(_, _, _) => Err(Stop::Here),
+        QueryState::TableWanted(_) => Err(Stop::Here),
+    }
+}
+
+// The expression that has been read, where it may end.
+fn finished(state: ExpressionState) -> Option<Expr>
+    ensures { IsFinished result state }
+{
+    match state {
+        ExpressionState::Got(expr) => Some(expr),
+        ExpressionState::Wanted => None,
+        ExpressionState::MonadRead(_) => None,
+        ExpressionState::DyadRead(_) => None,
+    }
+}
+
+// The request that an expression ends, where the text may end.
+fn whole_in_expression(alloc: Global, stack: Stack, state: ExpressionState) -> Result<Request, Stop>
+    ensures { Finds request_of result (whole (expression_state_of (stack_of stack) state)) }
+{
+    match finished(state) {
+        Some(expr) => whole_of_expression(alloc, stack, expr),
+        None => Err(Stop::Here),
+    }
+}
+
+// No as-of join may end before its bracket.
+fn whole_in_join(state: JoinState) -> Result<Request, Stop>
+    ensures { Finds request_of result (whole (join_state_of state)) }
+{
+    match state {
+        JoinState::Begun => Err(Stop::Here),
+        JoinState::KeysWanted => Err(Stop::Here),
+        JoinState::KeysRead(_) => Err(Stop::Here),
+        JoinState::SourceWanted(_) => Err(Stop::Here),
+        JoinState::QueryWanted(_) => Err(Stop::Here),
+        JoinState::SourceRead(_, _) => Err(Stop::Here),
+    }
+}
+
+// No subscription may end before its bracket.
+fn whole_in_sub(state: SubState) -> Result<Request, Stop>
+    ensures { Finds request_of result (whole (sub_state_of state)) }
+{
+    match state {
+        SubState::Begun => Err(Stop::Here),
+        SubState::TablesWanted => Err(Stop::Here),
+        SubState::TablesRead(_) => Err(Stop::Here),
+        SubState::NamesWanted(_) => Err(Stop::Here),
+        SubState::NamesRead(_) => Err(Stop::Here),
+    }
+}
+
+// The request that has been read, where the text may end.
+fn whole_of(alloc: Global, state: State) -> Result<Request, Stop>
+    ensures { Finds request_of result (whole (state_of state)) }
+{
+    match state {
+        State::Done(request) => Ok(request),
+        State::InQuery(outer, state) => whole_in_query(outer, state),
+        State::InExpression(stack, state) => whole_in_expression(alloc, stack, state),
+        State::InJoin(state) => whole_in_join(state),
+        State::InSub(state) => whole_in_sub(state),
+        State::Start => Err(Stop::Here),
+    }
+}
+
+// The request at the text's end.
+fn ended(alloc: Global, state: State, end: usize) -> Result<Request, ParseRefusal>
+    ensures { Reads result (reading (state_of state) [] end) }
+{
+    match whole_of(alloc, state) {
+        Ok(request) => Ok(request),
+        Err(Stop::Here) => Err(ParseRefusal::Parse(end)),
+        Err(Stop::NoMemory) => Err(ParseRefusal::NoMemory),
+    }
+}
+
+/// The request of these tokens of a text of so many bytes.
+pub fn read_request(
+    alloc: Global,
+    tokens: VecDeque<Placed>,
+    end: usize,
+) -> Result<Request, ParseRefusal>
+    ensures { Reads result (reading start (map placed_of tokens.items) end) }
+{
+    let mut tokens = tokens;
+    let mut state = State::Start;
+    while let Some(placed) = tokens.pop_front() {
+        match next_state(alloc, state, placed.token) {
+            Ok(next) => state = next,
+            Err(Stop::Here) => return Err(ParseRefusal::Parse(placed.place)),
+            Err(Stop::NoMemory) => return Err(ParseRefusal::NoMemory),
+        }
+    }
+    ended(alloc, state, end)
+}

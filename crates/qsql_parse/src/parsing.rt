@@ -1,0 +1,62 @@
+//! Texts become requests.
+ghost use Rattle.std.specs.Prelude.{◌≡◌, ◌≤◌, IfOk, IfErr, length, false};
+ghost use Rattle.qsql_parse.specs.Views.{request_of};
+ghost use Rattle.qsql_parse.specs.Unbuilt.{is_unbuilt};
+ghost use Rattle.qsql_parse.specs.Verdicts.{IsText, RefusesText, GivesOnly};
+
+use crate::lexing::read_tokens;
+use crate::limits::are_too_many;
+use crate::machine::read_request;
+use crate::refusal::ParseRefusal;
+use crate::request::Request;
+use crate::unbuilt::is_request_unbuilt;
+use std::alloc::Global;
+use std::collections::VecDeque;
+
+const LONGEST_TEXT: usize = 65_536;
+
+// The request of a text that is not too long.
+fn read_text(alloc: Global, text: &[u8]) -> Result<Request, ParseRefusal>
+    requires { length text.now ≤ 65536 }
+    ensures ok { IfOk result (λ request. IsText text.now (request_of request)) }
+    ensures refused { IfErr result (RefusesText text.now) }
+{
+    let tokens = read_tokens(alloc, text)?;
+    if are_too_many(&tokens) {
+        return Err(ParseRefusal::Limit);
+    }
+    read_request(alloc, VecDeque::from(tokens), text.len())
+}
+
+// What the text asks for, or why nothing.
+fn read_built(alloc: Global, text: &[u8]) -> Result<Request, ParseRefusal>
+    ensures ok { IfOk result (λ request. IsText text.now (request_of request) × (is_unbuilt (request_of request) ≡ false)) }
+    ensures refused { IfErr result (RefusesText text.now) }
+{
+    if text.len() > LONGEST_TEXT {
+        return Err(ParseRefusal::Limit);
+    }
+    let request = read_text(alloc, text)?;
+    if is_request_unbuilt(&request) {
+        Err(ParseRefusal::Nyi)
+    } else {
+        Ok(request)
+    }
+}
+
+/// The request of a text (KX, Reference card; Q for Mortals, 9).
+///
+/// A text is `select` or `exec`, `aj[keys;source;source]`, `.u.i`, `.u.d` or `.u.sub[tables;names]`. Expressions are read
+/// from right to left without precedence. A refusal is the first that holds, in the order of `ParseRefusal`; the place of
+/// `Parse` is counted in bytes from 0, and is that of the first byte that begins no token, or else of the first token that no
+/// request goes on with, or the text's length.
+pub fn parse(alloc: Global, text: &[u8]) -> Result<Request, ParseRefusal>
+    // What is read is what the text asks for, and is built.
+    ensures ok { IfOk result (λ request. IsText text.now (request_of request) × (is_unbuilt (request_of request) ≡ false)) }
+    // A refusal has its cause.
+    ensures refused { IfErr result (RefusesText text.now) }
+    // Where the text has a request that is built, or a cause for a refusal, the answer is that one; want of memory aside.
+    ensures exact { GivesOnly text.now result }
+{
+    read_built(alloc, text)
+}
