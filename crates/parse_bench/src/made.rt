@@ -11,7 +11,9 @@ fn filled(
     length: usize,
 ) -> Result<Vec<u8>, AllocError> {
     let mut text = Vec::from_slice(alloc, front)?;
-    let room = length.saturating_sub(front.len()).saturating_sub(back.len());
+    let room = length
+        .saturating_sub(front.len())
+        .saturating_sub(back.len());
     let pieces = room.checked_div(piece.len()).unwrap_or(0);
     for _ in 0..pieces {
         text.extend_from_slice(piece)?;
@@ -51,7 +53,13 @@ pub fn signs(alloc: Global, length: usize) -> Result<Vec<u8>, AllocError> {
 
 /// A sum of as many names as are allowed.
 pub fn sum(alloc: Global, verbs: usize) -> Result<Vec<u8>, AllocError> {
-    filled(alloc, b"select a", b"+a", b" from t", verbs.saturating_mul(2).saturating_add(15))
+    filled(
+        alloc,
+        b"select a",
+        b"+a",
+        b" from t",
+        verbs.saturating_mul(2).saturating_add(15),
+    )
 }
 
 /// As many columns as are allowed, whose names are compared.
