@@ -3,6 +3,7 @@
 
 mod characters;
 mod expression_steps;
+mod judging;
 mod keywords;
 pub mod laws;
 mod lexing;

@@ -1,10 +1,9 @@
 //! Whether a value is one for each row, one for all, or a list of its own.
 ghost use Rattle.std.specs.Prelude.{◌≡◌};
 ghost use Rattle.q_values.specs.Tree.{tree};
-ghost use Rattle.qsql_parse.specs.Views.{form};
+ghost use Rattle.qsql_parse.specs.Shapes.{literal_shape};
 ghost use Rattle.qsql_parse.specs.Shapes;
 
-use crate::request::Expr;
 use q_values::Value;
 use q_verbs::{Verb, Verb1};
 
@@ -34,7 +33,7 @@ fn is_atom(value: &Value) -> bool
     }
 }
 
-fn shape_of_one(verb: Verb1, side: Shape) -> Shape
+pub fn shape_of_one(verb: Verb1, side: Shape) -> Shape
     ensures { result ≡ Shapes.shape_of_one verb side }
 {
     match verb {
@@ -44,7 +43,7 @@ fn shape_of_one(verb: Verb1, side: Shape) -> Shape
     }
 }
 
-fn is_test(verb: Verb) -> bool
+pub fn is_test(verb: Verb) -> bool
     ensures { result ≡ Shapes.is_test verb }
 {
     matches!(verb, Verb::In | Verb::Within | Verb::Like)
@@ -68,7 +67,7 @@ pub fn is_rows(shape: Shape) -> bool
     matches!(shape, Shape::Rows)
 }
 
-fn shape_of_two(test: bool, left: Shape, right: Shape) -> Shape
+pub fn shape_of_two(test: bool, left: Shape, right: Shape) -> Shape
     ensures { result ≡ Shapes.shape_of_two test left right }
 {
     if test {
@@ -80,22 +79,13 @@ fn shape_of_two(test: bool, left: Shape, right: Shape) -> Shape
     }
 }
 
-/// The shape of an expression: a name is rows, a literal atom a scalar, a literal vector a list.
-pub fn shape_of(expr: &Expr) -> Shape
-    ensures { result ≡ Shapes.shape (form expr.now) }
+/// The shape of a literal: an atom is a scalar, and a vector a list.
+pub fn shape_of_value(value: &Value) -> Shape
+    ensures { result ≡ literal_shape (Shapes.is_atom (tree value.now)) }
 {
-    match expr {
-        Expr::Literal(value) => {
-            if is_atom(value) {
-                Shape::Scalar
-            } else {
-                Shape::List
-            }
-        }
-        Expr::Name(_) => Shape::Rows,
-        Expr::One(verb, side) => shape_of_one(*verb, shape_of(side)),
-        Expr::Two(verb, left, right) => {
-            shape_of_two(is_test(*verb), shape_of(left), shape_of(right))
-        }
+    if is_atom(value) {
+        Shape::Scalar
+    } else {
+        Shape::List
     }
 }
