@@ -1,6 +1,6 @@
 -- Drafts and queries with several columns and phrases more.
 use Rattle.std.proofs.Common.{◌≡◌, ℕ, ℤ, Bool, true, false, List, [], ◌∷◌, ◌++◌, Option, refl, sym, ap, ◌∙◌, append_assoc}
-use Rattle.qsql_parse.specs.Forms.{Form, ColumnForm, QueryForm}
+use Rattle.qsql_request.specs.Forms.{Form, ColumnForm, QueryForm}
 use Rattle.qsql_parse.specs.Machine.{DraftForm, grown, with_table, with_phrase, fresh}
 
 abbrev pub grown_all : DraftForm → Bool → List ColumnForm → DraftForm

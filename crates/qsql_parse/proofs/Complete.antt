@@ -2,12 +2,13 @@
 use Rattle.std.proofs.Common.{◌≡◌, ℕ, ℤ, Bool, true, false, List, [], ◌∷◌, Option, Some, None, refl, sym, ap, ◌∙◌}
 use Rattle.q_verbs.specs.declared.verb.Verb.{Verb}
 use Rattle.q_verbs.specs.declared.verb.Verb1.{Verb1}
-use Rattle.qsql_parse.specs.declared.token.Word.TheVariants as w
-use Rattle.qsql_parse.specs.declared.token.Mark.TheVariants as m
-use Rattle.qsql_parse.specs.Forms.{Form, one, two, ColumnForm, QueryForm, SourceForm, rows_of, RequestForm, sub_form}
-use Rattle.qsql_parse.specs.Tokens.{Token, number, literal, name, monad, sign, dyad, word, mark}
+use Rattle.qsql_tokens.specs.declared.token.Word.TheVariants as w
+use Rattle.qsql_tokens.specs.declared.token.Mark.TheVariants as m
+use Rattle.qsql_request.specs.Forms.{Form, one, two, ColumnForm, QueryForm, SourceForm, rows_of, RequestForm, sub_form}
+use Rattle.qsql_tokens.specs.Tokens.{Token, number, literal, name, monad, sign, dyad, word, mark}
 use Rattle.qsql_parse.specs.Grammar.{IsDyad, by_sign, by_word, IsExpr, of_term, dyadic, monadic, IsTerm, of_number, of_literal, of_name, in_parentheses, one_in_brackets, two_in_brackets, IsColumn, with_name, without_name, IsColumns, last_column, more_columns, IsPhrases, last_phrase, more_phrases, IsVerb, of_select, of_exec, IsFirst, no_first, some_first, IsSelected, no_selected, some_selected, IsBy, no_by, some_by, IsWhere, no_where, some_where, IsQuery, of_parts, IsSymbols, of_symbol, of_vector, IsSource, of_table, of_query, query_in_parentheses, IsRequest, query, asof, count, day, subscription, is_null_symbol}
-use Rattle.qsql_parse.specs.Machine.{DraftForm, SideForm, to_left, to_right, OuterForm, alone, bare, bracketed, of_column, of_phrase, StackForm, base, right_of, under, in_brackets, applied, first_of_two, second_of_two, StateForm, start, verb_read, columns_wanted, column_wanted, wanted, monad_read, got, table_wanted, table_read, keys_wanted, source_wanted, query_wanted, source_read, tables_wanted, verb_of, word_of, is_mark, is_where, symbols_of, grown, with_table, with_phrase, fresh, step, step_columns, step_end, whole_query, then_read, run}
+use Rattle.qsql_tokens.specs.Parts.{verb_of, word_of, is_mark}
+use Rattle.qsql_parse.specs.Machine.{DraftForm, SideForm, to_left, to_right, OuterForm, alone, bare, bracketed, of_column, of_phrase, StackForm, base, right_of, under, in_brackets, applied, first_of_two, second_of_two, StateForm, start, verb_read, columns_wanted, column_wanted, wanted, monad_read, got, table_wanted, table_read, keys_wanted, source_wanted, query_wanted, source_read, tables_wanted, is_where, symbols_of, grown, with_table, with_phrase, fresh, step, step_columns, step_end, whole_query, then_read, run}
 use Rattle.qsql_parse.proofs.Columns.{grown_all, all_phrases, whole-query}
 
 -- an expression does not go on with these tokens

@@ -1,7 +1,7 @@
 -- What `reading` finds is a request of the grammar, or the place of the first token that none goes on with.
 use Rattle.std.proofs.Common.{◌≡◌, ℕ, List, [], ◌∷◌, ◌++◌, Option, Some, None, Result, Ok, Err, refl, sym, ap, ◌∙◌, append_assoc}
-use Rattle.qsql_parse.specs.Forms.{RequestForm}
-use Rattle.qsql_parse.specs.Tokens.{Token, Placed, only_tokens}
+use Rattle.qsql_request.specs.Forms.{RequestForm}
+use Rattle.qsql_tokens.specs.Tokens.{Token, Placed, only_tokens}
 use Rattle.qsql_parse.specs.Grammar.{IsRequest, GoesOn, IsStuck, IsFault, place_of}
 use Rattle.qsql_parse.specs.Machine.{StateForm, start, step, whole, then_read, after, run}
 use Rattle.qsql_parse.specs.Reading.{reading, ended_at, goes_from}

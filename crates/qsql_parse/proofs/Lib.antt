@@ -5,6 +5,3 @@ pub mod Live
 pub mod Faults
 pub mod Once
 pub mod Verdicts
-pub mod Words
-pub mod Lists
-pub mod Lexed

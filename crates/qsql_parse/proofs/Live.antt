@@ -2,10 +2,10 @@
 use Rattle.std.proofs.Common.{◌≡◌, pos, true, false, List, [], ◌∷◌, Some, None, refl, ◌∙◌}
 use Rattle.q_values.specs.Tree.{atom}
 use Rattle.q_values.specs.declared.atom.Atom.TheVariants as a
-use Rattle.qsql_parse.specs.declared.token.Word.TheVariants as w
-use Rattle.qsql_parse.specs.declared.token.Mark.TheVariants as m
-use Rattle.qsql_parse.specs.Forms.{Form, column, one, two, QueryForm, SourceForm, all_of, rows_of, RequestForm, query_form, aj_form, count_form, sub_form}
-use Rattle.qsql_parse.specs.Tokens.{Token, number, literal, name, word, mark}
+use Rattle.qsql_tokens.specs.declared.token.Word.TheVariants as w
+use Rattle.qsql_tokens.specs.declared.token.Mark.TheVariants as m
+use Rattle.qsql_request.specs.Forms.{Form, column, one, two, QueryForm, SourceForm, all_of, rows_of, RequestForm, query_form, aj_form, count_form, sub_form}
+use Rattle.qsql_tokens.specs.Tokens.{Token, number, literal, name, word, mark}
 use Rattle.qsql_parse.specs.Machine.{SideForm, to_left, to_right, OuterForm, alone, bare, bracketed, of_column, of_phrase, StackForm, base, right_of, under, in_brackets, applied, first_of_two, second_of_two, StateForm, start, verb_read, number_wanted, number_read, columns_wanted, column_wanted, name_read, wanted, monad_read, dyad_read, got, table_wanted, table_read, aj_read, keys_wanted, keys_read, source_wanted, query_wanted, source_read, sub_read, tables_wanted, tables_read, names_wanted, names_read, done, grown, with_table, with_phrase, fresh, run}
 use Rattle.qsql_parse.proofs.Complete.{Ends, close-right, close-under}
 

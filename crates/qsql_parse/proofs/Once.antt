@@ -1,11 +1,12 @@
 -- A text has one list of tokens, one fault and one verdict at most.
 use Rattle.std.proofs.Common.{◌≡◌, ◌<◌, ◌≤◌, ℕ, Bool, true, false, List, [], ◌∷◌, ◌++◌, length, Option, Some, None, refl, sym, ap, ◌∙◌, subst, append_assoc, arith, inl, inr}
 use Rattle.std.specs.Prelude.{◌⊎◌}
-use Rattle.qsql_parse.specs.Forms.{RequestForm}
-use Rattle.qsql_parse.specs.Tokens.{Token, Placed, Read, behind_blanks, token_at, IsNext, AreTokens, no_more, one_more, IsTokenFault, none_begins, behind_one, only_tokens}
+use Rattle.qsql_request.specs.Forms.{RequestForm}
+use Rattle.qsql_tokens.specs.Tokens.{Token, Placed, Read, behind_blanks, token_at, IsNext, AreTokens, no_more, one_more, IsTokenFault, none_begins, behind_one, only_tokens}
 use Rattle.qsql_parse.specs.Grammar.{IsRequest, GoesOn, IsStuck, IsFault, place_of}
-use Rattle.qsql_parse.specs.Unbuilt.{is_unbuilt}
-use Rattle.qsql_parse.specs.Verdicts.{Verdict, asks, too_much, no_request, not_built, IsVerdict, HasTokens, IsText, is_too_much}
+use Rattle.qsql_request.specs.Unbuilt.{is_unbuilt}
+use Rattle.qsql_tokens.specs.Limits.{is_too_much}
+use Rattle.qsql_parse.specs.Verdicts.{Verdict, asks, too_much, no_request, not_built, IsVerdict, HasTokens, IsText}
 use Rattle.qsql_parse.proofs.Complete.{one-request}
 
 not-both : {X : Type 0} (b : Bool) → b ≡ false → b ≡ true → X

@@ -5,10 +5,10 @@ use Rattle.q_values.specs.declared.atom.Atom.{Atom}
 use Rattle.q_values.specs.declared.atom.Atom.TheVariants as a
 use Rattle.q_verbs.specs.declared.verb.Verb.{Verb}
 use Rattle.q_verbs.specs.declared.verb.Verb1.{Verb1}
-use Rattle.qsql_parse.specs.declared.token.Word.TheVariants as w
-use Rattle.qsql_parse.specs.declared.token.Mark.TheVariants as m
-use Rattle.qsql_parse.specs.Forms.{Form, column, one, two, ColumnForm, QueryForm, SourceForm, all_of, rows_of, SubForm, RequestForm, query_form, aj_form, count_form, day_form, sub_form}
-use Rattle.qsql_parse.specs.Tokens.{Token, number, literal, name, monad, sign, dyad, word, mark}
+use Rattle.qsql_tokens.specs.declared.token.Word.TheVariants as w
+use Rattle.qsql_tokens.specs.declared.token.Mark.TheVariants as m
+use Rattle.qsql_request.specs.Forms.{Form, column, one, two, ColumnForm, QueryForm, SourceForm, all_of, rows_of, SubForm, RequestForm, query_form, aj_form, count_form, day_form, sub_form}
+use Rattle.qsql_tokens.specs.Tokens.{Token, number, literal, name, monad, sign, dyad, word, mark}
 use Rattle.qsql_parse.specs.Grammar.{IsDyad, by_sign, by_word, IsExpr, of_term, dyadic, monadic, IsTerm, of_number, of_literal, of_name, in_parentheses, one_in_brackets, two_in_brackets, IsColumn, with_name, without_name, IsColumns, last_column, more_columns, IsPhrases, last_phrase, more_phrases, IsVerb, of_select, of_exec, IsFirst, no_first, some_first, IsSelected, no_selected, some_selected, IsBy, no_by, some_by, IsWhere, no_where, some_where, IsQuery, of_parts, IsSymbols, of_symbol, of_vector, IsSource, of_table, of_query, query_in_parentheses, IsRequest, query, asof, count, day, subscription, is_null_symbol}
 use Rattle.q_values.specs.declared.kind.Kind.{Kind}
 use Rattle.q_values.specs.declared.kind.Kind.TheVariants as k

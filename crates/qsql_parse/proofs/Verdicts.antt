@@ -1,12 +1,13 @@
 -- A text's request or refusal, from its tokens.
 use Rattle.std.proofs.Common.{◌≡◌, ℕ, true, false, List, length, Result, Ok, Err, IfOk, IfErr, inr}
-use Rattle.qsql_parse.specs.Views.{request_of}
-use Rattle.qsql_parse.specs.Tokens.{Placed, AreTokens, only_tokens}
+use Rattle.qsql_request.specs.Views.{request_of}
+use Rattle.qsql_tokens.specs.Tokens.{Placed, AreTokens, only_tokens}
 use Rattle.qsql_parse.specs.Machine.{start}
 use Rattle.qsql_parse.specs.Reading.{reading, Reads}
-use Rattle.qsql_parse.specs.Unbuilt.{is_unbuilt}
-use Rattle.qsql_parse.specs.Verdicts.{HasTokens, IsText, RefusesText, is_too_much, Verdict, asks, too_much, no_request, not_built, IsVerdict, Gives}
-use Rattle.qsql_parse.specs.declared.request.Request.{Request}
+use Rattle.qsql_request.specs.Unbuilt.{is_unbuilt}
+use Rattle.qsql_tokens.specs.Limits.{is_too_much}
+use Rattle.qsql_parse.specs.Verdicts.{HasTokens, IsText, RefusesText, Verdict, asks, too_much, no_request, not_built, IsVerdict, Gives}
+use Rattle.qsql_request.specs.declared.request.Request.{Request}
 use Rattle.qsql_parse.specs.declared.refusal.ParseRefusal.{ParseRefusal}
 use Rattle.qsql_parse.specs.declared.refusal.ParseRefusal.TheVariants as r
 use Rattle.qsql_parse.proofs.Faults.{reading-request, reading-fault}

@@ -7,10 +7,10 @@ use Rattle.q_values.specs.declared.atom.Atom.TheVariants as a
 use Rattle.q_values.specs.declared.kind.Kind.TheVariants as k
 use Rattle.q_verbs.specs.declared.verb.Verb.{Verb}
 use Rattle.q_verbs.specs.declared.verb.Verb1.{Verb1}
-use Rattle.qsql_parse.specs.declared.token.Word.TheVariants as w
-use Rattle.qsql_parse.specs.declared.token.Mark.TheVariants as m
-use Rattle.qsql_parse.specs.Forms.{Form, constant, column, one, two, ColumnForm, QueryForm, SourceForm, all_of, rows_of, RequestForm, query_form, aj_form, count_form, day_form, sub_form}
-use Rattle.qsql_parse.specs.Tokens.{Token, number, literal, name, monad, sign, dyad, word, mark, Placed, only_tokens}
+use Rattle.qsql_tokens.specs.declared.token.Word.TheVariants as w
+use Rattle.qsql_tokens.specs.declared.token.Mark.TheVariants as m
+use Rattle.qsql_request.specs.Forms.{Form, constant, column, one, two, ColumnForm, QueryForm, SourceForm, all_of, rows_of, RequestForm, query_form, aj_form, count_form, day_form, sub_form}
+use Rattle.qsql_tokens.specs.Tokens.{Token, number, literal, name, monad, sign, dyad, word, mark, Placed, only_tokens}
 
 -- a verb between two sides, as a sign or as a word
 pub data IsDyad : Token → Verb → Type 0 where

@@ -1,7 +1,7 @@
 -- What holds of the grammar, in other words.
 use Rattle.std.specs.Prelude.{◌≡◌, ℕ, List}
-use Rattle.qsql_parse.specs.Forms.{RequestForm}
-use Rattle.qsql_parse.specs.Tokens.{Token}
+use Rattle.qsql_request.specs.Forms.{RequestForm}
+use Rattle.qsql_tokens.specs.Tokens.{Token}
 use Rattle.qsql_parse.specs.Grammar.{IsRequest}
 use Rattle.qsql_parse.specs.Verdicts.{Verdict, IsVerdict}
 

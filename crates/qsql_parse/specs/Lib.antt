@@ -1,9 +1,4 @@
-pub mod Forms
-pub mod Views
-pub mod Tokens
 pub mod Grammar
-pub mod Shapes
-pub mod Unbuilt
 pub mod Verdicts
 pub mod Machine
 pub mod States

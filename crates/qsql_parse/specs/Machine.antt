@@ -1,5 +1,5 @@
 -- The reader of requests, a token at a time: what has been read, and what is wanted next.
-use Rattle.std.specs.Prelude.{ℕ, ℤ, ◌==◌, ◌&&◌, not, if◌then◌else◌, Bool, true, false, List, [], ◌∷◌, ◌++◌, map, Option, Some, None}
+use Rattle.std.specs.Prelude.{ℕ, ℤ, ◌&&◌, not, if◌then◌else◌, Bool, true, false, List, [], ◌∷◌, ◌++◌, map, Option, Some, None}
 use Rattle.q_values.specs.Tree.{Tree, atom, vector}
 use Rattle.q_values.specs.Atom.{kind_of}
 use Rattle.q_values.specs.declared.atom.Atom.TheVariants as a
@@ -7,12 +7,12 @@ use Rattle.q_values.specs.declared.kind.Kind.{Kind}
 use Rattle.q_values.specs.declared.kind.Kind.TheVariants as k
 use Rattle.q_verbs.specs.declared.verb.Verb.{Verb}
 use Rattle.q_verbs.specs.declared.verb.Verb1.{Verb1}
-use Rattle.qsql_parse.specs.declared.token.Word.{Word}
-use Rattle.qsql_parse.specs.declared.token.Word.TheVariants as w
-use Rattle.qsql_parse.specs.declared.token.Mark.{Mark}
-use Rattle.qsql_parse.specs.declared.token.Mark.TheVariants as m
-use Rattle.qsql_parse.specs.Forms.{Form, constant, column, one, two, ColumnForm, QueryForm, SourceForm, all_of, rows_of, SubForm, RequestForm, query_form, aj_form, count_form, day_form, sub_form}
-use Rattle.qsql_parse.specs.Tokens.{Token, number, literal, name, monad, sign, dyad, word, mark}
+use Rattle.qsql_tokens.specs.declared.token.Word.{Word}
+use Rattle.qsql_tokens.specs.declared.token.Word.TheVariants as w
+use Rattle.qsql_tokens.specs.declared.token.Mark.TheVariants as m
+use Rattle.qsql_request.specs.Forms.{Form, constant, column, one, two, ColumnForm, QueryForm, SourceForm, all_of, rows_of, SubForm, RequestForm, query_form, aj_form, count_form, day_form, sub_form}
+use Rattle.qsql_tokens.specs.Tokens.{Token, number, literal, name, monad, sign, dyad, word, mark}
+use Rattle.qsql_tokens.specs.Parts.{name_of, number_of, verb_of, word_of, is_mark}
 use Rattle.qsql_parse.specs.Grammar.{symbol_of, is_null_symbol}
 
 -- a query before its `from`
@@ -92,37 +92,6 @@ names_of _ = None
 abbrev pub symbols_of : Token → Option (List (List ℕ))
 symbols_of (literal v) = names_of v
 symbols_of _ = None
-
-abbrev pub name_of : Token → Option (List ℕ)
-name_of (name n) = Some n
-name_of _ = None
-
-abbrev pub number_of : Token → Option ℤ
-number_of (number n) = Some n
-number_of _ = None
-
--- the verb of a token that may stand between two sides
-abbrev pub verb_of : Token → Option Verb
-verb_of (sign v) = Some v
-verb_of (dyad v) = Some v
-verb_of _ = None
-
-abbrev pub word_of : Token → Option Word
-word_of (word own) = Some own
-word_of _ = None
-
-abbrev pub mark_number : Mark → ℕ
-mark_number m.Left = 40
-mark_number m.Right = 41
-mark_number m.Open = 91
-mark_number m.Close = 93
-mark_number m.Semicolon = 59
-mark_number m.Comma = 44
-mark_number m.Colon = 58
-
-abbrev pub is_mark : Mark → Token → Bool
-is_mark which (mark own) = mark_number own == mark_number which
-is_mark which _ = false
 
 abbrev pub is_from : Option Word → Bool
 is_from (Some w.From) = true

@@ -1,10 +1,10 @@
 -- The request of tokens, or the place of the first that does not go on.
 use Rattle.std.specs.Prelude.{◌≡◌, ℕ, List, [], ◌∷◌, Option, Some, None, Result, Ok, Err}
-use Rattle.qsql_parse.specs.Forms.{RequestForm}
-use Rattle.qsql_parse.specs.Views.{request_of}
-use Rattle.qsql_parse.specs.Tokens.{Placed}
+use Rattle.qsql_request.specs.Forms.{RequestForm}
+use Rattle.qsql_request.specs.Views.{request_of}
+use Rattle.qsql_tokens.specs.Tokens.{Placed}
 use Rattle.qsql_parse.specs.Machine.{StateForm, step, whole}
-use Rattle.qsql_parse.specs.declared.request.Request.{Request}
+use Rattle.qsql_request.specs.declared.request.Request.{Request}
 use Rattle.qsql_parse.specs.declared.refusal.ParseRefusal.{ParseRefusal}
 use Rattle.qsql_parse.specs.declared.refusal.ParseRefusal.TheVariants as r
 

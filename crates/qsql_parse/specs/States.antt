@@ -1,13 +1,8 @@
 -- What the reader's types say.
-use Rattle.std.specs.Prelude.{◌≡◌, ℕ, List, Option, Some, None, Result, Ok, Err, map}
-use Rattle.q_values.specs.Tree.{tree}
-use Rattle.qsql_parse.specs.Views.{form, column_form, query_of, source_of, sub_of, request_of}
-use Rattle.qsql_parse.specs.Tokens.{Token, number, literal, name, monad, sign, dyad, word, mark, Placed, Read, AreTokens, IsTokenFault}
-use Rattle.qsql_parse.specs.Machine.{DraftForm, SideForm, to_left, to_right, OuterForm, alone, bare, bracketed, BaseForm, of_column, of_phrase, StackForm, base, right_of, under, in_brackets, applied, first_of_two, second_of_two, StateForm, start, verb_read, number_wanted, number_read, columns_wanted, column_wanted, name_read, wanted, monad_read, dyad_read, got, table_wanted, table_read, aj_read, keys_wanted, keys_read, source_wanted, query_wanted, source_read, sub_read, tables_wanted, tables_read, names_wanted, names_read, done, name_of, whole}
-use Rattle.qsql_parse.specs.declared.request.Expr.{Expr}
-use Rattle.qsql_parse.specs.declared.token.Token.{Token as Own}
-use Rattle.qsql_parse.specs.declared.token.Token.TheVariants as t
-use Rattle.qsql_parse.specs.declared.token.Placed.{Placed as Lexed}
+use Rattle.std.specs.Prelude.{◌≡◌, Option, Some, None, Result, Ok, Err, map}
+use Rattle.qsql_request.specs.Views.{form, column_form, query_of, source_of, sub_of, request_of}
+use Rattle.qsql_parse.specs.Machine.{DraftForm, SideForm, to_left, to_right, OuterForm, alone, bare, bracketed, BaseForm, of_column, of_phrase, StackForm, base, right_of, under, in_brackets, applied, first_of_two, second_of_two, StateForm, start, verb_read, number_wanted, number_read, columns_wanted, column_wanted, name_read, wanted, monad_read, dyad_read, got, table_wanted, table_read, aj_read, keys_wanted, keys_read, source_wanted, query_wanted, source_read, sub_read, tables_wanted, tables_read, names_wanted, names_read, done, whole}
+use Rattle.qsql_request.specs.declared.request.Expr.{Expr}
 use Rattle.qsql_parse.specs.declared.state.Draft.{Draft}
 use Rattle.qsql_parse.specs.declared.state.Side.{Side}
 use Rattle.qsql_parse.specs.declared.state.Side.TheVariants as d
@@ -28,23 +23,8 @@ use Rattle.qsql_parse.specs.declared.state.SubState.{SubState}
 use Rattle.qsql_parse.specs.declared.state.SubState.TheVariants as u
 use Rattle.qsql_parse.specs.declared.state.State.{State}
 use Rattle.qsql_parse.specs.declared.state.State.TheVariants as s
-use Rattle.qsql_parse.specs.declared.refusal.ParseRefusal.{ParseRefusal}
-use Rattle.qsql_parse.specs.declared.refusal.ParseRefusal.TheVariants as r
 use Rattle.qsql_parse.specs.declared.refusal.Stop.{Stop}
 use Rattle.qsql_parse.specs.declared.refusal.Stop.TheVariants as e
-
-abbrev pub token_of : Own → Token
-token_of (t.Number n) = number n
-token_of (t.Literal v) = literal (tree v)
-token_of (t.Name n) = name n
-token_of (t.Monad v) = monad v
-token_of (t.Sign v) = sign v
-token_of (t.Dyad v) = dyad v
-token_of (t.Word w) = word w
-token_of (t.Mark m) = mark m
-
-abbrev pub placed_of : Lexed → Placed
-placed_of p = record { token = token_of p.token; place = p.place }
 
 abbrev pub draft_of : Draft → DraftForm
 draft_of d = record { exec = d.exec; first = d.first; columns = map column_form d.columns; by = map column_form d.by }
@@ -129,26 +109,3 @@ Finds view (Err stop) found = Stops stop found
 
 abbrev pub Steps : Result State Stop → Option StateForm → Type 0
 Steps result found = Finds state_of result found
-
--- the name of a token, or else the token again
-abbrev pub NameOr : Result (List ℕ) Own → Token → Type 0
-NameOr (Ok n) t = t ≡ name n
-NameOr (Err other) t = (token_of other ≡ t) × (name_of t ≡ None)
-
--- a token that was found, and its length
-abbrev pub SignRead : Option (Own × ℕ) → Option (Token × ℕ) → Type 0
-SignRead None found = found ≡ None
-SignRead (Some read) found = found ≡ Some (token_of read.0, read.1)
-
--- a token that was read, and the place behind it
-abbrev pub TokenRead : Result (Own × ℕ) Stop → Option Read → Type 0
-TokenRead (Ok read) found = found ≡ Some (record { token = token_of read.0; end = read.1 })
-TokenRead (Err stop) found = Stops stop found
-
--- the tokens from a place on that were read, or the fault
-abbrev pub TokensRead : {X : Type 0} → (X → List Lexed) → List ℕ → ℕ → Result X ParseRefusal → Type 0
-TokensRead view text at (Ok tokens) = AreTokens text at (map placed_of (view tokens))
-TokensRead view text at (Err (r.Parse place)) = IsTokenFault text at place
-TokensRead view text at (Err r.NoMemory) = Unit {0}
-TokensRead view text at (Err r.Limit) = ⊥
-TokensRead view text at (Err r.Nyi) = ⊥

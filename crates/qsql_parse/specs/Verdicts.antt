@@ -1,36 +1,16 @@
 -- What the language says of a text: its request, or the first refusal that holds.
-use Rattle.std.specs.Prelude.{◌≡◌, ◌≤◌, ◌<◌, ℕ, ◌+◌, ◌-◌, nat_lt, ◌||◌, Bool, true, false, List, [], ◌∷◌, length, Result, Ok, Err, ◌⊎◌}
-use Rattle.qsql_parse.specs.Forms.{RequestForm}
-use Rattle.qsql_parse.specs.Views.{request_of}
-use Rattle.qsql_parse.specs.Tokens.{Token, mark, Placed, AreTokens, IsTokenFault, only_tokens}
+use Rattle.std.specs.Prelude.{◌≡◌, ◌≤◌, ◌<◌, ℕ, true, false, List, length, Result, Ok, Err, ◌⊎◌}
+use Rattle.qsql_request.specs.Forms.{RequestForm}
+use Rattle.qsql_request.specs.Views.{request_of}
+use Rattle.qsql_tokens.specs.Tokens.{Placed, AreTokens, IsTokenFault, only_tokens}
+use Rattle.qsql_tokens.specs.Limits.{is_too_much}
 use Rattle.qsql_parse.specs.Grammar.{IsRequest, IsFault}
-use Rattle.qsql_parse.specs.Unbuilt.{is_unbuilt}
-use Rattle.qsql_parse.specs.declared.token.Mark.{Mark}
-use Rattle.qsql_parse.specs.declared.token.Mark.TheVariants as m
-use Rattle.qsql_parse.specs.declared.request.Request.{Request}
+use Rattle.qsql_request.specs.Unbuilt.{is_unbuilt}
+use Rattle.qsql_request.specs.declared.request.Request.{Request}
+use Rattle.qsql_tokens.specs.declared.refusal.TokenRefusal.{TokenRefusal}
+use Rattle.qsql_tokens.specs.declared.refusal.TokenRefusal.TheVariants as t
 use Rattle.qsql_parse.specs.declared.refusal.ParseRefusal.{ParseRefusal}
 use Rattle.qsql_parse.specs.declared.refusal.ParseRefusal.TheVariants as r
-
--- how many brackets are open behind a sign: a closing one closes the last open one, of whatever kind
-abbrev pub open_behind_mark : ℕ → Mark → ℕ
-open_behind_mark depth m.Left = depth + 1
-open_behind_mark depth m.Open = depth + 1
-open_behind_mark depth m.Right = depth - 1
-open_behind_mark depth m.Close = depth - 1
-open_behind_mark depth _ = depth
-
-abbrev pub open_behind : ℕ → Token → ℕ
-open_behind depth (mark which) = open_behind_mark depth which
-open_behind depth _ = depth
-
--- whether more than 64 brackets are open behind one of the tokens
-abbrev pub nests : ℕ → List Token → Bool
-nests depth [] = false
-nests depth (t ∷ ts) = nat_lt 64 (open_behind depth t) || nests (open_behind depth t) ts
-
--- more than 1,024 tokens, or brackets deeper than 64
-abbrev pub is_too_much : List Token → Bool
-is_too_much tokens = nat_lt 1024 (length tokens) || nests 0 tokens
 
 -- the text has these tokens, within the limits
 abbrev pub HasTokens : List ℕ → List Placed → Type 0
@@ -53,6 +33,11 @@ IsVerdict text (asks request) = IsText text request × (is_unbuilt request ≡ f
 IsVerdict text too_much = (65536 < length text) ⊎ ((placed : List Placed) × AreTokens text 0 placed × (is_too_much (only_tokens placed) ≡ true))
 IsVerdict text (no_request at) = (length text ≤ 65536) × (IsTokenFault text 0 at ⊎ ((placed : List Placed) × HasTokens text placed × IsFault placed (length text) at))
 IsVerdict text not_built = (request : RequestForm) × IsText text request × (is_unbuilt request ≡ true)
+
+-- a text without tokens is no request
+abbrev pub refusal_of : TokenRefusal → ParseRefusal
+refusal_of (t.NoToken place) = r.Parse place
+refusal_of t.NoMemory = r.NoMemory
 
 -- a cause for each refusal; want of memory needs none
 abbrev pub RefusesText : List ℕ → ParseRefusal → Type 0

@@ -1,18 +1,19 @@
 //! Steps within expressions.
 ghost use Rattle.std.specs.Prelude.{◌≡◌};
-ghost use Rattle.qsql_parse.specs.States.{token_of, base_of, stack_of, Steps};
-ghost use Rattle.qsql_parse.specs.Views.{form};
+ghost use Rattle.qsql_tokens.specs.Views.{token_of};
+ghost use Rattle.qsql_parse.specs.States.{base_of, stack_of, Steps};
+ghost use Rattle.qsql_request.specs.Views.{form};
 ghost use Rattle.qsql_parse.specs.Machine.{step_close, step_got, step_wanted, step_monad};
-ghost use Rattle.qsql_parse.specs.Tokens;
+ghost use Rattle.qsql_tokens.specs.Tokens;
 
 use crate::outer_steps::at_sign;
 use crate::query_steps::behind_base;
 use crate::refusal::Stop;
-use crate::request::Expr;
 use crate::state::{ExpressionState, Stack, State};
-use crate::token::{Mark, Token};
 use q_values::{Atom, Value};
 use q_verbs::Verb1;
+use qsql_request::Expr;
+use qsql_tokens::{Mark, Token};
 use std::alloc::Global;
 
 /// Behind an expression that ends here: the verbs before it take it as their right side.

@@ -1,7 +1,8 @@
 //! A request is read from its tokens, one after the other.
 ghost use Rattle.std.specs.Prelude.{◌≡◌, map, []};
-ghost use Rattle.qsql_parse.specs.States.{token_of, placed_of, state_of, query_state_of, expression_state_of, join_state_of, sub_state_of, outer_of, stack_of, Steps, Finds, IsFinished};
-ghost use Rattle.qsql_parse.specs.Views.{form, query_of, request_of};
+ghost use Rattle.qsql_tokens.specs.Views.{token_of, placed_of};
+ghost use Rattle.qsql_parse.specs.States.{state_of, query_state_of, expression_state_of, join_state_of, sub_state_of, outer_of, stack_of, Steps, Finds, IsFinished};
+ghost use Rattle.qsql_request.specs.Views.{form, query_of, request_of};
 ghost use Rattle.qsql_parse.specs.Machine.{step, start, dyad_read, whole, whole_query, whole_base, whole_expr};
 ghost use Rattle.qsql_parse.specs.Reading.{reading, Reads};
 
@@ -15,12 +16,12 @@ use crate::query_steps::{
     behind_table, behind_verb, with_condition,
 };
 use crate::refusal::{ParseRefusal, Stop};
-use crate::request::{Expr, Query, Request};
 use crate::state::{
     Base, ExpressionState, JoinState, Outer, QueryState, Side, Stack, State, SubState,
 };
-use crate::token::{Mark, Placed, Token};
 use q_verbs::Verb;
+use qsql_request::{Expr, Query, Request};
+use qsql_tokens::{Mark, Placed, Token};
 use std::alloc::Global;
 use std::collections::VecDeque;
 

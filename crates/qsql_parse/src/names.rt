@@ -2,13 +2,14 @@
 ghost use Rattle.std.specs.Prelude.{◌≡◌, ◌∷◌, [], map, IfOk};
 ghost use Rattle.q_values.specs.Tree.{tree};
 ghost use Rattle.qsql_parse.specs.Grammar.{symbol_of, is_null_symbol, is_null_tree, is_null_atom};
-ghost use Rattle.qsql_parse.specs.States.{token_of, Finds};
+ghost use Rattle.qsql_tokens.specs.Views.{token_of};
+ghost use Rattle.qsql_parse.specs.States.{Finds};
 ghost use Rattle.qsql_parse.specs.Machine.{symbols_of, names_of};
 ghost use Rattle.qsql_parse.specs.Machine;
 
 use crate::refusal::Stop;
-use crate::token::Token;
 use q_values::{Atom, Kind, Names, NoMemory, Sym, Value, Vector};
+use qsql_tokens::Token;
 use std::alloc::{AllocError, Global};
 
 fn copy_of(alloc: Global, name: &Sym) -> Result<Sym, AllocError>

@@ -1,15 +1,17 @@
 //! Steps behind whole queries, and within as-of joins and subscriptions.
 ghost use Rattle.std.specs.Prelude.{◌≡◌};
-ghost use Rattle.qsql_parse.specs.States.{token_of, side_of, outer_of, state_of, Steps};
-ghost use Rattle.qsql_parse.specs.Views.{source_of, query_of};
-ghost use Rattle.qsql_parse.specs.Machine.{step_source, step_end, step_side, step_query, query_source, start_with, query_verb, when, is_mark, step, start, keys_wanted, tables_wanted, names_wanted};
+ghost use Rattle.qsql_tokens.specs.Views.{token_of};
+ghost use Rattle.qsql_parse.specs.States.{side_of, outer_of, state_of, Steps};
+ghost use Rattle.qsql_request.specs.Views.{source_of, query_of};
+ghost use Rattle.qsql_tokens.specs.Parts.{is_mark};
+ghost use Rattle.qsql_parse.specs.Machine.{step_source, step_end, step_side, step_query, query_source, start_with, query_verb, when, step, start, keys_wanted, tables_wanted, names_wanted};
 
 use crate::names::{is_null_name, names_of_token};
 use crate::refusal::Stop;
-use crate::request::{AjQuery, Query, Request, Source, SubRequest};
 use crate::state::{JoinState, Outer, QueryState, Side, State, SubState};
-use crate::token::{Mark, Token, Word};
 use q_values::Names;
+use qsql_request::{AjQuery, Query, Request, Source, SubRequest};
+use qsql_tokens::{Mark, Token, Word};
 use std::alloc::Global;
 
 /// The state where the token is this sign, the only one that goes on.

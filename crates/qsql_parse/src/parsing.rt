@@ -1,15 +1,13 @@
 //! Texts become requests.
 ghost use Rattle.std.specs.Prelude.{◌≡◌, ◌≤◌, IfOk, IfErr, length, false};
-ghost use Rattle.qsql_parse.specs.Views.{request_of};
-ghost use Rattle.qsql_parse.specs.Unbuilt.{is_unbuilt};
+ghost use Rattle.qsql_request.specs.Views.{request_of};
+ghost use Rattle.qsql_request.specs.Unbuilt.{is_unbuilt};
 ghost use Rattle.qsql_parse.specs.Verdicts.{IsText, RefusesText, GivesOnly};
 
-use crate::lexing::read_tokens;
-use crate::limits::are_too_many;
 use crate::machine::read_request;
 use crate::refusal::ParseRefusal;
-use crate::request::Request;
-use crate::unbuilt::is_request_unbuilt;
+use qsql_request::{Request, is_request_unbuilt};
+use qsql_tokens::{are_too_many, read_tokens};
 use std::alloc::Global;
 use std::collections::VecDeque;
 

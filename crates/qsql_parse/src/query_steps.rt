@@ -1,16 +1,17 @@
 //! Steps within a query.
 ghost use Rattle.std.specs.Prelude.{◌≡◌, IfOk};
-ghost use Rattle.qsql_parse.specs.States.{token_of, state_of, base_of, outer_of, draft_of, Steps};
-ghost use Rattle.qsql_parse.specs.Views.{form, query_of};
+ghost use Rattle.qsql_tokens.specs.Views.{token_of};
+ghost use Rattle.qsql_parse.specs.States.{state_of, base_of, outer_of, draft_of, Steps};
+ghost use Rattle.qsql_request.specs.Views.{form, query_of};
 ghost use Rattle.qsql_parse.specs.Machine.{step, step_base, step_columns, step_column, step_name, step_selected, step_verb, step_table, is_from, is_by, is_where, grown, with_table, with_phrase, fresh, table_wanted, number_wanted, number_read};
 
 use crate::expression_steps::{before_expression, behind_term};
 use crate::outer_steps::{at_sign, behind_query};
 use crate::refusal::Stop;
-use crate::request::{Col, Cols, Expr, Exprs, Query};
 use crate::state::{Base, Draft, ExpressionState, Outer, QueryState, Stack, State};
-use crate::token::{Mark, Token, Word};
 use q_values::{NoMemory, Sym};
+use qsql_request::{Col, Cols, Expr, Exprs, Query};
+use qsql_tokens::{Mark, Token, Word};
 use std::alloc::Global;
 
 fn is_from_word(word: Option<Word>) -> bool

@@ -1,6 +1,7 @@
 //! Why a text is no request.
 
 use q_values::NoMemory;
+use qsql_tokens::TokenRefusal;
 use std::alloc::{AllocError, AllocFailed};
 use thiserror::Error;
 
@@ -29,6 +30,20 @@ pub enum Stop {
     Here,
     /// Memory was wanting.
     NoMemory,
+}
+
+impl From<TokenRefusal> for ParseRefusal {
+    ghost use Rattle.std.specs.Prelude.{◌≡◌};
+    ghost use Rattle.qsql_parse.specs.Verdicts.{refusal_of};
+
+    ghost from_gives = { λ refusal e. e ≡ refusal_of refusal };
+
+    fn from(refusal: TokenRefusal) -> ParseRefusal {
+        match refusal {
+            TokenRefusal::NoToken(place) => ParseRefusal::Parse(place),
+            TokenRefusal::NoMemory => ParseRefusal::NoMemory,
+        }
+    }
 }
 
 impl From<NoMemory> for ParseRefusal {

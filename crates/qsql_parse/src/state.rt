@@ -2,9 +2,9 @@
 //!
 //! Brackets and pending verbs stand on a stack of their own, so that no text drives the reader into recursion.
 
-use crate::request::{Cols, Expr, Query, Request, Source, SubRequest};
 use q_values::{Names, Sym};
 use q_verbs::{Verb, Verb1};
+use qsql_request::{Cols, Expr, Query, Request, Source, SubRequest};
 
 /// A query before its `from`.
 #[derive(Drop)]

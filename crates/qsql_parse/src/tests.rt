@@ -2,9 +2,9 @@
 
 use crate::parsing::parse;
 use crate::refusal::ParseRefusal;
-use crate::request::{Col, Expr, Query, Request, Source};
 use q_values::{Atom, Names, NoMemory, Value, Vector};
 use q_verbs::{Verb, Verb1};
+use qsql_request::{Col, Expr, Query, Request, Source};
 use std::alloc::{AllocError, Global};
 use std::process::Abort;
 use std::test::Fail;

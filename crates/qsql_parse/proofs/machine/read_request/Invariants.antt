@@ -1,5 +1,6 @@
 use Rattle.std.proofs.Common.{◌≡◌, length, map}
-use Rattle.qsql_parse.specs.States.{placed_of, state_of}
+use Rattle.qsql_tokens.specs.Views.{placed_of}
+use Rattle.qsql_parse.specs.States.{state_of}
 use Rattle.qsql_parse.specs.Machine.{start}
 use Rattle.qsql_parse.specs.Reading.{reading}
 use Rattle.qsql_parse.proofs.machine.read_request.Given as goal

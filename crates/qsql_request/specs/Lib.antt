@@ -1,0 +1,4 @@
+pub mod Forms
+pub mod Views
+pub mod Shapes
+pub mod Unbuilt

@@ -1,0 +1,4 @@
+pub mod Tokens
+pub mod Parts
+pub mod Views
+pub mod Limits

@@ -1,0 +1,165 @@
+//! The tokens of a text.
+ghost use Rattle.std.specs.Prelude.{◌≡◌, ◌≤◌, ◌<◌, ◌+◌, length, map, IfSome, IfOk, IfErr};
+ghost use Rattle.q_values.specs.Tree.{tree};
+ghost use Rattle.q_text.specs.Literal.{literal_at};
+ghost use Rattle.qsql_tokens.specs.Tokens.{token_at, literal_read, literal_token, atom_token, long_in, dotted, is_dotted, sign_or_dotted, read_at, AreTokens};
+ghost use Rattle.qsql_tokens.specs.Views.{token_of, placed_of, SignRead, TokenRead, RefusesTokens};
+
+use crate::characters::{behind_blanks_at, byte_at, is_letter_byte, word_from};
+use crate::keywords::{named_token, plant_word_of};
+use crate::refusal::TokenRefusal;
+use crate::signs::sign_of;
+use crate::token::{Placed, Token};
+use q_text::{LiteralRefusal, begins_literal, read_literal};
+use q_values::{Atom, Value};
+use std::alloc::{AllocError, Global};
+
+// The token of a literal; `plain` says whether its last byte is no suffix.
+fn token_of_value(value: Value, plain: bool) -> Token
+    ensures { token_of result ≡ literal_token (tree value) plain }
+{
+    match value {
+        Value::Atom(atom) => token_of_atom(atom, plain),
+        Value::Vector(vector) => Token::Literal(Value::Vector(vector)),
+        Value::List(values) => Token::Literal(Value::List(values)),
+        Value::Dict(pair) => Token::Literal(Value::Dict(pair)),
+        Value::Table(table) => Token::Literal(Value::Table(table)),
+        Value::Keyed(table) => Token::Literal(Value::Keyed(table)),
+        Value::Identity => Token::Literal(Value::Identity),
+        Value::Wrong(text) => Token::Literal(Value::Wrong(text)),
+    }
+}
+
+fn token_of_atom(atom: Atom, plain: bool) -> Token
+    ensures { token_of result ≡ atom_token atom plain }
+{
+    if plain {
+        match long_of(&atom) {
+            Some(number) => Token::Number(number),
+            None => Token::Literal(Value::Atom(atom)),
+        }
+    } else {
+        Token::Literal(Value::Atom(atom))
+    }
+}
+
+fn long_of(atom: &Atom) -> Option<i64>
+    ensures { result ≡ long_in atom.now }
+{
+    match atom {
+        Atom::Long(number) => Some(*number),
+        Atom::Boolean(_) => None,
+        Atom::Byte(_) => None,
+        Atom::Short(_) => None,
+        Atom::Integer(_) => None,
+        Atom::Character(_) => None,
+        Atom::Symbol(_) => None,
+        Atom::Timestamp(_) => None,
+        Atom::Month(_) => None,
+        Atom::Date(_) => None,
+        Atom::Timespan(_) => None,
+        Atom::Minute(_) => None,
+        Atom::Second(_) => None,
+        Atom::Time(_) => None,
+    }
+}
+
+fn literal_token_at(
+    alloc: Global,
+    text: &[u8],
+    at: usize,
+) -> Result<Option<(Token, usize)>, AllocError>
+    ensures value { IfOk result (λ found. TokenRead found (literal_read text.now (literal_at text.now at))) }
+    ensures behind { IfOk result (λ found. IfSome found (λ read. at < read.1)) }
+{
+    match read_literal(alloc, text, at) {
+        Ok((value, end)) => {
+            let plain = byte_at(text, end.saturating_sub(1)) != b'j';
+            Ok(Some((token_of_value(value, plain), end)))
+        }
+        Err(LiteralRefusal::BadLiteral(_)) => Ok(None),
+        Err(LiteralRefusal::NoMemory) => Err(AllocError),
+    }
+}
+
+// Whether `.u.` stands at a place.
+fn begins_dotted(text: &[u8], at: usize) -> bool
+    requires short { length text.now ≤ 65536 }
+    requires within { at < length text.now }
+    ensures { result ≡ is_dotted text.now at }
+{
+    byte_at(text, at) == b'.' && byte_at(text, at + 1) == b'u' && byte_at(text, at + 2) == b'.'
+}
+
+fn dotted_token(text: &[u8], at: usize) -> Option<(Token, usize)>
+    requires short { length text.now ≤ 65536 }
+    requires within { at < length text.now }
+    ensures value { SignRead result (dotted text.now at) }
+    ensures within { IfSome result (λ read. (0 < read.1) × (read.1 ≤ 3 + length text.now)) }
+{
+    if !begins_dotted(text, at) {
+        return None;
+    }
+    let name = word_from(text, at + 3);
+    match plant_word_of(name) {
+        Some(word) => Some((Token::Word(word), 3 + name.len())),
+        None => None,
+    }
+}
+
+// A sign, or a text that begins with a dot.
+fn sign_token(text: &[u8], at: usize) -> Option<(Token, usize)>
+    requires short { length text.now ≤ 65536 }
+    requires within { at < length text.now }
+    ensures value { TokenRead result (read_at at (sign_or_dotted text.now at)) }
+    ensures behind { IfSome result (λ read. at < read.1) }
+{
+    if let Some((token, len)) = dotted_token(text, at) {
+        return Some((token, at + len));
+    }
+    match sign_of(byte_at(text, at), byte_at(text, at + 1)) {
+        Some((token, len)) => Some((token, at + len)),
+        None => None,
+    }
+}
+
+// The token at a place, and the place behind it.
+fn token_from(alloc: Global, text: &[u8], at: usize) -> Result<Option<(Token, usize)>, AllocError>
+    requires short { length text.now ≤ 65536 }
+    requires within { at < length text.now }
+    ensures value { IfOk result (λ found. TokenRead found (token_at text.now at)) }
+    ensures behind { IfOk result (λ found. IfSome found (λ read. at < read.1)) }
+{
+    if begins_literal(text, at) {
+        literal_token_at(alloc, text, at)
+    } else if is_letter_byte(byte_at(text, at)) {
+        let name = word_from(text, at);
+        Ok(Some((named_token(alloc, name)?, at + name.len())))
+    } else {
+        Ok(sign_token(text, at))
+    }
+}
+
+/// The tokens of a text of at most 65,536 bytes with their places, which are counted in bytes from 0 (KX, Reference card).
+///
+/// A refusal is the first place where a token should begin and none does.
+pub fn read_tokens(alloc: Global, text: &[u8]) -> Result<Vec<Placed>, TokenRefusal>
+    requires { length text.now ≤ 65536 }
+    // What is read is the text's tokens, from its front to its end.
+    ensures ok { IfOk result (λ tokens. AreTokens text.now 0 (map placed_of tokens.items)) }
+    // A refusal has its cause.
+    ensures refused { IfErr result (RefusesTokens text.now) }
+{
+    let mut tokens = Vec::new(alloc);
+    let mut place = behind_blanks_at(text, 0);
+    while place < text.len() {
+        match token_from(alloc, text, place)? {
+            Some((token, end)) => {
+                tokens.push(Placed { token, place })?;
+                place = behind_blanks_at(text, end);
+            }
+            None => return Err(TokenRefusal::NoToken(place)),
+        }
+    }
+    Ok(tokens)
+}
