@@ -1,9 +1,10 @@
 //! Steps within expressions.
-ghost use Rattle.std.specs.Prelude.{◌≡◌};
+ghost use Rattle.std.specs.Prelude.{◌≡◌, IfOk};
 ghost use Rattle.qsql_tokens.specs.Views.{token_of};
-ghost use Rattle.qsql_parse.specs.States.{base_of, stack_of, Steps};
+ghost use Rattle.qsql_parse.specs.States.{base_of, stack_of, state_of, Steps};
+ghost use Rattle.qsql_request.specs.Forms.{one, two};
 ghost use Rattle.qsql_request.specs.Views.{form};
-ghost use Rattle.qsql_parse.specs.Machine.{step_close, step_got, step_wanted, step_monad};
+ghost use Rattle.qsql_parse.specs.Machine.{got, step_close, step_got, step_wanted, step_monad};
 ghost use Rattle.qsql_tokens.specs.Tokens;
 
 use crate::outer_steps::at_sign;
@@ -11,10 +12,29 @@ use crate::query_steps::behind_base;
 use crate::refusal::Stop;
 use crate::state::{ExpressionState, Stack, State};
 use q_values::{Atom, Value};
-use q_verbs::Verb1;
+use q_verbs::{Verb, Verb1};
 use qsql_request::Expr;
 use qsql_tokens::{Mark, Token};
-use std::alloc::Global;
+use std::alloc::{AllocError, Global};
+
+fn one_of(alloc: Global, verb: Verb1, side: Expr) -> Result<Expr, AllocError>
+    ensures { IfOk result (λ expr. form expr ≡ one verb (form side)) }
+{
+    Ok(Expr::One(verb, Box::new(alloc, side)?))
+}
+
+fn two_of(alloc: Global, verb: Verb, left: Expr, right: Expr) -> Result<Expr, AllocError>
+    ensures { IfOk result (λ expr. form expr ≡ two verb (form left) (form right)) }
+{
+    Ok(Expr::Two(verb, Box::new(alloc, left)?, Box::new(alloc, right)?))
+}
+
+// The term in the brackets is read.
+fn got_in(outer: Box<Stack>, expr: Expr) -> State
+    ensures { state_of result ≡ got (form expr) (stack_of outer.value) }
+{
+    State::InExpression(Box::into_inner(outer), ExpressionState::Got(expr))
+}
 
 /// Behind an expression that ends here: the verbs before it take it as their right side.
 pub fn behind_expression(
@@ -28,41 +48,29 @@ pub fn behind_expression(
     match stack {
         Stack::Base(base) => behind_base(alloc, base, expr, token),
         Stack::RightOf(verb, left, outer) => {
-            let both = Expr::Two(verb, Box::new(alloc, left)?, Box::new(alloc, expr)?);
+            let both = two_of(alloc, verb, left, expr)?;
             behind_expression(alloc, Box::into_inner(outer), both, token)
         }
         Stack::Under(verb, outer) => {
-            let one = Expr::One(verb, Box::new(alloc, expr)?);
+            let one = one_of(alloc, verb, expr)?;
             behind_expression(alloc, Box::into_inner(outer), one, token)
         }
-        Stack::InBrackets(outer) => at_sign(
-            token,
-            Mark::Right,
-            State::InExpression(Box::into_inner(outer), ExpressionState::Got(expr)),
-        ),
+        Stack::InBrackets(outer) => at_sign(token, Mark::Right, got_in(outer, expr)),
         Stack::Applied(verb, outer) => {
-            let one = Expr::One(verb, Box::new(alloc, expr)?);
+            let one = one_of(alloc, verb, expr)?;
+            at_sign(token, Mark::Close, got_in(outer, one))
+        }
+        Stack::FirstOfTwo(verb, outer) => {
+            let second = Stack::SecondOfTwo(verb, expr, outer);
             at_sign(
                 token,
-                Mark::Close,
-                State::InExpression(Box::into_inner(outer), ExpressionState::Got(one)),
+                Mark::Semicolon,
+                State::InExpression(second, ExpressionState::Wanted),
             )
         }
-        Stack::FirstOfTwo(verb, outer) => at_sign(
-            token,
-            Mark::Semicolon,
-            State::InExpression(
-                Stack::SecondOfTwo(verb, expr, outer),
-                ExpressionState::Wanted,
-            ),
-        ),
         Stack::SecondOfTwo(verb, left, outer) => {
-            let both = Expr::Two(verb, Box::new(alloc, left)?, Box::new(alloc, expr)?);
-            at_sign(
-                token,
-                Mark::Close,
-                State::InExpression(Box::into_inner(outer), ExpressionState::Got(both)),
-            )
+            let both = two_of(alloc, verb, left, expr)?;
+            at_sign(token, Mark::Close, got_in(outer, both))
         }
     }
 }
