@@ -34,8 +34,9 @@ IsVerdict text too_much = (65536 < length text) ⊎ ((placed : List Placed) × A
 IsVerdict text (no_request at) = (length text ≤ 65536) × (IsTokenFault text 0 at ⊎ ((placed : List Placed) × HasTokens text placed × IsFault placed (length text) at))
 IsVerdict text not_built = (request : RequestForm) × IsText text request × (is_unbuilt request ≡ true)
 
--- a text without tokens is no request
+-- a text without tokens is no request, or one that is too long
 abbrev pub refusal_of : TokenRefusal → ParseRefusal
+refusal_of t.TooLong = r.Limit
 refusal_of (t.NoToken place) = r.Parse place
 refusal_of t.NoMemory = r.NoMemory
 

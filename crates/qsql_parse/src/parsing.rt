@@ -1,5 +1,5 @@
 //! Texts become requests.
-ghost use Rattle.std.specs.Prelude.{◌≡◌, ◌≤◌, IfOk, IfErr, length, false};
+ghost use Rattle.std.specs.Prelude.{◌≡◌, IfOk, IfErr, false};
 ghost use Rattle.qsql_request.specs.Views.{request_of};
 ghost use Rattle.qsql_request.specs.Unbuilt.{is_unbuilt};
 ghost use Rattle.qsql_parse.specs.Verdicts.{IsText, RefusesText, GivesOnly};
@@ -11,11 +11,8 @@ use qsql_tokens::{are_too_many, read_tokens};
 use std::alloc::Global;
 use std::collections::VecDeque;
 
-const LONGEST_TEXT: usize = 65_536;
-
-// The request of a text that is not too long.
+// The request of a text, built or not.
 fn read_text(alloc: Global, text: &[u8]) -> Result<Request, ParseRefusal>
-    requires { length text.now ≤ 65536 }
     ensures ok { IfOk result (λ request. IsText text.now (request_of request)) }
     ensures refused { IfErr result (RefusesText text.now) }
 {
@@ -31,9 +28,6 @@ fn read_built(alloc: Global, text: &[u8]) -> Result<Request, ParseRefusal>
     ensures ok { IfOk result (λ request. IsText text.now (request_of request) × (is_unbuilt (request_of request) ≡ false)) }
     ensures refused { IfErr result (RefusesText text.now) }
 {
-    if text.len() > LONGEST_TEXT {
-        return Err(ParseRefusal::Limit);
-    }
     let request = read_text(alloc, text)?;
     if is_request_unbuilt(&request) {
         Err(ParseRefusal::Nyi)

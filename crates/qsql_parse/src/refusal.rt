@@ -40,6 +40,7 @@ impl From<TokenRefusal> for ParseRefusal {
 
     fn from(refusal: TokenRefusal) -> ParseRefusal {
         match refusal {
+            TokenRefusal::TooLong => ParseRefusal::Limit,
             TokenRefusal::NoToken(place) => ParseRefusal::Parse(place),
             TokenRefusal::NoMemory => ParseRefusal::NoMemory,
         }

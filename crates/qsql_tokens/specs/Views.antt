@@ -1,5 +1,5 @@
 -- What the types of tokens say.
-use Rattle.std.specs.Prelude.{◌≡◌, ℕ, List, Option, Some, None, Result, Ok, Err}
+use Rattle.std.specs.Prelude.{◌≡◌, ◌≤◌, ◌<◌, ℕ, List, length, Option, Some, None, Result, Ok, Err}
 use Rattle.q_values.specs.Tree.{tree}
 use Rattle.qsql_tokens.specs.Tokens.{Token, number, literal, name, monad, sign, dyad, word, mark, Placed, Read, IsTokenFault}
 use Rattle.qsql_tokens.specs.Parts.{name_of}
@@ -39,5 +39,6 @@ TokenRead (Some read) found = found ≡ Some (record { token = token_of read.0; 
 
 -- a cause for each refusal; want of memory needs none
 abbrev pub RefusesTokens : List ℕ → TokenRefusal → Type 0
-RefusesTokens text (r.NoToken place) = IsTokenFault text 0 place
+RefusesTokens text r.TooLong = 65536 < length text
+RefusesTokens text (r.NoToken place) = (length text ≤ 65536) × IsTokenFault text 0 place
 RefusesTokens text r.NoMemory = Unit {0}

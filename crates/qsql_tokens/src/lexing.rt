@@ -14,6 +14,8 @@ use q_text::{LiteralRefusal, begins_literal, read_literal};
 use q_values::{Atom, Value};
 use std::alloc::{AllocError, Global};
 
+const LONGEST_TEXT: usize = 65_536;
+
 // The token of a literal; `plain` says whether its last byte is no suffix.
 fn token_of_value(value: Value, plain: bool) -> Token
     ensures { token_of result ≡ literal_token (tree value) plain }
@@ -140,16 +142,18 @@ fn token_from(alloc: Global, text: &[u8], at: usize) -> Result<Option<(Token, us
     }
 }
 
-/// The tokens of a text of at most 65,536 bytes with their places, which are counted in bytes from 0 (KX, Reference card).
+/// The tokens of a text with their places, which are counted in bytes from 0 (KX, Reference card).
 ///
-/// A refusal is the first place where a token should begin and none does.
+/// A refusal is that the text is longer than 65,536 bytes, or else the first place where a token should begin and none does.
 pub fn read_tokens(alloc: Global, text: &[u8]) -> Result<Vec<Placed>, TokenRefusal>
-    requires { length text.now ≤ 65536 }
     // What is read is the text's tokens, from its front to its end.
-    ensures ok { IfOk result (λ tokens. AreTokens text.now 0 (map placed_of tokens.items)) }
+    ensures ok { IfOk result (λ tokens. (length text.now ≤ 65536) × AreTokens text.now 0 (map placed_of tokens.items)) }
     // A refusal has its cause.
     ensures refused { IfErr result (RefusesTokens text.now) }
 {
+    if text.len() > LONGEST_TEXT {
+        return Err(TokenRefusal::TooLong);
+    }
     let mut tokens = Vec::new(alloc);
     let mut place = behind_blanks_at(text, 0);
     while place < text.len() {

@@ -6,6 +6,9 @@ use thiserror::Error;
 /// Why a text has no tokens.
 #[derive(Clone, Copy, Debug, PartialEq, Eq, Error)]
 pub enum TokenRefusal {
+    /// The text is longer than 65,536 bytes.
+    #[error("limit")]
+    TooLong,
     /// At this place a token should begin, and none does.
     #[error("parse")]
     NoToken(usize),

@@ -13,7 +13,7 @@ returns-clause-ok c =
     let text = c.args.text.now in
     let placed = map placed_of c.in_ok-tokens.tokens.items in
     let few : is_too_much (only_tokens placed) ≡ false = cc (c.are_too_many.ensures, c.if-are_too_many.false, c.deref.ensures.value) in
-    request-read_ok text placed c.read_request.result (c.requires, c.in_ok-tokens.ensures.ok, few)
+    request-read_ok text placed c.read_request.result (c.in_ok-tokens.ensures.ok.0, c.in_ok-tokens.ensures.ok.1, few)
     (subst (λ (items : List Lexed). Reads c.read_request.result (reading start (map placed_of items) (length text))) c.from.ensures.0 c.read_request.ensures)
 
 pub returns-clause-refused : goal.returns-clause-refused
@@ -21,5 +21,5 @@ returns-clause-refused c =
     let text = c.args.text.now in
     let placed = map placed_of c.in_ok-tokens.tokens.items in
     let few : is_too_much (only_tokens placed) ≡ false = cc (c.are_too_many.ensures, c.if-are_too_many.false, c.deref.ensures.value) in
-    request-read_err text placed c.read_request.result (c.requires, c.in_ok-tokens.ensures.ok, few)
+    request-read_err text placed c.read_request.result (c.in_ok-tokens.ensures.ok.0, c.in_ok-tokens.ensures.ok.1, few)
     (subst (λ (items : List Lexed). Reads c.read_request.result (reading start (map placed_of items) (length text))) c.from.ensures.0 c.read_request.ensures)

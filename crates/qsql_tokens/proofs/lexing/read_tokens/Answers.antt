@@ -31,9 +31,9 @@ loop-place-preserved c =
 pub returns-in-None-clause-refused : goal.returns-in-None-clause-refused
 returns-in-None-clause-refused c =
     let inv = c.loop-place.invariant in
-    inv.1.fault c.loop-place.place (no-token c.args.text.now inv.0 c.loop-place.place inv.1.here c.loop-place-test.true (none-read c.in_ok-token.field-0 (token_at c.args.text.now c.loop-place.place) c.in-None.is c.in_ok-token.ensures.value))
+    (c.if-text-gt-LONGEST_TEXT.false, inv.1.fault c.loop-place.place (no-token c.args.text.now inv.0 c.loop-place.place inv.1.here c.loop-place-test.true (none-read c.in_ok-token.field-0 (token_at c.args.text.now c.loop-place.place) c.in-None.is c.in_ok-token.ensures.value)))
 
 pub returns-clause-ok : goal.returns-clause-ok
 returns-clause-ok c =
     let inv = c.loop-place.invariant in
-    all-tokens c.args.text.now inv.0 c.loop-place.place (map placed_of c.loop-place.tokens.items) inv.1.here c.loop-place-test.false inv.1.tokens
+    (c.if-text-gt-LONGEST_TEXT.false, all-tokens c.args.text.now inv.0 c.loop-place.place (map placed_of c.loop-place.tokens.items) inv.1.here c.loop-place-test.false inv.1.tokens)
