@@ -6,39 +6,12 @@ its ratios to the copy and to the loop. Wants rustc, the kit's `rt`, and nothing
 """
 
 import argparse
-import os
-import subprocess
-import sys
 import tempfile
 
-HERE = os.path.dirname(os.path.realpath(__file__))
-CRATE = os.path.join(os.path.dirname(HERE), "crates", "codec_bench")
-PROGRAM = os.path.join(CRATE, "out", "codec_bench")
+import programs
 
 # Each call of the plant, and the loop that it is set beside.
 CALLS = (("decode", "decode"), ("encode", "encode"), ("measure", None), ("feed", None))
-
-
-def built():
-    """Builds the program where it must be; without words it does nothing."""
-    done = subprocess.run(["rt", "run"], cwd=CRATE, stdin=subprocess.DEVNULL, stdout=subprocess.PIPE, stderr=subprocess.STDOUT, text=True)
-    if done.returncode != 0:
-        sys.exit(f"codec.py: the program isn't built\n{done.stdout}")
-
-
-def compiled(folder):
-    program = os.path.join(folder, "codec")
-    subprocess.run(["rustc", "--edition", "2021", "-O", "-o", program, os.path.join(HERE, "codec.rs")], check=True)
-    return program
-
-
-def best_of(words, best):
-    """Runs a program and keeps the least nanoseconds of each of its lines."""
-    done = subprocess.run(words, stdout=subprocess.PIPE, text=True, check=True)
-    for line in done.stdout.splitlines():
-        what, call, nanoseconds, size = line.split()
-        least = best.get((what, call), (int(nanoseconds), 0))[0]
-        best[what, call] = min(least, int(nanoseconds)), int(size)
 
 
 def ratio(own, other):
@@ -54,13 +27,13 @@ def main():
     if min(options.rows, options.longs, options.runs) < 1:
         parser.error("N is at least 1")
     words = [str(options.rows), str(options.longs)]
-    built()
+    program = programs.proved("codec_bench")
     own, other = {}, {}
     with tempfile.TemporaryDirectory() as folder:
-        loop = compiled(folder)
+        loop = programs.compiled(folder, "codec")
         for _ in range(options.runs):
-            best_of([PROGRAM, *words], own)
-            best_of([loop, *words], other)
+            programs.best_of([program, *words], own)
+            programs.best_of([loop, *words], other)
     print(f"{'':14} {'bytes':>11} {'ms':>9} {'copy ms':>9} {'loop ms':>9} {'to copy':>10} {'to loop':>10}")
     for what in ("table", "longs"):
         copy = other[what, "copy"][0]

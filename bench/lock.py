@@ -6,36 +6,17 @@ median of the ratios within a run. Wants rustc, the kit's `rt`, and nothing else
 """
 
 import argparse
-import os
 import statistics
-import subprocess
-import sys
 import tempfile
 
-HERE = os.path.dirname(os.path.realpath(__file__))
-CRATE = os.path.join(os.path.dirname(HERE), "crates", "lock_bench")
-PROGRAM = os.path.join(CRATE, "out", "lock_bench")
+import programs
+
 LOCKS = ("lock", "ticket", "mutex")
-
-
-def built():
-    """Builds the program where it must be; without words it does nothing."""
-    done = subprocess.run(["rt", "run"], cwd=CRATE, stdin=subprocess.DEVNULL, stdout=subprocess.PIPE, stderr=subprocess.STDOUT, text=True)
-    if done.returncode != 0:
-        sys.exit(f"lock.py: the program isn't built\n{done.stdout}")
-
-
-def compiled(folder):
-    program = os.path.join(folder, "lock")
-    subprocess.run(["rustc", "--edition", "2024", "-O", "-o", program, os.path.join(HERE, "lock.rs")], check=True)
-    return program
 
 
 def timed(words, times):
     """Runs a program and adds the nanoseconds of each of its lines."""
-    done = subprocess.run(words, stdout=subprocess.PIPE, text=True, check=True)
-    for line in done.stdout.splitlines():
-        name, threads, nanoseconds = line.split()
+    for name, threads, nanoseconds in programs.lines(words):
         times.setdefault((name, int(threads)), []).append(int(nanoseconds))
 
 
@@ -46,12 +27,12 @@ def main():
     options = parser.parse_args()
     if min(options.takes, options.runs) < 1 or options.takes > 4_294_967_295:
         parser.error("N is at least 1, and at most 4294967295")
-    built()
+    program = programs.proved("lock_bench")
     times = {}
     with tempfile.TemporaryDirectory() as folder:
-        loop = compiled(folder)
+        loop = programs.compiled(folder, "lock", edition="2024")
         for _ in range(options.runs):
-            timed([PROGRAM, str(options.takes)], times)
+            timed([program, str(options.takes)], times)
             timed([loop, str(options.takes)], times)
     print(f"{'threads':8}" + "".join(f"{name + '/s':>14}" for name in LOCKS) + f"{'to ticket':>12}{'to mutex':>12}")
     for threads in (1, 4):

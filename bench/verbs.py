@@ -6,14 +6,10 @@ the loop; ends where the two give other results. Wants rustc, the kit's `rt`, an
 """
 
 import argparse
-import os
-import subprocess
 import sys
 import tempfile
 
-HERE = os.path.dirname(os.path.realpath(__file__))
-CRATE = os.path.join(os.path.dirname(HERE), "crates", "verbs_bench")
-PROGRAM = os.path.join(CRATE, "out", "verbs_bench")
+import programs
 
 # Each call, and how it is written in a query.
 CALLS = (
@@ -27,28 +23,6 @@ CALLS = (
 )
 
 
-def built():
-    """Builds the program where it must be; without words it does nothing."""
-    done = subprocess.run(["rt", "run"], cwd=CRATE, stdin=subprocess.DEVNULL, stdout=subprocess.PIPE, stderr=subprocess.STDOUT, text=True)
-    if done.returncode != 0:
-        sys.exit(f"verbs.py: the program isn't built\n{done.stdout}")
-
-
-def compiled(folder):
-    program = os.path.join(folder, "verbs")
-    subprocess.run(["rustc", "--edition", "2021", "-O", "-C", "target-cpu=x86-64-v2", "-o", program, os.path.join(HERE, "verbs.rs")], check=True)
-    return program
-
-
-def best_of(words, best):
-    """Runs a program and keeps the least nanoseconds of each of its lines, and the sum of what the call gave."""
-    done = subprocess.run(words, stdout=subprocess.PIPE, text=True, check=True)
-    for line in done.stdout.splitlines():
-        what, call, nanoseconds, total = line.split()
-        least = best.get((what, call), (int(nanoseconds), 0))[0]
-        best[what, call] = min(least, int(nanoseconds)), int(total)
-
-
 def main():
     parser = argparse.ArgumentParser(description=__doc__.splitlines()[0])
     parser.add_argument("--longs", type=int, default=10_000_000, metavar="N", help="longs of a column (10000000)")
@@ -59,14 +33,13 @@ def main():
     if min(options.longs, options.symbols, options.runs) < 1:
         parser.error("N is at least 1")
     words = [str(options.longs), str(options.symbols)]
-    if options.program is None:
-        built()
+    program = options.program or programs.proved("verbs_bench")
     own, other = {}, {}
     with tempfile.TemporaryDirectory() as folder:
-        loop = compiled(folder)
+        loop = programs.compiled(folder, "verbs", "-C", "target-cpu=x86-64-v2")
         for _ in range(options.runs):
-            best_of([options.program or PROGRAM, *words], own)
-            best_of([loop, *words], other)
+            programs.best_of([program, *words], own)
+            programs.best_of([loop, *words], other)
     counts = {"longs": options.longs, "symbols": options.symbols}
     print(f"{'':14} {'rows':>11} {'ms':>9} {'ns a row':>9} {'loop ms':>9} {'to loop':>9}")
     for what, call, shown in CALLS:
