@@ -87,7 +87,7 @@ impl ClosedDay {
     pub fn updates(&self, alloc: Global) -> Result<Entries, NoMemory>
         ensures { IfOk result (λ entries. entries ≡ self.now.updates) }
     {
-        Ok(Entries::of(copy_entries(alloc, &self.entries)?))
+        Ok(Entries::from_vec(copy_entries(alloc, &self.entries)?))
     }
 
     /// The `n` atoms from the place `from` on of a table's column, in the documented order.
@@ -116,7 +116,7 @@ impl ClosedDay {
         ensures { IfOk result (λ arrivals. arrivals ≡ map (λ row. row.arrival) (settled self.now table)) }
     {
         let kept = &self.tables[table as usize];
-        Ok(Places::of(Vec::from_slice(alloc, kept.arrivals.as_slice())?))
+        Ok(Places::from_vec(Vec::from_slice(alloc, kept.arrivals.as_slice())?))
     }
 }
 

@@ -22,7 +22,7 @@ pub fn copy_columns(alloc: Global, columns: &Columns) -> Result<Columns, NoMemor
     for column in items {
         copied.push(copy_vector(alloc, column)?)?;
     }
-    Ok(Columns::of(copied))
+    Ok(Columns::from_vec(copied))
 }
 
 fn copy_entry(alloc: Global, entry: &Entry) -> Result<Entry, NoMemory>

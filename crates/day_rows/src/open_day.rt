@@ -131,7 +131,7 @@ impl OpenDay {
     pub fn updates(&self, alloc: Global) -> Result<Entries, NoMemory>
         ensures { IfOk result (λ entries. entries ≡ self.now.day.updates) }
     {
-        Ok(Entries::of(copy_entries(alloc, &self.entries)?))
+        Ok(Entries::from_vec(copy_entries(alloc, &self.entries)?))
     }
 
     /// The `n` atoms from the place `from` on of a table's column, in the order of arrival.
@@ -190,7 +190,7 @@ impl OpenDay {
 fn copy_kinds(alloc: Global, kinds: &Kinds) -> Result<Kinds, NoMemory>
     ensures { IfOk result (λ copied. copied ≡ kinds.now) }
 {
-    Ok(Kinds::of(Vec::from_slice(alloc, kinds.as_slice())?))
+    Ok(Kinds::from_vec(Vec::from_slice(alloc, kinds.as_slice())?))
 }
 
 pub fn copy_tables(alloc: Global, tables: &[Kinds]) -> Result<Vec<Kinds>, NoMemory>

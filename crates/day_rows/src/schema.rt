@@ -68,7 +68,7 @@ impl Schema {
     }
 
     /// A schema of these tables, which are not copied.
-    pub fn of(shapes: Vec<Shape>) -> Schema
+    pub fn from_vec(shapes: Vec<Shape>) -> Schema
         requires { IsSchema shapes.items }
         ensures { result ≡ shapes.items }
     {

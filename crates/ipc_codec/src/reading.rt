@@ -63,7 +63,7 @@ fn vector_of(alloc: Global, bytes: &[u8], order: Order, kind: Kind) -> Result<(V
 {
     let (count, rest) = count_of(bytes, order)?;
     let (column, rest) = elements_of(alloc, rest, order, kind, count)?;
-    Ok((Vector::of(column), rest))
+    Ok((Vector::from_column(column), rest))
 }
 
 #[tactic(auto, unfolding(crate::specs::Reading::atom_at))]
@@ -210,8 +210,8 @@ fn table_from(names: Vec<Sym>, columns: Vec<Vector>, left: usize) -> Result<Tabl
         return Err(Fault::BadShape(left));
     }
     Ok(TableValue {
-        names: Sequence::of(names),
-        columns: Sequence::of(columns),
+        names: Sequence::from_vec(names),
+        columns: Sequence::from_vec(columns),
     })
 }
 
@@ -349,7 +349,7 @@ fn form_in(
         Form::Identity => Ok((Value::Identity, identity_of(bytes, left)?)),
         Form::Wrong => {
             let (text, rest) = text_of(bytes)?;
-            Ok((Value::Wrong(Text::of(Vec::from_slice(alloc, text)?)), rest))
+            Ok((Value::Wrong(Text::from_vec(Vec::from_slice(alloc, text)?)), rest))
         }
         Form::Unbuilt => Err(Stop::At(Fault::NotBuilt(left))),
         Form::Unknown => Err(Stop::At(Fault::BadType(left))),

@@ -70,7 +70,7 @@ impl MemLink {
         ensures input { IfOk result (λ l. l.input ≡ input.now) }
     {
         let mut pieces = Sequence::new(alloc);
-        pieces.push(Piece::Bytes(Text::of(Vec::from_slice(alloc, input)?)))?;
+        pieces.push(Piece::Bytes(Text::from_vec(Vec::from_slice(alloc, input)?)))?;
         Ok(MemLink::script(alloc, pieces, Sequence::new(alloc)))
     }
 

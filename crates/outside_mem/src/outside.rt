@@ -175,7 +175,7 @@ fn with_line(alloc: Global, mut lines: Vec<Text>, line: &[u8]) -> Option<Vec<Tex
     ensures { IfSome result (λ all. all.items ≡ lines.items ++ line.now ∷ []) }
 {
     let bytes = Vec::from_slice(alloc, line).ok()?;
-    lines.push(Text::of(bytes)).ok()?;
+    lines.push(Text::from_vec(bytes)).ok()?;
     Some(lines)
 }
 

@@ -8,7 +8,7 @@ use std::alloc::Global;
 use std::test::Fail;
 
 fn piece(alloc: Global, bytes: &[u8]) -> Result<Piece, NoMemory> {
-    Ok(Piece::Bytes(Text::of(Vec::from_slice(alloc, bytes)?)))
+    Ok(Piece::Bytes(Text::from_vec(Vec::from_slice(alloc, bytes)?)))
 }
 
 fn read_two<L: Link>(link: &mut L) -> (Got, [u8; 2]) {

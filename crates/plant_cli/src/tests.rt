@@ -146,7 +146,7 @@ fn refuses_to_write(alloc: Global) -> Result<Option<MemLink>, NoMemory>
     ensures { IfOk result (λ link. IfSome link (λ l. IsFresh l.shown)) }
 {
     let mut pieces = Pieces::new(alloc);
-    pieces.push(Piece::Bytes(Text::of(Vec::from_slice(alloc, GREETING)?)))?;
+    pieces.push(Piece::Bytes(Text::from_vec(Vec::from_slice(alloc, GREETING)?)))?;
     let mut takings = Takings::new(alloc);
     takings.push(Taking::Front(0))?;
     Ok(Some(MemLink::script(alloc, pieces, takings)))

@@ -67,7 +67,7 @@ fn repeated(alloc: Global, time: i64, n: usize) -> Result<Vector, NoMemory>
     ensures { IfOk result (λ v. v ≡ record { kind = Kind.Timespan; atoms = replicate n (Atom.Timespan time) }) }
 {
     let times = vec![in alloc; time; n]?;
-    Ok(Vector::of(Column::Longs(LongKind::Timespan, times)))
+    Ok(Vector::from_column(Column::Longs(LongKind::Timespan, times)))
 }
 
 /// A time as an item beside a first one of this length, if it is a vector.
@@ -300,5 +300,5 @@ pub fn spread_all(
     for item in others {
         columns.push(spread(alloc, item, n)?)?;
     }
-    Ok(Columns::of(columns))
+    Ok(Columns::from_vec(columns))
 }

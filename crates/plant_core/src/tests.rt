@@ -43,7 +43,7 @@ fn symbol(alloc: Global, name: &[u8]) -> Result<Atom, NoMemory> {
 
 fn longs(alloc: Global, kind: LongKind, items: &[i64]) -> Result<Value, NoMemory> {
     let items = Vec::from_slice(alloc, items)?;
-    Ok(Value::Vector(Vector::of(Column::Longs(kind, items))))
+    Ok(Value::Vector(Vector::from_column(Column::Longs(kind, items))))
 }
 
 fn asked(alloc: Global, table: &[u8], items: Values) -> Result<UpdRequest, NoMemory> {

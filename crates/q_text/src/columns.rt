@@ -60,21 +60,21 @@ fn vector_of(alloc: Global, kind: NumberKind, numbers: Vec<i64>) -> Result<Vecto
     match kind {
         NumberKind::Boolean => {
             let found = booleans_of(alloc, &numbers)?;
-            Ok(Vector::of(Column::Booleans(found)))
+            Ok(Vector::from_column(Column::Booleans(found)))
         }
         NumberKind::Byte => {
             let found = bytes_of(alloc, &numbers)?;
-            Ok(Vector::of(Column::Bytes(ByteKind::Byte, found)))
+            Ok(Vector::from_column(Column::Bytes(ByteKind::Byte, found)))
         }
         NumberKind::Short => {
             let found = shorts_of(alloc, &numbers)?;
-            Ok(Vector::of(Column::Shorts(found)))
+            Ok(Vector::from_column(Column::Shorts(found)))
         }
         NumberKind::Integers(kind) => {
             let found = integers_of(alloc, &numbers)?;
-            Ok(Vector::of(Column::Integers(kind, found)))
+            Ok(Vector::from_column(Column::Integers(kind, found)))
         }
-        NumberKind::Longs(kind) => Ok(Vector::of(Column::Longs(kind, numbers))),
+        NumberKind::Longs(kind) => Ok(Vector::from_column(Column::Longs(kind, numbers))),
     }
 }
 

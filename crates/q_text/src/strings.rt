@@ -64,5 +64,5 @@ pub fn characters_of(alloc: Global, bytes: Vec<u8>) -> Result<Value, NoMemory>
     ensures { IfOk result (λ value. tree value
         ≡ valued (record { kind = k.Character; atoms = map (λ b. a.Character b) bytes.items })) }
 {
-    value_of(alloc, Vector::of(Column::Bytes(ByteKind::Character, bytes)))
+    value_of(alloc, Vector::from_column(Column::Bytes(ByteKind::Character, bytes)))
 }

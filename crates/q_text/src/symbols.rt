@@ -35,5 +35,5 @@ pub fn symbols_of(alloc: Global, text: &[u8], at: usize) -> Result<Value, NoMemo
 {
     let mut found = Symbols::new(alloc);
     push_names(&mut found, text, at)?;
-    value_of(alloc, Vector::of(Column::Symbols(found)))
+    value_of(alloc, Vector::from_column(Column::Symbols(found)))
 }

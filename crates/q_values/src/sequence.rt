@@ -30,7 +30,7 @@ impl<T: Drop> Sequence<T> {
     }
 
     /// A list of these items, which are not copied.
-    pub fn of(items: Vec<T>) -> Sequence<T>
+    pub fn from_vec(items: Vec<T>) -> Sequence<T>
         ensures { result ≡ items.items }
     {
         Sequence { items }

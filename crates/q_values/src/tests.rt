@@ -14,26 +14,26 @@ use std::process::Abort;
 use std::test::Fail;
 
 fn booleans(alloc: Global, items: &[bool]) -> Result<Vector, NoMemory> {
-    Ok(Vector::of(Column::Booleans(Vec::from_slice(alloc, items)?)))
+    Ok(Vector::from_column(Column::Booleans(Vec::from_slice(alloc, items)?)))
 }
 
 fn bytes(alloc: Global, kind: ByteKind, items: &[u8]) -> Result<Vector, NoMemory> {
     let items = Vec::from_slice(alloc, items)?;
-    Ok(Vector::of(Column::Bytes(kind, items)))
+    Ok(Vector::from_column(Column::Bytes(kind, items)))
 }
 
 fn shorts(alloc: Global, items: &[i16]) -> Result<Vector, NoMemory> {
-    Ok(Vector::of(Column::Shorts(Vec::from_slice(alloc, items)?)))
+    Ok(Vector::from_column(Column::Shorts(Vec::from_slice(alloc, items)?)))
 }
 
 fn integers(alloc: Global, kind: IntegerKind, items: &[i32]) -> Result<Vector, NoMemory> {
     let items = Vec::from_slice(alloc, items)?;
-    Ok(Vector::of(Column::Integers(kind, items)))
+    Ok(Vector::from_column(Column::Integers(kind, items)))
 }
 
 fn longs(alloc: Global, kind: LongKind, items: &[i64]) -> Result<Vector, NoMemory> {
     let items = Vec::from_slice(alloc, items)?;
-    Ok(Vector::of(Column::Longs(kind, items)))
+    Ok(Vector::from_column(Column::Longs(kind, items)))
 }
 
 fn symbols(alloc: Global, items: &[&str]) -> Result<Vector, Fail> {

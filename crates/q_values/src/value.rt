@@ -93,7 +93,7 @@ impl Values {
     }
 
     /// A list of these items, which are not copied.
-    pub fn of(items: Vec<Value>) -> Values
+    pub fn from_vec(items: Vec<Value>) -> Values
         ensures { trees result ≡ map tree items.items }
     {
         Values { items }

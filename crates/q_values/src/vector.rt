@@ -111,11 +111,11 @@ impl Vector {
     pub fn order(&self, alloc: Global) -> Result<Places, NoMemory>
         ensures { IfOk result (λ places. IsOrder atom_cmp self.now.atoms places) }
     {
-        Ok(Places::of(self.column.order(alloc)?))
+        Ok(Places::from_vec(self.column.order(alloc)?))
     }
 
     /// A vector over this storage, which is not copied.
-    pub fn of(column: Column) -> Vector
+    pub fn from_column(column: Column) -> Vector
         ensures { result ≡ contents column }
     {
         Vector { column }

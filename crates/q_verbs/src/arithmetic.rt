@@ -167,7 +167,7 @@ pub(crate) fn arithmetic(
         right: right_wide.as_slice(),
     };
     let column = task.column(alloc, kind)?;
-    Ok(Vector::of(column))
+    Ok(Vector::from_column(column))
 }
 
 /// Each number negated, in this kind.
@@ -190,5 +190,5 @@ pub(crate) fn negation(alloc: Global, kind: Kind, x: &Vector) -> Result<Vector, 
         right: wide.as_slice(),
     };
     let column = task.column(alloc, kind)?;
-    Ok(Vector::of(column))
+    Ok(Vector::from_column(column))
 }

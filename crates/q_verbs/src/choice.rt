@@ -93,5 +93,5 @@ pub(crate) fn choice(
         Verb::Greater => choose_columns::<AtLeast>(alloc, left.column(), right.column())?,
         _ => unreachable!(),
     };
-    Ok(Vector::of(column))
+    Ok(Vector::from_column(column))
 }

@@ -179,7 +179,7 @@ fn compare_wide<P: Relation>(
 pub(crate) fn booleans(values: Vec<bool>) -> Vector
     ensures { result ≡ record { kind = k.Boolean; atoms = map (λ x. a.Boolean x) values.items } }
 {
-    Vector::of(Column::Booleans(values))
+    Vector::from_column(Column::Booleans(values))
 }
 
 fn compare<P: Relation>(alloc: Global, left: &Vector, right: &Vector) -> Result<Vector, NoMemory>

@@ -10,7 +10,7 @@ use std::test::Fail;
 
 fn one_long(alloc: Global, kind: LongKind, item: i64) -> Result<Vector, NoMemory> {
     let items = Vec::from_slice(alloc, &[item])?;
-    Ok(Vector::of(Column::Longs(kind, items)))
+    Ok(Vector::from_column(Column::Longs(kind, items)))
 }
 
 fn one_symbol(alloc: Global, name: &[u8]) -> Result<Vector, Fail> {

@@ -189,5 +189,5 @@ pub fn read_schema(alloc: Global, text: &[u8]) -> Result<Schema, SchemaRefusal>
     ensures { Gives (λ schema. schema) result (schema_of text.now) }
 {
     let tables = tables_behind(alloc, 65, Vec::new(alloc), text, first_part_of(text))?;
-    Ok(Schema::of(tables))
+    Ok(Schema::from_vec(tables))
 }

@@ -68,7 +68,7 @@ fn atoms_in(alloc: Global, vector: &Vector) -> Result<Values, NoMemory>
     for i in 0..vector.len() {
         atoms.push(Value::Atom(vector.at(alloc, i)?))?;
     }
-    Ok(Values::of(atoms))
+    Ok(Values::from_vec(atoms))
 }
 
 /// The items of a list, or the atoms of a vector.
@@ -149,7 +149,7 @@ fn vector_asked(alloc: Global, vector: &Vector) -> Result<Asked, NoMemory>
 {
     match vector.column() {
         Column::Bytes(kind, bytes) => match kind {
-            ByteKind::Character => Ok(Asked::Text(Text::of(Vec::from_slice(alloc, bytes)?))),
+            ByteKind::Character => Ok(Asked::Text(Text::from_vec(Vec::from_slice(alloc, bytes)?))),
             ByteKind::Byte => Ok(Asked::Other),
         },
         Column::Symbols(symbols) => Ok(call_of_symbols(symbols)),
@@ -172,7 +172,7 @@ fn atom_asked(alloc: Global, atom: &Atom) -> Result<Asked, NoMemory>
     ensures { IfOk result (Asks (atom_request (character_of atom.now))) }
 {
     match character_in(atom) {
-        Some(byte) => Ok(Asked::Text(Text::of(vec![in alloc; byte]?))),
+        Some(byte) => Ok(Asked::Text(Text::from_vec(vec![in alloc; byte]?))),
         None => Ok(Asked::Other),
     }
 }

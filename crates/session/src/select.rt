@@ -70,7 +70,7 @@ fn dates_at(alloc: Global, snapshot: &Snapshot, k: usize, place: u32) -> Result<
 {
     let rows = snapshot.rows_at(k, place) as usize;
     let dates = vec![in alloc; snapshot.date_at(k); rows]?;
-    Ok(Vector::of(Column::Integers(IntegerKind::Date, dates)))
+    Ok(Vector::from_column(Column::Integers(IntegerKind::Date, dates)))
 }
 
 /// The date of each row of a table.

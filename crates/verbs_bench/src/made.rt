@@ -20,7 +20,7 @@ pub fn longs(alloc: Global, count: u32, step: u64) -> Result<Vector, NoMemory>
     for i in 0..count {
         items.push(u64::from(i).wrapping_mul(step).cast_signed())?;
     }
-    Ok(Vector::of(Column::Longs(LongKind::Long, items)))
+    Ok(Vector::from_column(Column::Longs(LongKind::Long, items)))
 }
 
 /// Longs from 0 to 15.
@@ -31,7 +31,7 @@ pub fn codes(alloc: Global, count: u32) -> Result<Vector, NoMemory>
     for i in 0..count {
         items.push((u64::from(i).wrapping_mul(STEP) >> 60).cast_signed())?;
     }
-    Ok(Vector::of(Column::Longs(LongKind::Long, items)))
+    Ok(Vector::from_column(Column::Longs(LongKind::Long, items)))
 }
 
 /// Five of the codes.
@@ -39,7 +39,7 @@ pub fn five(alloc: Global) -> Result<Vector, NoMemory>
     ensures { IfOk result (λ v. v.kind ≡ k.Long) }
 {
     let items = Vec::from_slice(alloc, &[2, 3, 5, 7, 11])?;
-    Ok(Vector::of(Column::Longs(LongKind::Long, items)))
+    Ok(Vector::from_column(Column::Longs(LongKind::Long, items)))
 }
 
 // A letter and three digits.
