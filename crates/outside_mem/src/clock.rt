@@ -39,7 +39,7 @@ impl MemClock {
     {
         let last = *readings.at(readings.len() - 1);
         MemClock {
-            readings: Tape::of(readings),
+            readings: Tape::new(readings),
             last,
             given: History::new(),
         }
