@@ -8,48 +8,48 @@ pub returns-in_err-write_record-clause-kept : goal.returns-in_err-write_record-c
 returns-in_err-write_record-clause-kept g c =
     kept_on (g.D.Disk.shown c.args.disk.now) (g.D.Disk.shown c.write_record.new.disk) c.args.self.now (view_of c.self.inside.file c.self.inside.end BodyFailed)
     c.in_err-write_record.ensures.counts.1 (λ records. records) None c.requires.clean
-    (failed_at_body c.self.inside.file c.self.inside.end c.self.inside.state _ c.self.view_is _ _ c.write_record.ensures.shut c.in_err-write_record.ensures.counts.1) c.requires.kept
+    (failed_at_body c.self.inside.file c.self.inside.end c.self.inside.state _ c.self.view_is (g.D.Disk.shown c.args.disk.now) (g.D.Disk.shown c.write_record.new.disk) c.write_record.ensures.shut c.in_err-write_record.ensures.counts.1) c.requires.kept
 
 pub returns-in_err-write_record-clause-failed : goal.returns-in_err-write_record-clause-failed
 returns-in_err-write_record-clause-failed g c =
     on_err c.from_residual.result _
-    (failed_at_body c.self.inside.file c.self.inside.end c.self.inside.state _ c.self.view_is _ _ c.write_record.ensures.shut c.in_err-write_record.ensures.counts.1)
+    (failed_at_body c.self.inside.file c.self.inside.end c.self.inside.state _ c.self.view_is (g.D.Disk.shown c.args.disk.now) (g.D.Disk.shown c.write_record.new.disk) c.write_record.ensures.shut c.in_err-write_record.ensures.counts.1)
 
 pub returns-in_err-write_record-clause-any_moment : goal.returns-in_err-write_record-clause-any_moment
 returns-in_err-write_record-clause-any_moment g c =
-    moments_of_body c.self.inside.file c.self.inside.end c.self.inside.state _ c.self.view_is c.args.payload.now.bytes _ _ c.write_record.ensures.shut
+    moments_of_body c.self.inside.file c.self.inside.end c.self.inside.state _ c.self.view_is c.args.payload.now.bytes (g.D.Disk.shown c.args.disk.now) (g.D.Disk.shown c.write_record.new.disk) c.write_record.ensures.shut
 
 pub returns-in_err-write_gate-clause-kept : goal.returns-in_err-write_gate-clause-kept
 returns-in_err-write_gate-clause-kept g c =
     kept_on (g.D.Disk.shown c.args.disk.now) (g.D.Disk.shown c.write_gate.new.disk) c.args.self.now (view_of c.self.inside.file c.self.inside.end GateFailed)
     (c.in_err-write_gate.ensures.counts.1 ∙ c.in_ok-write_record.ensures.counts.1) (λ records. records) (Some c.args.payload.now.bytes) c.requires.clean
     (failed_at_gate c.self.inside.file c.self.inside.end c.self.inside.state _ c.self.view_is c.args.payload.now.bytes c.body-body.result.now
-    (c.requires.some, c.body-body.ensures.within) c.body-body.ensures.body _ _ _ c.in_ok-write_record.ensures.counts.1 c.in_ok-write_record.ensures.kept
+    (c.requires.some, c.body-body.ensures.within) c.body-body.ensures.body (g.D.Disk.shown c.args.disk.now) (g.D.Disk.shown c.write_record.new.disk) (g.D.Disk.shown c.write_gate.new.disk) c.in_ok-write_record.ensures.counts.1 c.in_ok-write_record.ensures.kept
     c.in_err-write_gate.ensures.counts.1 c.write_gate.ensures.ajar) c.requires.kept
 
 pub returns-in_err-write_gate-clause-failed : goal.returns-in_err-write_gate-clause-failed
 returns-in_err-write_gate-clause-failed g c =
     on_err c.from_residual-in_err-write_gate.result _
     (failed_at_gate c.self.inside.file c.self.inside.end c.self.inside.state _ c.self.view_is c.args.payload.now.bytes c.body-body.result.now
-    (c.requires.some, c.body-body.ensures.within) c.body-body.ensures.body _ _ _ c.in_ok-write_record.ensures.counts.1 c.in_ok-write_record.ensures.kept
+    (c.requires.some, c.body-body.ensures.within) c.body-body.ensures.body (g.D.Disk.shown c.args.disk.now) (g.D.Disk.shown c.write_record.new.disk) (g.D.Disk.shown c.write_gate.new.disk) c.in_ok-write_record.ensures.counts.1 c.in_ok-write_record.ensures.kept
     c.in_err-write_gate.ensures.counts.1 c.write_gate.ensures.ajar)
 
 pub returns-in_err-write_gate-clause-any_moment : goal.returns-in_err-write_gate-clause-any_moment
 returns-in_err-write_gate-clause-any_moment g c =
     moments_of_gate c.self.inside.file c.self.inside.end c.self.inside.state _ c.self.view_is c.args.payload.now.bytes c.body-body.result.now
-    (c.requires.some, c.body-body.ensures.within) c.body-body.ensures.body _ _ _ c.in_ok-write_record.ensures.counts.1 c.in_ok-write_record.ensures.kept
+    (c.requires.some, c.body-body.ensures.within) c.body-body.ensures.body (g.D.Disk.shown c.args.disk.now) (g.D.Disk.shown c.write_record.new.disk) (g.D.Disk.shown c.write_gate.new.disk) c.in_ok-write_record.ensures.counts.1 c.in_ok-write_record.ensures.kept
     c.write_record.ensures.shut c.write_gate.ensures.ajar
 
 pub returns-clause-any_moment : goal.returns-clause-any_moment
 returns-clause-any_moment g c =
     moments_of_gate c.self.inside.file c.self.inside.end c.self.inside.state _ c.self.view_is c.args.payload.now.bytes c.body-body.result.now
-    (c.requires.some, c.body-body.ensures.within) c.body-body.ensures.body _ _ _ c.in_ok-write_record.ensures.counts.1 c.in_ok-write_record.ensures.kept
+    (c.requires.some, c.body-body.ensures.within) c.body-body.ensures.body (g.D.Disk.shown c.args.disk.now) (g.D.Disk.shown c.write_record.new.disk) (g.D.Disk.shown c.write_gate.new.disk) c.in_ok-write_record.ensures.counts.1 c.in_ok-write_record.ensures.kept
     c.write_record.ensures.shut c.write_gate.ensures.ajar
 
 pub returns-clause-added : goal.returns-clause-added
 returns-clause-added g c =
     added_record c.self.inside.file c.self.inside.end c.self.inside.state _ c.self.view_is c.args.payload.now.bytes c.body-body.result.now
-    (c.requires.some, c.body-body.ensures.within) c.body-body.ensures.body _ _ _ c.in_ok-write_record.ensures.counts.1 c.in_ok-write_record.ensures.kept
+    (c.requires.some, c.body-body.ensures.within) c.body-body.ensures.body (g.D.Disk.shown c.args.disk.now) (g.D.Disk.shown c.write_record.new.disk) (g.D.Disk.shown c.write_gate.new.disk) c.in_ok-write_record.ensures.counts.1 c.in_ok-write_record.ensures.kept
     c.in_ok-write_gate.ensures.counts.1 c.in_ok-write_gate.ensures.kept
 
 pub returns-clause-kept : goal.returns-clause-kept
