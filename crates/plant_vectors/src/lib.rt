@@ -8,6 +8,8 @@ mod bytes;
 #[cfg(test)]
 mod faults;
 #[cfg(test)]
+mod order;
+#[cfg(test)]
 mod sessions;
 #[cfg(test)]
 mod sitting;
@@ -15,3 +17,5 @@ mod sitting;
 mod sizes;
 #[cfg(test)]
 mod updates;
+#[cfg(test)]
+mod watched;

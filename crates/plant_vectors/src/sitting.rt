@@ -18,7 +18,7 @@ pub const NOW: i64 = 757_503_000_000_000_000;
 pub const DAY: i64 = 86_400_000_000_000;
 
 /// 2024.01.02, in days since 2000.01.01.
-const TODAY: i32 = 8767;
+pub const TODAY: i32 = 8767;
 
 /// How a session is to end, what it is to send, and what it is to note.
 #[derive(Clone, Copy)]
@@ -85,7 +85,7 @@ fn serve<R: Wait>(
 }
 
 /// A clock that gives these readings, if there are any.
-fn clock_of(alloc: Global, readings: &[i64]) -> Result<Option<MemClock>, NoMemory> {
+pub fn clock_of(alloc: Global, readings: &[i64]) -> Result<Option<MemClock>, NoMemory> {
     let moments = Sequence::from_vec(Vec::from_slice(alloc, readings)?);
     if moments.len() == 0 {
         return Ok(None);
@@ -261,6 +261,13 @@ fn takings_of(alloc: Global, writes: &[Taking]) -> Result<Takings, NoMemory> {
     Ok(takings)
 }
 
+/// A link with these reads, and whose writes go as these.
+pub fn link_of(alloc: Global, reads: &[Read], writes: &[Taking]) -> Result<MemLink, NoMemory> {
+    let input = input_of(alloc, reads)?;
+    let takings = takings_of(alloc, writes)?;
+    Ok(MemLink::script(alloc, input, takings))
+}
+
 /// Whether a session whose input comes in these pieces goes so.
 pub fn pieces_go<R: Wait>(
     rt: &R,
@@ -283,9 +290,7 @@ pub fn script_goes_at<R: Wait>(
 ) -> Result<bool, NoMemory> {
     let mut limits = Limits::standard();
     limits.idle = 3;
-    let input = input_of(alloc, reads)?;
-    let takings = takings_of(alloc, writes)?;
-    let link = MemLink::script(alloc, input, takings);
+    let link = link_of(alloc, reads, writes)?;
     goes(rt, alloc, &limits, readings, link, wanted)
 }
 
