@@ -1,3 +1,4 @@
+-- What a link shows, and what its calls change.
 use Rattle.std.specs.Prelude.{◌≡◌, ◌<◌, ◌≤◌, ℕ, Bool, true, false, List, take, length, Option, Result, Ok, Err}
 use Rattle.outside_api.specs.Told.{told}
 use Rattle.outside_api.specs.Counts.{counted}
@@ -17,15 +18,16 @@ pub record LinkView : Type 0 where
   pub write_faults : ℕ
   pub idles : ℕ
 
--- what a read may give: bytes that go on from those before, the end, an idle that is counted, or a fault that is counted.
--- Behind the end there is only the end.
+-- what a read may give: bytes that go on from those before, the end, a timeout that is counted, or a fault that is
+-- counted; after the end only the end
 abbrev pub Reads : LinkView → LinkView → List ℕ → Got → Type 0
 Reads old new buf (Bytes n) = (old.ended ≡ false) × (n ≤ length buf) × (0 < length buf → 0 < n) × (new ≡ record old { given = told old.given (take n buf) })
 Reads old new buf End = new ≡ record old { ended = true }
 Reads old new buf Idle = (old.ended ≡ false) × (new ≡ record old { idles = counted old.idles 1 })
 Reads old new buf Failed = (old.ended ≡ false) × (new ≡ record old { read_faults = counted old.read_faults 1 })
 
--- what a write may give: all bytes are taken, or a front part of them, and the fault is counted
+-- what a write may give: all bytes are taken, or a prefix of them, and the fault is counted
 abbrev pub Writes : {T : Type 0} → LinkView → LinkView → List ℕ → Result T LinkFault → Type 0
 Writes old new bytes (Ok _) = new ≡ record old { taken = told old.taken bytes }
-Writes old new bytes (Err _) = (n : ℕ) × (n ≤ length bytes) × (new ≡ record old { taken = told old.taken (take n bytes); write_faults = counted old.write_faults 1 })
+Writes old new bytes (Err _) =
+    (n : ℕ) × (n ≤ length bytes) × (new ≡ record old { taken = told old.taken (take n bytes); write_faults = counted old.write_faults 1 })

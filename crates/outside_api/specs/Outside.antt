@@ -1,3 +1,4 @@
+-- What the maker of devices shows, and what its calls change.
 use Rattle.std.specs.Prelude.{◌≡◌, ℕ, false, List, [], ◌∷◌, Option, Result, Ok, Err}
 use Rattle.outside_api.specs.Counts.{counted}
 use Rattle.outside_api.specs.Told.{told, HasToldNothing}
@@ -30,8 +31,10 @@ abbrev pub Makes : {T : Type 0} → OutsideView → OutsideView → Result T Mak
 Makes old new (Ok _) = new ≡ old
 Makes old new (Err _) = new ≡ record old { make_faults = counted old.make_faults 1 }
 
+-- after a line was printed on standard error
 abbrev pub warned_of : OutsideView → List ℕ → OutsideView
 warned_of old line = record old { warned = told old.warned (line ∷ []) }
 
+-- after a link and a recorder were handed back
 abbrev pub handed_back : OutsideView → Option LinkView → Option (Option (List Turn)) → OutsideView
 handed_back old link noted = record old { backs = told old.backs (record { link = link; noted = noted } ∷ []) }

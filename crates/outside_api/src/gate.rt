@@ -1,6 +1,6 @@
 //! A gate: where a session or a save pauses, so that a test can hold it there.
 
-/// Where a pause is made.
+/// Where a session or a save pauses.
 #[derive(Clone, Copy, Debug, PartialEq, Eq)]
 pub enum Point {
     /// A date was ended.
@@ -13,5 +13,6 @@ pub enum Point {
 
 /// Pauses its caller. Nothing that contracts see changes.
 pub trait Gate {
+    /// Called at this point; it returns when the caller may go on.
     fn pause(&mut self, point: Point);
 }

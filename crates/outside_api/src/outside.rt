@@ -17,13 +17,16 @@ pub trait Outside {
     ghost use Rattle.outside_api.specs.Told.{HasToldNothing};
     ghost use Rattle.std.specs.Option.{option_map};
 
+    /// Its links.
     type Link: Link;
 
+    /// Its gates.
     type Gate: Gate + Drop;
 
+    /// Its recorders.
     type Recorder: Recorder;
 
-    /// What it shows: the lines warned of and what was handed back where it tells them, and its count of faults.
+    /// What it shows: the lines printed and what was handed back where it reports them, and its count of faults.
     ghost seen: { Self → OutsideView };
 
     /// The link of standard input and output. It has given and taken nothing, and its counts are 0.

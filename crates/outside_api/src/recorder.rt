@@ -9,10 +9,10 @@ pub trait Recorder {
     ghost use Rattle.outside_api.specs.Told.{Tells};
     ghost use Rattle.q_values.specs.declared.turn.Turn.{Turn};
 
-    /// The turns noted, where it tells them.
+    /// The turns noted, where it reports them.
     ghost noted: { Self → Option (List Turn) };
 
-    /// Notes one turn more. A recorder may stop telling.
+    /// Notes one more turn. A recorder may stop reporting.
     fn note(&mut self, turn: Turn)
         ensures { Tells (noted self.old) (noted self.new) (turn ∷ []) };
 }

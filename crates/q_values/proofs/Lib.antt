@@ -1,3 +1,5 @@
+mod PartLemmas
+pub mod ColumnLemmas
 pub mod ListLemmas
 pub mod OrderLemmas
 pub mod SymbolsLemmas

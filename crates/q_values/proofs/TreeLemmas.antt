@@ -1,4 +1,4 @@
-use Rattle.std.proofs.Common.{◌≡◌, map, rules}
+use Rattle.std.proofs.Common.{◌≡◌, map}
 use Rattle.q_values.specs.Tree.{Tree, tree, trees, value_step, pair_step, values_step}
 use Rattle.std.proofs.Common.{List}
 use Rattle.q_values.specs.declared.value.Values.{Values, out-Values, fold_out-Values}

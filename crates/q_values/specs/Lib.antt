@@ -2,6 +2,8 @@ pub mod Atom
 pub mod Bytes
 pub mod Column
 pub mod Contents
+pub mod Element
+pub mod Kind
 pub mod Limits
 pub mod Lists
 pub mod Order
@@ -9,4 +11,5 @@ pub mod Refusal
 pub mod Sym
 pub mod Symbols
 pub mod Table
+pub mod Time
 pub mod Tree

@@ -1,27 +1,27 @@
-//! What bounds a plant, and what a session notes of itself.
+//! What bounds a plant and its sessions.
 
 /// The limits of a plant and its sessions.
 #[derive(Clone, Copy, Debug, PartialEq, Eq)]
 pub struct Limits {
-    /// The bytes of a request, its header included.
+    /// The greatest number of bytes of a message that is read, its header included.
     pub message: u32,
-    /// The bytes of a greeting before its NUL.
+    /// The greatest number of bytes of a handshake before its NUL.
     pub greeting: u32,
-    /// The bytes of a response.
+    /// The greatest number of bytes of a response, its header included.
     pub reply: u32,
-    /// The bytes of a logged chunk.
+    /// The greatest number of bytes of a logged chunk.
     pub chunk: u32,
-    /// The bytes of a symbol in an update.
+    /// The greatest number of bytes of a symbol in an update.
     pub symbol: u32,
-    /// The rows of all tables in one date.
+    /// The greatest number of rows of all tables together in one date.
     pub day_rows: u64,
-    /// The distinct symbols of all saved dates.
+    /// The greatest number of distinct symbols of all saved dates.
     pub names: u32,
-    /// The idles of one session.
+    /// The number of read timeouts after which a session ends.
     pub idle: u64,
-    /// Whether publications are joined.
+    /// Whether publications are batched.
     pub batch: bool,
-    /// The pieces of an evaluation by dates.
+    /// The number of parallel parts of an evaluation by dates.
     pub workers: u32,
 }
 

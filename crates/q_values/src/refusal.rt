@@ -3,7 +3,7 @@
 use std::alloc::{AllocError, AllocFailed};
 use thiserror::Error;
 
-/// Memory was wanting. What the call was to change is as before.
+/// Out of memory. What the call was to change is as before.
 #[derive(Clone, Copy, Debug, PartialEq, Eq, Error)]
 #[error("out of memory")]
 pub struct NoMemory;
@@ -26,29 +26,18 @@ pub enum VectorRefusal {
     /// What was to be added has another kind than the vector.
     #[error("another kind")]
     KindMismatch,
-    /// Memory was wanting.
+    /// Out of memory.
     #[error("out of memory")]
     NoMemory,
 }
 
-impl From<AllocError> for VectorRefusal {
+impl From<NoMemory> for VectorRefusal {
     ghost use Rattle.std.specs.Prelude.{◌≡◌};
     ghost use Rattle.q_values.specs.declared.refusal.VectorRefusal.TheVariants as r;
 
     ghost from_gives = { λ _ e. e ≡ r.NoMemory };
 
-    fn from(_e: AllocError) -> VectorRefusal {
-        VectorRefusal::NoMemory
-    }
-}
-
-impl<T: Drop> From<AllocFailed<T>> for VectorRefusal {
-    ghost use Rattle.std.specs.Prelude.{◌≡◌};
-    ghost use Rattle.q_values.specs.declared.refusal.VectorRefusal.TheVariants as r;
-
-    ghost from_gives = { λ _ e. e ≡ r.NoMemory };
-
-    fn from(_e: AllocFailed<T>) -> VectorRefusal {
+    fn from(_e: NoMemory) -> VectorRefusal {
         VectorRefusal::NoMemory
     }
 }

@@ -1,9 +1,12 @@
 //! Lists that contracts see as lists.
-ghost use Rattle.std.specs.Prelude.{◌≡◌, ◌<◌, [], ◌∷◌, ◌++◌, length, Some, slice_get, OnOk, OnErr};
+ghost use Rattle.std.specs.Iterator.Adapters.{IterYieldsInOrder};
+ghost use Rattle.std.specs.Slice.Iter.{iter_rest};
+ghost use Rattle.std.specs.Prelude.{◌≡◌, ◌==◌, ◌<◌, ◌^◌, [], ◌∷◌, ◌++◌, length, Some, slice_get, option_copied, OnOk, OnErr};
 
 use crate::refusal::NoMemory;
 use std::alloc::Global;
 use std::marker::Model;
+use std::slice::Iter;
 
 /// A list of items, seen by contracts as that list.
 #[derive(Drop)]
@@ -43,6 +46,13 @@ impl<T: Drop> Sequence<T> {
         self.items.len()
     }
 
+    /// Whether there are no items.
+    pub fn is_empty(&self) -> bool
+        ensures { result ≡ (length self.now == 0) }
+    {
+        self.items.is_empty()
+    }
+
     /// The items, which are not copied.
     pub fn into_vec(self) -> Vec<T>
         ensures { result.items ≡ self }
@@ -59,12 +69,29 @@ impl<T: Drop> Sequence<T> {
         Ok(())
     }
 
-    /// Lends the item at a place.
+    /// Lends the item at the index `i`.
     pub fn at(&self, i: usize) -> &T
         requires { i < length self.now }
         ensures { slice_get self.now i ≡ Some result.now }
     {
         &self.items[i]
+    }
+
+    /// Lends the item at the index `i`, if there is one.
+    pub fn get(&self, i: usize) -> Option<&T>
+        ensures { option_copied result ≡ slice_get self.now i }
+    {
+        self.items.get(i)
+    }
+
+    /// Goes over the items, in order.
+    pub fn iter(&self) -> Iter<'_, T>
+        ensures rest { iter_rest result ≡ self.now }
+        ensures len { length (iter_rest result) ≡ length self.now }
+        ensures bound { length (iter_rest result) < 2 ^ 64 }
+        ensures runs { IterYieldsInOrder T }
+    {
+        self.items.iter()
     }
 
     /// Lends the items.

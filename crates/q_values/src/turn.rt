@@ -1,55 +1,57 @@
 //! What a session notes, in order.
 
-/// One turn of a session.
+/// One turn of a session: what it did with one message or read timeout. A place is the index of an entry in the
+/// plant's chronicle, a length the number of entries there, and `now` the clock's reading, in nanoseconds since
+/// 2000.01.01.
 #[derive(Clone, Copy, Debug, PartialEq, Eq)]
 pub enum Turn {
-    /// The greeting was answered.
+    /// The handshake was answered; the client offered this capability.
     Greeted { capability: u8 },
     /// An update was logged at this place.
     Logged { place: u64, now: i64 },
-    /// A date was ended by the entry at this place.
+    /// The open date was ended by the entry at this place.
     Rolled { place: u64, now: i64 },
-    /// An update was refused, the log having this length.
+    /// An update was refused, judged on a chronicle of this length.
     Refused { length: u64, now: i64 },
-    /// A disk fault stands at this place.
+    /// The entry at this place records a disk fault.
     Failed { place: u64, now: i64 },
-    /// An idle found no date to end.
+    /// At a read timeout there was no date to end.
     Quiet { length: u64, now: i64 },
     /// A text was answered over this length.
     Answered { length: u64 },
     /// A subscription holds from this length on.
     Subscribed { length: u64 },
-    /// What was logged from one length to another was published.
+    /// The entries from one length to another were published.
     Told { from: u64, to: u64 },
-    /// The message is no request that is served.
+    /// A message that no request can be made of.
     Declined,
     /// An async message that asks for nothing.
     Passed,
-    /// A read of the shelf failed.
+    /// A read of the shelf failed; the count of such faults is now this.
     ShelfFailed { count: u64 },
-    /// A part's file is not what was written.
+    /// This file of the date's part isn't what was written.
     Unreadable { date: i32, file: u32 },
-    /// A publication would be too long.
+    /// The entries from one length to another make a message that is too long to publish.
     TooLong { from: u64, to: u64 },
-    /// A save ended so.
+    /// A save of an ended date came out so.
     Saving { end: SaveEnd },
-    /// Memory was wanting.
+    /// Out of memory: nothing was done.
     Short,
 }
 
-/// How a save of one ended date came out.
+/// How a save of one ended date came out. A date is a number of days since 2000.01.01.
 #[derive(Clone, Copy, Debug, PartialEq, Eq)]
 pub enum SaveEnd {
     /// The date is a part now.
     Saved { date: i32 },
     /// There was no date to save.
     Nothing,
-    /// The names would be more than the limit.
+    /// There would be more names than this limit.
     Full { limit: u32 },
-    /// A disk fault stands at this place.
+    /// The entry at this place records a disk fault.
     DiskFault { place: u64 },
     /// A call of the shelf failed.
     ShelfFault,
-    /// Memory was wanting.
+    /// Out of memory.
     NoMemory,
 }

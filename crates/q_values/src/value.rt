@@ -1,5 +1,7 @@
 //! Values: what a message or an answer holds.
-ghost use Rattle.std.specs.Prelude.{◌≡◌, ◌<◌, [], ◌∷◌, ◌++◌, length, map, Some, slice_get, OnOk, OnErr};
+ghost use Rattle.std.specs.Iterator.Adapters.{IterYieldsInOrder};
+ghost use Rattle.std.specs.Slice.Iter.{iter_rest};
+ghost use Rattle.std.specs.Prelude.{◌≡◌, ◌==◌, ◌<◌, ◌^◌, [], ◌∷◌, ◌++◌, length, map, Some, slice_get, option_copied, option_map, OnOk, OnErr};
 ghost use Rattle.q_values.specs.Table.{IsTable, rows_of};
 
 use crate::atom::Atom;
@@ -8,6 +10,7 @@ use crate::sequence::Sequence;
 use crate::sym::Sym;
 use crate::vector::Vector;
 use std::alloc::Global;
+use std::slice::Iter;
 
 /// The bytes of a text.
 pub type Text = Sequence<u8>;
@@ -18,7 +21,7 @@ pub type Names = Sequence<Sym>;
 /// Vectors, as the columns of a table.
 pub type Columns = Sequence<Vector>;
 
-/// Places in a list, counted from 0.
+/// Indices of a list, counted from 0.
 pub type Places = Sequence<usize>;
 
 /// A table: at least one column, a name for each, and columns of one length.
@@ -106,6 +109,13 @@ impl Values {
         self.items.len()
     }
 
+    /// Whether there are no items.
+    pub fn is_empty(&self) -> bool
+        ensures { result ≡ (length (trees self.now) == 0) }
+    {
+        self.len() == 0
+    }
+
     /// Puts the item at the end. A refused call changes nothing.
     pub fn push(&mut self, item: Value) -> Result<(), NoMemory>
         ensures ok { OnOk result (trees self.new ≡ trees self.old ++ tree item ∷ []) }
@@ -115,12 +125,32 @@ impl Values {
         Ok(())
     }
 
-    /// Lends the item at a place.
+    /// Lends the item at the index `i`.
     pub fn at(&self, i: usize) -> &Value
         requires { i < length (trees self.now) }
         ensures { slice_get (trees self.now) i ≡ Some (tree result.now) }
     {
         &self.items[i]
+    }
+
+    /// Lends the item at the index `i`, if there is one.
+    pub fn get(&self, i: usize) -> Option<&Value>
+        ensures { option_map tree (option_copied result) ≡ slice_get (trees self.now) i }
+    {
+        if i < self.len() {
+            Some(self.at(i))
+        } else {
+            None
+        }
+    }
+
+    /// Goes over the items, in order.
+    pub fn iter(&self) -> Iter<'_, Value>
+        ensures rest { map tree (iter_rest result) ≡ trees self.now }
+        ensures bound { length (iter_rest result) < 2 ^ 64 }
+        ensures runs { IterYieldsInOrder Value }
+    {
+        self.items.iter()
     }
 
     /// The items, which are not copied.

@@ -1,5 +1,6 @@
 //! Vectors: atoms of one kind.
-ghost use Rattle.std.specs.Prelude.{◌≡◌, ◌≢◌, ◌<◌, ◌+◌, ◌≤◌, [], ◌∷◌, ◌++◌, length, map, take, drop, Some, slice_get, OnOk, OnErr, IfOk, IfErr, IfSome, IfNone, All};
+ghost use Rattle.std.specs.Prelude.{◌≡◌, ◌≢◌, ◌==◌, ◌<◌, ◌+◌, ◌≤◌, [], ◌∷◌, ◌++◌, length, map, take, drop, Some, slice_get};
+ghost use Rattle.std.specs.Prelude.{OnOk, OnErr, IfOk, IfErr, IfSome, IfNone, All};
 ghost use Rattle.q_values.specs.Atom.{kind_of};
 ghost use Rattle.q_values.specs.Lists.{gathered};
 ghost use Rattle.q_values.specs.Order.{IsOrder, atom_cmp};
@@ -16,6 +17,7 @@ use std::marker::Model;
 /// Atoms of one kind, in typed storage (KX, IPC reference). Contracts see its kind and the list of its atoms.
 #[derive(Drop)]
 pub struct Vector {
+    // The atoms, at the width of their kind.
     column: Column,
 }
 
@@ -43,7 +45,8 @@ impl Vector {
 
     /// The kind of its atoms.
     pub fn kind(&self) -> Kind
-        ensures { result ≡ self.now.kind }
+        ensures value { result ≡ self.now.kind }
+        ensures of_kind { All (λ atom. kind_of atom ≡ self.now.kind) self.now.atoms }
     {
         self.column.kind()
     }
@@ -55,7 +58,14 @@ impl Vector {
         self.column.len()
     }
 
-    /// The atom at the place `i`.
+    /// Whether there are no atoms.
+    pub fn is_empty(&self) -> bool
+        ensures { result ≡ (length self.now.atoms == 0) }
+    {
+        self.column.is_empty()
+    }
+
+    /// The atom at the index `i`.
     pub fn at(&self, alloc: Global, i: usize) -> Result<Atom, NoMemory>
         requires { i < length self.now.atoms }
         ensures { IfOk result (λ atom. slice_get self.now.atoms i ≡ Some atom) }
@@ -73,7 +83,18 @@ impl Vector {
         self.column.push(atom)
     }
 
-    /// A copy of the `n` atoms from the place `from` on.
+    /// The atom at the index `i`, if there is one.
+    pub fn get(&self, alloc: Global, i: usize) -> Result<Option<Atom>, NoMemory>
+        ensures { IfOk result (λ atom. atom ≡ slice_get self.now.atoms i) }
+    {
+        if i < self.len() {
+            Ok(Some(self.at(alloc, i)?))
+        } else {
+            Ok(None)
+        }
+    }
+
+    /// A copy of the `n` atoms from the index `from` on.
     pub fn take(&self, alloc: Global, from: usize, n: usize) -> Result<Vector, NoMemory>
         requires { from + n ≤ length self.now.atoms }
         ensures { IfOk result
@@ -84,7 +105,7 @@ impl Vector {
         })
     }
 
-    /// A copy of the atoms at the places, in the order of the places.
+    /// A copy of the atoms at these indices, in their order.
     pub fn gather(&self, alloc: Global, places: &[usize]) -> Result<Vector, NoMemory>
         requires { All (λ i. i < length self.now.atoms) places.now }
         ensures { IfOk result
@@ -95,7 +116,7 @@ impl Vector {
         })
     }
 
-    /// Puts the atoms of the other vector behind its own. Another kind is refused, and a refused call changes nothing.
+    /// Appends the atoms of the other vector. Another kind is refused, and a refused call changes nothing.
     pub fn append(&mut self, other: &Vector) -> Result<(), VectorRefusal>
         ensures ok { OnOk result
             (self.new ≡ record self.old { atoms = self.old.atoms ++ other.now.atoms }) }
@@ -106,8 +127,26 @@ impl Vector {
         self.column.append(&other.column)
     }
 
-    /// The places of the atoms in ascending order, ties by place: symbols and characters by bytes, all others by
-    /// number, so that a null comes first.
+    /// Appends the `n` atoms of the other vector from the index `from` on. Another kind is refused, and a refused call
+    /// changes nothing.
+    pub fn append_part(
+        &mut self,
+        other: &Vector,
+        from: usize,
+        n: usize,
+    ) -> Result<(), VectorRefusal>
+        requires { from + n ≤ length other.now.atoms }
+        ensures ok { OnOk result
+            (self.new ≡ record self.old { atoms = self.old.atoms ++ take n (drop from other.now.atoms) }) }
+        ensures kind { OnOk result (other.now.kind ≡ self.old.kind) }
+        ensures err { OnErr result (self.new ≡ self.old) }
+        ensures refused { IfErr result (RefusesKinds self.old.kind other.now.kind) }
+    {
+        self.column.append_part(&other.column, from, n)
+    }
+
+    /// The indices of the atoms in ascending order, ties by index: symbols and characters by bytes, all others by
+    /// number, so that a null comes first (the null of a character aside).
     pub fn order(&self, alloc: Global) -> Result<Places, NoMemory>
         ensures { IfOk result (λ places. IsOrder atom_cmp self.now.atoms places) }
     {

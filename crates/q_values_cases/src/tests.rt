@@ -1,14 +1,8 @@
 //! Tests with values from outside.
-use crate::atom::Atom;
-use crate::column::Column;
-use crate::kind::{ByteKind, IntegerKind, Kind, LongKind};
-use crate::limits::Limits;
-use crate::refusal::{NoMemory, VectorRefusal};
-use crate::sequence::Sequence;
-use crate::sym::{Sym, SymRefusal};
-use crate::symbols::Symbols;
-use crate::value::{Value, Values};
-use crate::vector::Vector;
+use q_values::{
+    Atom, ByteKind, Column, IntegerKind, Kind, Limits, LongKind, NoMemory, Sequence, Storage, Sym,
+    SymRefusal, Symbols, Value, Values, Vector, VectorRefusal,
+};
 use std::alloc::Global;
 use std::process::Abort;
 use std::test::Fail;
@@ -207,14 +201,53 @@ fn values_and_literals(rt: HostRuntime) -> Result<(), Fail> {
 }
 
 #[test]
-fn appends_symbols(rt: HostRuntime) -> Result<(), Fail> {
+fn appends_parts(rt: HostRuntime) -> Result<(), Fail> {
     let alloc = rt.alloc();
     let mut joined = symbols(alloc, &["b"])?;
     joined.append(&symbols(alloc, &["", "a"])?)?;
     assert!(rt; are_same(&joined, &symbols(alloc, &["b", "", "a"])?));
-    assert_eq!(rt; joined.len(), 3);
+    joined.append_part(&symbols(alloc, &["zz", "cd", "", "e", "f"])?, 1, 3)?;
+    assert!(rt; are_same(&joined, &symbols(alloc, &["b", "", "a", "cd", "", "e"])?));
+    joined.append_part(&symbols(alloc, &["zz"])?, 1, 0)?;
+    assert_eq!(rt; joined.len(), 6);
     assert!(rt;
-        matches!(&joined.at(alloc, 2)?, Atom::Symbol(name) if name.bytes() == b"a".as_slice())
+        matches!(&joined.at(alloc, 3)?, Atom::Symbol(name) if name.bytes() == b"cd".as_slice())
+    );
+    let mut numbers = longs(alloc, LongKind::Long, &[7])?;
+    numbers.append_part(&longs(alloc, LongKind::Long, &[1, 2, 3])?, 1, 2)?;
+    assert!(rt; are_same(&numbers, &longs(alloc, LongKind::Long, &[7, 2, 3])?));
+    Ok(())
+}
+
+/// The type numbers of KX's Datatypes reference, and how wide each kind is in a message.
+#[test]
+fn type_numbers(rt: HostRuntime) -> Result<(), Fail> {
+    for (number, width) in [
+        (1, 1),
+        (4, 1),
+        (5, 2),
+        (6, 4),
+        (7, 8),
+        (10, 1),
+        (11, 0),
+        (12, 8),
+        (13, 4),
+        (14, 4),
+        (16, 8),
+        (17, 4),
+        (18, 4),
+        (19, 4),
+    ] {
+        let kind = Kind::from_type_number(number).expect(&rt, "a kind");
+        assert_eq!(rt; u16::from(kind.type_number()), number);
+        assert_eq!(rt; kind.width(), width);
+    }
+    for number in [0, 2, 3, 8, 9, 15, 20, 98, 256] {
+        assert!(rt; Kind::from_type_number(number).is_none());
+    }
+    assert_eq!(rt;
+        Kind::Second.storage(),
+        Storage::Integer(IntegerKind::Second)
     );
     Ok(())
 }
@@ -227,10 +260,17 @@ fn lists_of_values(rt: HostRuntime) -> Result<(), Fail> {
     values.push(Value::Identity)?;
     assert_eq!(rt; values.len(), 2);
     assert!(rt; matches!(values.at(1), Value::Identity));
-    assert_eq!(rt; values.as_slice().len(), 2);
+    assert!(rt; values.get(2).is_none());
+    assert_eq!(rt; values.iter().count(), 2);
     let mut numbers: Sequence<u32> = Sequence::new(alloc);
+    assert!(rt; numbers.is_empty());
     numbers.push(4)?;
     assert_eq!(rt; numbers.as_slice(), [4].as_slice());
+    assert_eq!(rt; numbers.get(0), Some(&4));
+    assert_eq!(rt; numbers.iter().count(), 1);
     assert_eq!(rt; Limits::standard().symbol, 256);
+    let sizes = longs(alloc, LongKind::Long, &[3])?;
+    assert!(rt; matches!(sizes.get(alloc, 0)?, Some(Atom::Long(3))));
+    assert!(rt; sizes.get(alloc, 1)?.is_none());
     Ok(())
 }
