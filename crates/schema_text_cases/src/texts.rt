@@ -1,13 +1,12 @@
-//! Tests with values from outside.
+//! Schema texts with their expected outcomes.
 
-use crate::reading::{BUILT_IN, read_schema};
-use crate::refusal::SchemaRefusal;
 use q_values::Kind;
+use schema_text::{BUILT_IN, SchemaRefusal, read_schema};
 use std::alloc::Global;
 use std::process::Abort;
 use std::test::Fail;
 
-// What reading a text comes to, in a few words.
+// The outcome of reading a text, without the names.
 #[derive(Clone, Copy, Debug, PartialEq, Eq)]
 enum Outcome {
     Tables(usize),
@@ -51,7 +50,7 @@ fn assert_built_in(rt: &impl Abort, alloc: Global) {
     }
 }
 
-// A table of `count` columns behind the first two.
+// A table with `count` columns after the first two.
 fn wide_table(alloc: Global, count: usize) -> Result<Vec<u8>, Fail> {
     let mut text = Vec::new(alloc);
     text.extend_from_slice(b"t:([]time:`timespan$();sym:`symbol$()")?;

@@ -1,5 +1,5 @@
 use Rattle.schema_text.proofs.Shapes.{growing-push}
-use Rattle.schema_text.proofs.columns.column_behind.Goals as goal
+use Rattle.schema_text.proofs.columns.read_column.Goals as goal
 
 pub returns-clause-lawful : goal.returns-clause-lawful
 returns-clause-lawful c =

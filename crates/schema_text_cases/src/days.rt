@@ -1,10 +1,9 @@
-//! Tests of days over the built-in schema.
-
+//! A day over the built-in schema, before and after its end.
 ghost use Rattle.std.specs.Prelude.{◌≡◌};
 
-use crate::reading::{BUILT_IN, read_schema};
 use day_rows::{Entries, Entry, OpenDay};
 use q_values::{Atom, Column, Columns, Kind, LongKind, NoMemory, Sym, Vector};
+use schema_text::{BUILT_IN, read_schema};
 use std::alloc::Global;
 use std::test::Fail;
 
@@ -33,7 +32,7 @@ fn trade(alloc: Global, time: i64, name: &[u8], price: i64) -> Result<Entry, Fai
     })
 }
 
-// Puts an entry into the day, where the day admits it.
+// Adds an entry to the day, where the day admits it.
 fn log(alloc: Global, day: &mut OpenDay, entry: Entry) -> Result<bool, NoMemory>
     ensures { day.new.day.kinds ≡ day.old.day.kinds }
 {
