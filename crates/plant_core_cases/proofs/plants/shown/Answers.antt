@@ -2,7 +2,7 @@ use Rattle.std.proofs.Common.{ap, ◌≡◌, ◌∙◌, sym, refl, Some, slice_g
 use Rattle.std.proofs.lemmas.Option.{slice_get-map}
 use Rattle.day_rows.specs.declared.schema.Shape.{Shape}
 use Rattle.plant_core.specs.Plant.{SnapshotView, kinds_of}
-use Rattle.plant_core.proofs.tests.shown.Goals as goal
+use Rattle.plant_core_cases.proofs.plants.shown.Goals as goal
 
 pub column-requires-clause-exists : goal.column-requires-clause-exists
 column-requires-clause-exists c =

@@ -1,31 +1,32 @@
-//! Tests with values from outside.
-use crate::access::{Access, TickTurn, UpdTurn};
-use crate::plant::Plant;
-use crate::refusal::UpdRefusal;
-use crate::request::UpdRequest;
-use crate::snapshot::Snapshot;
-use crate::solo::Solo;
-use q_values::{Atom, Column, Kind, Limits, LongKind, NoMemory, Sym, Value, Values, Vector};
+//! Plants over the built-in schema: which updates are logged, and what is read afterwards.
+ghost use Rattle.std.specs.Prelude.{◌≡◌, ◌<ℤ◌, pos, true, false, [], ◌∷◌};
+ghost use Rattle.day_rows.specs.Chronicle.{date_of};
+
+use plant_core::{
+    Access, Plant, Prepared, Snapshot, Solo, TickTurn, UpdRefusal, UpdRequest, UpdTurn,
+};
+use q_values::{
+    Atom, Column, Kind, Limits, LongKind, NANOSECONDS_PER_DAY, NoMemory, Sym, Value, Values, Vector,
+};
 use schema_text::{BUILT_IN, read_schema};
 use std::alloc::Global;
 use std::sync::Wait;
 use std::test::Fail;
 
-/// 2024.01.02.
+/// 2024.01.02, in days since 2000.01.01.
 const DATE: i32 = 8_767;
 
-/// The place of `trade` in the schema.
+/// The index of `trade` in the schema.
 const TRADE: u32 = 1;
 
-/// `0D09:30`.
+/// `0D09:30`, in nanoseconds.
 const HALF_PAST_NINE: i64 = 34_200_000_000_000;
 
+/// A minute, in nanoseconds.
 const MINUTE: i64 = 60_000_000_000;
 
-/// 2024.01.02D09:30.
+/// 2024.01.02D09:30, in nanoseconds since 2000.01.01.
 const NOW: i64 = 757_503_000_000_000_000;
-
-const DAY: i64 = 86_400_000_000_000;
 
 fn begun(alloc: Global) -> Result<Option<Plant>, NoMemory> {
     match read_schema(alloc, BUILT_IN) {
@@ -69,6 +70,23 @@ fn trade(
     asked(alloc, b"trade", items)
 }
 
+// Logs a prepared update, after the roll where one is due.
+fn log(alloc: Global, plant: &mut Plant, update: Prepared) -> Result<(), NoMemory>
+    requires frame { update.frame ≡ plant.old.frame }
+    requires same { update.entries ≡ plant.old.entries }
+    requires room { update.rolls ≡ false → plant.old.room ≡ update.entry ∷ [] }
+    requires date { update.rolls ≡ true → date_of plant.old.frame.first plant.old.entries <ℤ pos 106751 }
+{
+    if !update.rolls() {
+        let _place = plant.commit(update);
+        return Ok(());
+    }
+    let roll = plant.prepare_roll(alloc, 1)?;
+    let _rolled = plant.commit_roll(roll);
+    let _place = plant.commit(update);
+    Ok(())
+}
+
 // The refusal of an update, or none where it was logged.
 fn refusal_of(
     alloc: Global,
@@ -78,7 +96,7 @@ fn refusal_of(
 ) -> Result<Option<UpdRefusal>, NoMemory> {
     match plant.prepare(alloc, 1, request, now) {
         Ok(update) => {
-            let _places = plant.log(alloc, update)?;
+            log(alloc, plant, update)?;
             Ok(None)
         }
         Err(UpdRefusal::NoMemory) => Err(NoMemory),
@@ -95,7 +113,7 @@ fn is_logged(
     Ok(refusal_of(alloc, plant, request, now)?.is_none())
 }
 
-// A column of `trade` on the date at a place.
+// A column of `trade` on the date with the index `k`.
 fn shown(alloc: Global, plant: &Plant, k: usize, column: u32) -> Result<Option<Vector>, NoMemory> {
     let snapshot = plant.snapshot(alloc)?;
     let schema = plant.schema();
@@ -234,14 +252,14 @@ fn atom_spread_to_columns(rt: HostRuntime) -> Result<(), Fail> {
 
 fn is_past(alloc: Global, plant: &mut Plant) -> Result<bool, NoMemory> {
     let request = trade(alloc, HALF_PAST_NINE, b"b", 10, 100)?;
-    match refusal_of(alloc, plant, &request, NOW + 2 * DAY)? {
+    match refusal_of(alloc, plant, &request, NOW + 2 * NANOSECONDS_PER_DAY)? {
         Some(UpdRefusal::MoreThanOneDay) => Ok(plant.length() == 0 && plant.next_by() == 1),
         _ => Ok(false),
     }
 }
 
 fn is_kept_back(alloc: Global, plant: &mut Plant) -> Result<bool, NoMemory> {
-    let logged = logs_trade(alloc, plant, HALF_PAST_NINE, b"b", 10, NOW - DAY)?;
+    let logged = logs_trade(alloc, plant, HALF_PAST_NINE, b"b", 10, NOW - NANOSECONDS_PER_DAY)?;
     let stays = plant.date() == DATE && plant.opened_at() == 0;
     Ok(logged && stays && plant.length() == 1 && plant.next_by() == 2)
 }
@@ -332,7 +350,7 @@ fn logs_four(alloc: Global, plant: &mut Plant) -> Result<bool, NoMemory> {
     let second = logs_trade(alloc, plant, HALF_PAST_NINE + MINUTE, b"a", 20, NOW)?;
     let third = logs_trade(alloc, plant, HALF_PAST_NINE + 2 * MINUTE, b"b", 11, NOW)?;
     let arrived = shows_symbols(alloc, plant, 0, &["b", "a", "b"])?;
-    let fourth = logs_trade(alloc, plant, HALF_PAST_NINE, b"c", 30, NOW + DAY)?;
+    let fourth = logs_trade(alloc, plant, HALF_PAST_NINE, b"c", 30, NOW + NANOSECONDS_PER_DAY)?;
     Ok(first && second && third && arrived && fourth)
 }
 
@@ -410,7 +428,7 @@ fn solo(alloc: Global) -> Result<Option<Solo>, NoMemory> {
     }
 }
 
-// The places of an update of one row that was logged.
+// The indices of the roll and of the update, where an update of one row was logged.
 fn places<R: Wait>(
     rt: &R,
     alloc: Global,
@@ -427,8 +445,8 @@ fn places<R: Wait>(
 fn passes<R: Wait>(rt: &R, alloc: Global, solo: &mut Solo) -> Result<bool, NoMemory> {
     let first = places(rt, alloc, solo, NOW)? == Some((None, 0));
     let quiet = solo.tick(rt, alloc, NOW) == TickTurn::Quiet { length: 1 };
-    let rolled = solo.tick(rt, alloc, NOW + DAY) == TickTurn::Rolled { place: 1 };
-    let second = places(rt, alloc, solo, NOW + 2 * DAY)? == Some((Some(2), 3));
+    let rolled = solo.tick(rt, alloc, NOW + NANOSECONDS_PER_DAY) == TickTurn::Rolled { place: 1 };
+    let second = places(rt, alloc, solo, NOW + 2 * NANOSECONDS_PER_DAY)? == Some((Some(2), 3));
     let length = solo.snapshot(rt, alloc)?.length();
     Ok(first && quiet && rolled && second && length == 4 && solo.by() == 1)
 }
