@@ -1,8 +1,8 @@
 #!/usr/bin/env python3
-"""Times decoding, encoding and framing beside a copy of the same bytes and the same loops in Rust.
+"""Times decoding, encoding and framing, compared with a copy of the same bytes and the same loops in Rust.
 
 Works on a table of trades and on a vector of longs. Prints the milliseconds of each call, the best of all rounds, and
-its ratios to the copy and to the loop. Wants rustc, the kit's `rt`, and nothing else but Python 3.
+its ratios to the copy and to the loop. Needs rustc and the kit's `rt`, and nothing else but Python 3.
 """
 
 import argparse
@@ -10,7 +10,7 @@ import tempfile
 
 import programs
 
-# Each call of the plant, and the loop that it is set beside.
+# Each call of the plant, and the loop that it is compared with.
 CALLS = (("decode", "decode"), ("encode", "encode"), ("measure", None), ("feed", None))
 
 
@@ -26,21 +26,21 @@ def main():
     options = parser.parse_args()
     if min(options.rows, options.longs, options.runs) < 1:
         parser.error("N is at least 1")
-    words = [str(options.rows), str(options.longs)]
+    arguments = [str(options.rows), str(options.longs)]
     program = programs.proved("codec_bench")
     own, other = {}, {}
     with tempfile.TemporaryDirectory() as folder:
         loop = programs.compiled(folder, "codec")
         for _ in range(options.runs):
-            programs.best_of([program, *words], own)
-            programs.best_of([loop, *words], other)
+            programs.best_of([program, *arguments], own)
+            programs.best_of([loop, *arguments], other)
     print(f"{'':14} {'bytes':>11} {'ms':>9} {'copy ms':>9} {'loop ms':>9} {'to copy':>10} {'to loop':>10}")
     for what in ("table", "longs"):
         copy = other[what, "copy"][0]
-        for call, beside in CALLS:
+        for call, compared in CALLS:
             took, size = own[what, call]
-            loop_took = other[what, beside][0] if beside else None
-            shown = f"{loop_took / 1e6:9.2f}" if beside else f"{'':9}"
+            loop_took = other[what, compared][0] if compared else None
+            shown = f"{loop_took / 1e6:9.2f}" if compared else f"{'':9}"
             print(f"{what + ' ' + call:14} {size:11,} {took / 1e6:9.2f} {copy / 1e6:9.2f} {shown} {ratio(took, copy)} {ratio(took, loop_took)}")
 
 

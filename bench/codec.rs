@@ -48,7 +48,7 @@ fn trades(rows: u32) -> Vec<u8> {
     out
 }
 
-// A vector at the front of the bytes, and the bytes behind it.
+// The vector at the front of the bytes, and the bytes after it.
 fn column_at(bytes: &[u8]) -> (Column, &[u8]) {
     let code = bytes[0];
     let count = u32::from_le_bytes([bytes[2], bytes[3], bytes[4], bytes[5]]) as usize;
@@ -99,7 +99,7 @@ fn put_column(out: &mut Vec<u8>, column: &Column) {
     }
 }
 
-// The object's bytes from its columns on are those behind `front`.
+// The object's bytes from its columns on are those after `front`.
 fn report(name: &str, object: &[u8], front: &[u8], count: usize) {
     for _ in 0..ROUNDS {
         let start = Instant::now();

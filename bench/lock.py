@@ -1,8 +1,8 @@
 #!/usr/bin/env python3
-"""Times takes and gives of the plant's lock beside a ticket lock and std's Mutex in Rust, by one thread and by four.
+"""Times takes and gives of the plant's lock, a ticket lock and std's Mutex in Rust, by one thread and by four.
 
-Prints the takes and gives a second, the median of all runs, and the ratio of the plant's time to each of the others, the
-median of the ratios within a run. Wants rustc, the kit's `rt`, and nothing else but Python 3.
+Prints the takes and gives per second, the median of all runs, and the ratio of the plant's time to each of the others,
+the median of the ratios within a run. Needs rustc and the kit's `rt`, and nothing else but Python 3.
 """
 
 import argparse
@@ -14,9 +14,9 @@ import programs
 LOCKS = ("lock", "ticket", "mutex")
 
 
-def timed(words, times):
+def timed(command, times):
     """Runs a program and adds the nanoseconds of each of its lines."""
-    for name, threads, nanoseconds in programs.lines(words):
+    for name, threads, nanoseconds in programs.lines(command):
         times.setdefault((name, int(threads)), []).append(int(nanoseconds))
 
 

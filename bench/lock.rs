@@ -1,4 +1,4 @@
-// Takes and gives of a ticket lock and of std's Mutex round a count, by one thread and by four. The ticket lock waits and
+// Takes and gives of a ticket lock and of std's Mutex around a count, by one thread and by four. The ticket lock waits and
 // wakes as the plant's does: it looks for a while and then sleeps on the word that is served. One line for each: the lock,
 // the number of threads and the nanoseconds.
 use std::cell::UnsafeCell;

@@ -1,8 +1,8 @@
 #!/usr/bin/env python3
-"""Feeds one-row updates, and then texts, through `bin/plant once`, beside a loop in Rust that does the same reads and writes.
+"""Times one-row updates, and then texts, through `bin/plant once` and through a loop in Rust that reads and writes the same.
 
-Prints, for each, the messages a second, the seconds, the bytes in and out and the peak memory, and then the ratio.
-Wants rustc, a C compiler (gcc, or the one that CC names) and nothing else but Python 3.
+Prints, for each, the messages per second, the seconds, the bytes in and out and the peak memory, and then the ratio.
+Needs rustc, a C compiler (gcc, or the one that CC names) and what `bin/plant` needs, and nothing else but Python 3.
 """
 
 import argparse
@@ -15,15 +15,15 @@ import tempfile
 HERE = os.path.dirname(os.path.realpath(__file__))
 PLANT = [os.path.join(os.path.dirname(HERE), "bin", "plant"), "once", "--clock", "2024.01.02D09:30:00.000000000"]
 
-GREETING = b"u:p\x03\x00"
-GREETED = b"\x03"
+HANDSHAKE = b"u:p\x03\x00"
+CAPABILITY = b"\x03"  # the answer to the handshake
 ASYNC, SYNC, RESPONSE = 0, 1, 2
 HALF_PAST_NINE = (9 * 60 + 30) * 60 * 10**9
 DATE = 8767  # 2024.01.02, in days since 2000.01.01
 ROWS = 100  # of the table that the texts ask for
 
-# Runs a program and prints its status, its nanoseconds and the KiB of its peak memory. It is small itself, so that the
-# peak is the program's.
+# Runs a program and prints its exit status, its nanoseconds and the KiB of its peak memory. It is small itself, so that
+# the peak is the program's.
 MEASURE = r"""
 #define _GNU_SOURCE
 #include <stdio.h>
@@ -32,7 +32,7 @@ MEASURE = r"""
 #include <time.h>
 #include <unistd.h>
 
-int main(int count, char **words) {
+int main(int count, char **arguments) {
     struct timespec from, to;
     struct rusage used;
     int status;
@@ -41,7 +41,7 @@ int main(int count, char **words) {
     pid_t child = fork();
     if (child < 0) return 1;
     if (child == 0) {
-        execv(words[1], words + 1);
+        execv(arguments[1], arguments + 1);
         _exit(127);
     }
     if (wait4(child, &status, 0, &used) != child) return 1;
@@ -82,7 +82,7 @@ def text(query):
 
 
 def table(rows):
-    """The response to `select from trade` over so many of these updates."""
+    """The response to `select from trade` over as many of these updates as `rows`."""
     names = symbols([b"date", b"time", b"sym", b"price", b"size"])
     columns = [
         vector(14, "i", [DATE] * rows), vector(16, "q", [HALF_PAST_NINE] * rows), symbols([b"KX"] * rows),
@@ -101,27 +101,27 @@ def built(folder):
     return measure, loop
 
 
-def measured(measure, words, given, taken):
-    """Runs the words over the files, and returns the seconds and the KiB."""
+def measured(measure, command, given, taken):
+    """Runs the command over the files, and returns the seconds and the KiB."""
     with open(given, "rb") as source, open(taken, "wb") as target:
-        done = subprocess.run([measure, *words], stdin=source, stdout=target, stderr=subprocess.PIPE, text=True)
+        done = subprocess.run([measure, *command], stdin=source, stdout=target, stderr=subprocess.PIPE, text=True)
     *said, last = done.stderr.splitlines() or [""]
     for line in said:
         print(line, file=sys.stderr)
     if not last.startswith("measured "):
-        sys.exit(f"once.py: {words[0]} was not measured: {last}")
+        sys.exit(f"once.py: {command[0]} was not measured: {last}")
     status, nanoseconds, kib = map(int, last.split()[1:])
     if status != 0:
-        sys.exit(f"once.py: {words[0]} ended with status {status}")
+        sys.exit(f"once.py: {command[0]} ended with exit status {status}")
     return nanoseconds / 1e9, kib
 
 
 def is_answered(taken, reply, count):
-    """Whether the file holds the greeting's answer and so many replies, and nothing else."""
-    if os.path.getsize(taken) != len(GREETED) + count * len(reply):
+    """Whether the file holds the answer to the handshake and `count` replies, and nothing else."""
+    if os.path.getsize(taken) != len(CAPABILITY) + count * len(reply):
         return False
     with open(taken, "rb") as file:
-        if file.read(len(GREETED)) != GREETED:
+        if file.read(len(CAPABILITY)) != CAPABILITY:
             return False
         while chunk := file.read(4096 * len(reply)):
             if chunk != reply * (len(chunk) // len(reply)):
@@ -129,21 +129,21 @@ def is_answered(taken, reply, count):
     return True
 
 
-def best(measure, words, files, replies, runs):
+def best(measure, command, files, replies, runs):
     """The quickest of the runs, and the greatest peak."""
     given, taken = files
     seconds, peak = None, 0
     for _ in range(runs):
-        took, kib = measured(measure, words, given, taken)
+        took, kib = measured(measure, command, given, taken)
         if not is_answered(taken, *replies):
-            sys.exit(f"once.py: {words[0]} gave other replies")
+            sys.exit(f"once.py: {command[0]} gave other replies")
         seconds = took if seconds is None else min(seconds, took)
         peak = max(peak, kib)
     return seconds, peak
 
 
 def compare(folder, programs, what, front, one, reply, count, runs):
-    """Runs both programs over the front and so many of one message, and prints a line for each."""
+    """Runs both programs over `front` and `count` times `one`, and prints a line for each."""
     measure, loop = programs
     given, taken = os.path.join(folder, "given"), os.path.join(folder, "taken")
     with open(given, "wb") as file:
@@ -151,11 +151,11 @@ def compare(folder, programs, what, front, one, reply, count, runs):
         for _ in range(count):
             file.write(one)
     rows = []
-    for name, words in (("plant", PLANT), ("loop in Rust", [loop, reply.hex()])):
-        seconds, kib = best(measure, words, (given, taken), (reply, count), runs)
+    for name, command in (("plant", PLANT), ("loop in Rust", [loop, reply.hex()])):
+        seconds, kib = best(measure, command, (given, taken), (reply, count), runs)
         rows.append((name, seconds, kib))
     sizes = f"{os.path.getsize(given):12,} {os.path.getsize(taken):12,}"
-    print(f"{what:14} {'a second':>12} {'seconds':>9} {'bytes in':>12} {'bytes out':>12} {'peak MiB':>9}")
+    print(f"{what:14} {'per second':>12} {'seconds':>9} {'bytes in':>12} {'bytes out':>12} {'peak MiB':>9}")
     for name, seconds, kib in rows:
         print(f"{name:14} {count / seconds:12,.0f} {seconds:9.3f} {sizes} {kib / 1024:9.1f}")
     print(f"{'ratio':14} {rows[1][1] / rows[0][1]:12.2f}")
@@ -171,11 +171,11 @@ def main():
         parser.error("N is at least 1")
     with tempfile.TemporaryDirectory() as folder:
         programs = built(folder)
-        # Builds the plant where it must be, so that no run counts that.
+        # Builds the plant where it isn't built, so that no run includes that.
         subprocess.run(PLANT, stdin=subprocess.DEVNULL, stdout=subprocess.DEVNULL, check=True)
         done = message(RESPONSE, b"\x65\x00")
-        compare(folder, programs, "updates", GREETING, update(SYNC), done, options.updates, options.runs)
-        rows = GREETING + update(ASYNC) * ROWS
+        compare(folder, programs, "updates", HANDSHAKE, update(SYNC), done, options.updates, options.runs)
+        rows = HANDSHAKE + update(ASYNC) * ROWS
         query = text(b"select from trade")
         compare(folder, programs, "texts", rows, query, table(ROWS), options.texts, options.runs)
 

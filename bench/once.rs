@@ -1,7 +1,7 @@
-//! The loop that `once.py` sets beside the plant: it reads pieces of 64 KiB, gathers each message as a session does, and
+//! The loop that `once.py` compares with the plant: it reads pieces of 64 KiB, gathers each message as a session does, and
 //! writes one fixed reply for each that is sync, in one write. It decodes, judges and keeps nothing.
 //!
-//! Its word is the reply, in hexadecimal.
+//! Its argument is the reply, in hexadecimal.
 
 use std::fs::File;
 use std::io::{Error, ErrorKind, Read, Result, Write};
@@ -11,7 +11,7 @@ use std::os::fd::FromRawFd;
 const PIECE: usize = 65536;
 const HEADER: usize = 8;
 const SYNC: u8 = 1;
-const GREETED: [u8; 1] = [3];
+const CAPABILITY: [u8; 1] = [3];
 
 /// Standard input or output, without a buffer.
 fn raw(descriptor: i32) -> ManuallyDrop<File> {
@@ -37,7 +37,7 @@ fn length(message: &[u8]) -> Result<Option<usize>> {
     if length > HEADER { Ok(Some(length)) } else { Err(bad("a short message")) }
 }
 
-/// Moves to the message what it still needs of the piece, and tells whether it is whole.
+/// Moves to the message what it still needs of the piece, and returns whether it is whole.
 fn gather(message: &mut Vec<u8>, piece: &mut &[u8]) -> Result<bool> {
     loop {
         let wanted = length(message)?.unwrap_or(HEADER) - message.len();
@@ -63,8 +63,8 @@ fn main() -> Result<()> {
             return if greeted && message.is_empty() { Ok(()) } else { Err(bad("the input ends within a message")) };
         }
         if !greeted {
-            let end = piece.iter().position(|byte| *byte == 0).ok_or_else(|| bad("the first piece ends within the greeting"))?;
-            output.write_all(&GREETED)?;
+            let end = piece.iter().position(|byte| *byte == 0).ok_or_else(|| bad("the first piece ends within the handshake"))?;
+            output.write_all(&CAPABILITY)?;
             (piece, greeted) = (&piece[end + 1..], true);
         }
         while !piece.is_empty() && gather(&mut message, &mut piece)? {

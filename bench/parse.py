@@ -1,7 +1,7 @@
 #!/usr/bin/env python3
 """Times the reading of texts: of five forms at three lengths, and of the longest sum and the most columns.
 
-Prints the microseconds of each text, the best of all rounds, and the nanoseconds of each byte. Wants the kit's `rt`, and
+Prints the microseconds of each text, the best of all rounds, and the nanoseconds per byte. Needs the kit's `rt`, and
 nothing else but Python 3.
 """
 
@@ -23,7 +23,7 @@ def main():
         for what, size, nanoseconds, answer in programs.lines([program, str(options.length)]):
             key = what, int(size), answer
             best[key] = min(best.get(key, int(nanoseconds)), int(nanoseconds))
-    print(f"{'text':10} {'bytes':>7} {'microseconds':>13} {'ns a byte':>10}  answer")
+    print(f"{'text':10} {'bytes':>7} {'microseconds':>13} {'ns/byte':>10}  answer")
     for (what, size, answer), took in best.items():
         print(f"{what:10} {size:7,} {took / 1e3:13,.1f} {took / size:10.1f}  {answer}")
 

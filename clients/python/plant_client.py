@@ -1,4 +1,4 @@
-"""A client of kdb+ IPC: the greeting, sync and async messages, and every object of the profile.
+"""A client of kdb+ IPC: the handshake, sync and async messages, and every object of the profile.
 
 Uncompressed messages in either byte order (KX, IPC reference). Values are small Python types:
 
@@ -92,7 +92,7 @@ IDENTITY = Identity()
 
 
 class Error(Exception):
-    """An error that the plant answered."""
+    """An error that the plant sent as an answer."""
 
     def __init__(self, text):
         super().__init__(text.decode(errors="replace"))
@@ -106,7 +106,7 @@ class Error(Exception):
 
 
 class BadBytes(Exception):
-    """The bytes are no object of the profile."""
+    """The bytes don't encode an object of the profile."""
 
 
 def _elements(order, kind, items):
@@ -210,11 +210,11 @@ class _Reader:
 
 
 def decode(data, order=LITTLE):
-    """The value that the bytes are, which it must fill."""
+    """The value that the bytes encode; nothing may follow it."""
     reader = _Reader(data, order)
     value = reader.object()
     if reader.at != len(data):
-        raise BadBytes(f"bytes behind the object, at {reader.at}")
+        raise BadBytes(f"bytes after the object, at {reader.at}")
     return value
 
 
@@ -225,7 +225,7 @@ def message(value, sync, order=LITTLE):
 
 
 class Client:
-    """Speaks to a plant over two binary streams, such as the pipes of a process or a socket's file."""
+    """Talks to a plant over two binary streams, such as the pipes of a process or a socket's file."""
 
     def __init__(self, reads, writes, order=LITTLE, user=b"", capability=3):
         self.reads, self.writes, self.order = reads, writes, order
@@ -244,7 +244,7 @@ class Client:
         return answer
 
     def send(self, value):
-        """Sends a value for which there is no response."""
+        """Sends a value as an async message, which gets no response."""
         self._send(message(value, False, self.order))
 
     def query(self, text):

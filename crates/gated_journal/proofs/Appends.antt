@@ -1,4 +1,4 @@
--- An append and a mend, seen at each moment and at their end.
+-- An append and a repair, seen at each moment and at their end.
 use Rattle.std.proofs.Common.{◌≡◌, inl, inr, ◌⊎◌, ℕ, ◌+◌, Bool, IsTrue, List, [], ◌∷◌, ◌++◌, length, refl, sym, ◌∙◌, subst, arith, Result, Ok, Err, Option, Some, None, OnErr}
 use Rattle.std.specs.List.{AllByRecursion}
 use Rattle.outside_api.specs.Disk.{FileState, DiskView, IsImage, Changes, Syncing, Passes, put, kept_file}
@@ -60,7 +60,7 @@ module _ (file end : ℕ) (records : List (List ℕ)) where
       record { end = is; sized = sized; stands = (one, a); reads = reads_any records payload at.bytes sized one (record { gate = a.gate; rest = a.rest; split = a.bytes }); images = λ image i. reads_any records payload image sized one (ajar_images (before_gate records) end (sym is) (body payload) at a image i) }
 
   module _ (payload : List ℕ) (one : IsPayload payload) where
-    -- the second half, behind a first one that succeeded
+    -- the second half, after a first one that succeeded
     pub ajar : (state : State) (old mid new : DiskView) → mid.tells ≡ old.tells → mid.now file ≡ kept_file (put (old.now file).bytes (end + 1) (body payload)) → KeepsAjar mid new file end
         → Keeps old (view_of file end state) records None → IsTrue old.tells → StaysAjar mid new file end (before_gate records) (body payload)
     ajar state old mid new same is keeps_ajar keeps tells =
@@ -117,7 +117,7 @@ module _ (file end : ℕ) (records : List (List ℕ)) where
       let t = told old new same tells in
       held_clean file end (new.now file) records (keeps t).end (keeps t).sized (settled state old new result (changes t) keeps t).stands
 
-  -- a mend of the gate
+  -- a repair of the gate
   module _ (payload : List ℕ) where
     pub mending : (old new : DiskView) → KeepsAjar old new file end → Keeps old (view_of file end GateFailed) records (Some payload) → IsTrue old.tells → StaysAjar old new file end (before_gate records) (body payload)
     mending old new ajar_stays keeps tells = let h = keeps tells in ajar_stays tells (before_gate records) (body payload) (sym h.end) h.stands.1
@@ -140,7 +140,7 @@ module _ (file end : ℕ) (records : List (List ℕ)) where
         let shut = subst (λ (f : FileState). IsShut f (before_gate records) end) (sym (is t)) (closed (before_gate records) end (sym h.end) (body payload) (old.now file) closed_gate (omega arith) h.stands.1) in
         held_clean file end (new.now file) records h.end h.sized shut
 
--- a mend, by the journal's state
+-- a repair, by the journal's state
 module _ (file end : ℕ) (records : List (List ℕ)) (old new : DiskView) where
   pub mend_gate_failed : (state : State) (late : Option (List ℕ)) → state ≡ GateFailed → KeepsAjar old new file end → new.tells ≡ old.tells → Keeps old (view_of file end state) records late → Keeps new (view_of file end state) records late
   mend_gate_failed Clean late is ajar_stays same keeps = absurd (cc)

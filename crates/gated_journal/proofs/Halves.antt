@@ -18,16 +18,16 @@ module _ (file end : ℕ) (front : List ℕ) (sized : length front ≡ end) wher
       let stands = shut_sync front end sized result (mid.now file) (new.now file) a.stands changes.changed in
       record { passes = passes_on old mid new file (HasShut front) a.passes (passes_one mid new file (Syncing result) (HasShut front) changes (shut_images front end sized (new.now file) stands)); stands = stands }
 
-  module _ (behind : List ℕ) where
-    pub ajar_one : {T : Type 0} (old new : DiskView) (gate : ℕ) (result : Result T DiskFault) → Changes old new file (Writing end (gate ∷ []) result) → IsAjar (old.now file) front end behind → StaysAjar old new file end front behind
+  module _ (following : List ℕ) where
+    pub ajar_one : {T : Type 0} (old new : DiskView) (gate : ℕ) (result : Result T DiskFault) → Changes old new file (Writing end (gate ∷ []) result) → IsAjar (old.now file) front end following → StaysAjar old new file end front following
     ajar_one old new gate result changes s =
-        let stands = ajar_write front end sized behind gate result (old.now file) (new.now file) s changes.changed in
-        record { passes = passes_one old new file (Writing end (gate ∷ []) result) (HasAny front behind) changes (ajar_images front end sized behind (new.now file) stands); stands = stands }
+        let stands = ajar_write front end sized following gate result (old.now file) (new.now file) s changes.changed in
+        record { passes = passes_one old new file (Writing end (gate ∷ []) result) (HasAny front following) changes (ajar_images front end sized following (new.now file) stands); stands = stands }
 
-    pub ajar_two : {T : Type 0} (old mid new : DiskView) (result : Result T DiskFault) → StaysAjar old mid file end front behind → Changes mid new file (Syncing result) → StaysAjar old new file end front behind
+    pub ajar_two : {T : Type 0} (old mid new : DiskView) (result : Result T DiskFault) → StaysAjar old mid file end front following → Changes mid new file (Syncing result) → StaysAjar old new file end front following
     ajar_two old mid new result a changes =
-        let stands = ajar_sync front end sized behind result (mid.now file) (new.now file) a.stands changes.changed in
-        record { passes = passes_on old mid new file (HasAny front behind) a.passes (passes_one mid new file (Syncing result) (HasAny front behind) changes (ajar_images front end sized behind (new.now file) stands)); stands = stands }
+        let stands = ajar_sync front end sized following result (mid.now file) (new.now file) a.stands changes.changed in
+        record { passes = passes_on old mid new file (HasAny front following) a.passes (passes_one mid new file (Syncing result) (HasAny front following) changes (ajar_images front end sized following (new.now file) stands)); stands = stands }
 
 -- a sync by itself
 pub shut_one_sync : {T : Type 0} (front : List ℕ) (end file : ℕ) → length front ≡ end → (old new : DiskView) (result : Result T DiskFault) → Changes old new file (Syncing result) → IsShut (old.now file) front end → StaysShut old new file end front

@@ -1,4 +1,4 @@
--- What a stop leaves of a journal's file behind each device call.
+-- What a crash leaves of a journal's file after each device call.
 use Rattle.std.proofs.Common.{◌≡◌, ◌≢◌, ◌⊎◌, inl, inr, ⊎_elim, ℕ, ◌+◌, ◌≤◌, ◌<◌, List, [], ◌∷◌, ◌++◌, length, get_or, take, drop, refl, sym, ◌∙◌, ap, subst, arith, append_assoc, length-append, length-take, length-drop, take-append-drop, Result, Ok, Err}
 use Rattle.std.proofs.lemmas.List.{take_at, drop_at, drop_more, get_or-take, get_or-drop, ext_get_or}
 use Rattle.std.specs.List.{AllByRecursion}
@@ -22,7 +22,7 @@ stretch file image at n is long within outside =
     ∙ is.agrees (at + k) (omega (arith, below, long)) (outside (at + k) (omega arith) (omega (arith, below)))
     ∙ sym (get_or-take n (drop at file.bytes) k 0 below ∙ get_or-drop at file.bytes k 0))
 
--- a place below all ranges lies in none
+-- a offset below all ranges lies in none
 pub below_all : (k place : ℕ) (ranges : List (ℕ × ℕ)) → k < place → StartsFrom place ranges → IsOutside k ranges
 below_all k place [] less starts = tt
 below_all k place (range ∷ ranges) less starts = (inl (omega (arith, less, starts.0)), below_all k place ranges less starts.1)
@@ -31,12 +31,12 @@ starts_push : (place at n : ℕ) (ranges : List (ℕ × ℕ)) → place ≤ at �
 starts_push place at n ranges le starts = All-append (λ (range : ℕ × ℕ). place ≤ range.0) ranges ((at, n) ∷ []) starts (le, tt)
 
 -- a list in three parts by its parts' bytes
-pub joined : (bytes front behind : List ℕ) (end : ℕ) → length front ≡ end → end < length bytes → take end bytes ≡ front → take (length behind) (drop (end + 1) bytes) ≡ behind → bytes ≡ front ++ get_or bytes end 0 ∷ (behind ++ drop (length behind) (drop (end + 1) bytes))
-joined bytes front behind end is long before after =
+pub joined : (bytes front following : List ℕ) (end : ℕ) → length front ≡ end → end < length bytes → take end bytes ≡ front → take (length following) (drop (end + 1) bytes) ≡ following → bytes ≡ front ++ get_or bytes end 0 ∷ (following ++ drop (length following) (drop (end + 1) bytes))
+joined bytes front following end is long before after =
     sym (take-append-drop end bytes)
     ∙ ap (λ (l : List ℕ). l ++ drop end bytes) before
     ∙ ap (λ (l : List ℕ). front ++ l) (drop_more bytes end 0 long)
-    ∙ ap (λ (l : List ℕ). front ++ get_or bytes end 0 ∷ l) (sym (take-append-drop (length behind) (drop (end + 1) bytes)) ∙ ap (λ (l : List ℕ). l ++ drop (length behind) (drop (end + 1) bytes)) after)
+    ∙ ap (λ (l : List ℕ). front ++ get_or bytes end 0 ∷ l) (sym (take-append-drop (length following) (drop (end + 1) bytes)) ∙ ap (λ (l : List ℕ). l ++ drop (length following) (drop (end + 1) bytes)) after)
 
 module _ (front : List ℕ) (end : ℕ) (sized : length front ≡ end) where
   shut_long : (file : FileState) → IsShut file front end → end + 1 ≤ length file.bytes
@@ -62,7 +62,7 @@ module _ (front : List ℕ) (end : ℕ) (sized : length front ≡ end) where
     split = sym (take-append-drop (end + 1) file.bytes) ∙ ap (λ (l : List ℕ). l ++ drop (end + 1) file.bytes) s.bytes ∙ append_assoc front (s.gate ∷ []) (drop (end + 1) file.bytes);
   }
 
-  -- whatever was written behind the gate, whether that failed or not
+  -- whatever was written after the gate, whether that failed or not
   shut_by : (old new : FileState) → IsShut old front end → take (end + 1) new.bytes ≡ take (end + 1) old.bytes → old.least ≤ new.least → StartsFrom (end + 1) new.unsynced → IsShut new front end
   shut_by old new s same long starts = record { gate = s.gate; shut = s.shut; bytes = same ∙ s.bytes; long = omega (arith, s.long, long); unsynced = starts }
 
@@ -87,89 +87,89 @@ module _ (front : List ℕ) (end : ℕ) (sized : length front ≡ end) where
   shut_sync (Ok x) old new s w = subst (λ (f : FileState). IsShut f front end) (sym w) (shut_kept old s)
   shut_sync (Err e) old new s w = subst (λ (f : FileState). IsShut f front end) (sym w) s
 
-  module _ (behind : List ℕ) where
+  module _ (following : List ℕ) where
     abbrev Spared : ℕ × ℕ → Type 0
-    Spared range = ((end ≤ range.0) × (range.0 + range.1 ≤ end + 1)) ⊎ (end + 1 + length behind ≤ range.0)
+    Spared range = ((end ≤ range.0) × (range.0 + range.1 ≤ end + 1)) ⊎ (end + 1 + length following ≤ range.0)
 
     before_gate_outside : (k : ℕ) (ranges : List (ℕ × ℕ)) → k < end → AllByRecursion Spared ranges → IsOutside k ranges
     before_gate_outside k [] less all = tt
     before_gate_outside k (range ∷ ranges) less all =
         (⊎_elim (λ gate. inl (omega (arith, gate.0, less))) (λ past. inl (omega (arith, past, less))) all.0, before_gate_outside k ranges less all.1)
 
-    behind_gate_outside : (k : ℕ) (ranges : List (ℕ × ℕ)) → end + 1 ≤ k → k < end + 1 + length behind → AllByRecursion Spared ranges → IsOutside k ranges
+    behind_gate_outside : (k : ℕ) (ranges : List (ℕ × ℕ)) → end + 1 ≤ k → k < end + 1 + length following → AllByRecursion Spared ranges → IsOutside k ranges
     behind_gate_outside k [] low high all = tt
     behind_gate_outside k (range ∷ ranges) low high all =
         (⊎_elim (λ gate. inr (omega (arith, gate.1, low))) (λ past. inl (omega (arith, past, high))) all.0, behind_gate_outside k ranges low high all.1)
 
-    front_of : (bytes : List ℕ) (gate : ℕ) (rest : List ℕ) → bytes ≡ front ++ gate ∷ (behind ++ rest) → take end bytes ≡ front
-    front_of bytes gate rest is = ap (take end) is ∙ take_at front (gate ∷ (behind ++ rest)) end sized
+    front_of : (bytes : List ℕ) (gate : ℕ) (rest : List ℕ) → bytes ≡ front ++ gate ∷ (following ++ rest) → take end bytes ≡ front
+    front_of bytes gate rest is = ap (take end) is ∙ take_at front (gate ∷ (following ++ rest)) end sized
 
-    after_of : (bytes : List ℕ) (gate : ℕ) (rest : List ℕ) → bytes ≡ front ++ gate ∷ (behind ++ rest) → drop (end + 1) bytes ≡ behind ++ rest
+    after_of : (bytes : List ℕ) (gate : ℕ) (rest : List ℕ) → bytes ≡ front ++ gate ∷ (following ++ rest) → drop (end + 1) bytes ≡ following ++ rest
     after_of bytes gate rest is =
         let size : length (front ++ gate ∷ []) ≡ end + 1 = omega (arith, length-append front (gate ∷ []), sized) in
-        ap (drop (end + 1)) (is ∙ sym (append_assoc front (gate ∷ []) (behind ++ rest))) ∙ drop_at (front ++ gate ∷ []) (behind ++ rest) (end + 1) size
+        ap (drop (end + 1)) (is ∙ sym (append_assoc front (gate ∷ []) (following ++ rest))) ∙ drop_at (front ++ gate ∷ []) (following ++ rest) (end + 1) size
 
-    length_of : (bytes : List ℕ) (gate : ℕ) (rest : List ℕ) → bytes ≡ front ++ gate ∷ (behind ++ rest) → end + 1 + length behind ≤ length bytes
-    length_of bytes gate rest is = omega (arith, ap length is, length-append front (gate ∷ (behind ++ rest)), length-append behind rest, sized)
+    length_of : (bytes : List ℕ) (gate : ℕ) (rest : List ℕ) → bytes ≡ front ++ gate ∷ (following ++ rest) → end + 1 + length following ≤ length bytes
+    length_of bytes gate rest is = omega (arith, ap length is, length-append front (gate ∷ (following ++ rest)), length-append following rest, sized)
 
-    -- each image has the front part, any gate, and what stood behind it
-    pub ajar_images : (file : FileState) → IsAjar file front end behind → (image : List ℕ) → IsImage file image → HasAny front behind image
+    -- each image has the front part, any gate, and what stood after it
+    pub ajar_images : (file : FileState) → IsAjar file front end following → (image : List ℕ) → IsImage file image → HasAny front following image
     ajar_images file a image is =
         let long = length_of file.bytes a.gate a.rest a.bytes in
         let before = stretch file image 0 end is (omega (arith, a.long)) (omega (arith, long)) (λ k low high. before_gate_outside k file.unsynced (omega (arith, high)) a.unsynced) in
-        let after = stretch file image (end + 1) (length behind) is a.long long (λ k low high. behind_gate_outside k file.unsynced low high a.unsynced) in
+        let after = stretch file image (end + 1) (length following) is a.long long (λ k low high. behind_gate_outside k file.unsynced low high a.unsynced) in
         record {
           gate = get_or image end 0;
-          rest = drop (length behind) (drop (end + 1) image);
-          split = joined image front behind end sized (omega (arith, is.no_shorter, a.long)) (before ∙ front_of file.bytes a.gate a.rest a.bytes)
-              (after ∙ ap (take (length behind)) (after_of file.bytes a.gate a.rest a.bytes) ∙ take_at behind a.rest (length behind) refl);
+          rest = drop (length following) (drop (end + 1) image);
+          split = joined image front following end sized (omega (arith, is.no_shorter, a.long)) (before ∙ front_of file.bytes a.gate a.rest a.bytes)
+              (after ∙ ap (take (length following)) (after_of file.bytes a.gate a.rest a.bytes) ∙ take_at following a.rest (length following) refl);
         }
 
-    pub put_gate : (bytes : List ℕ) (gate new : ℕ) (rest : List ℕ) → bytes ≡ front ++ gate ∷ (behind ++ rest) → put bytes end (new ∷ []) ≡ front ++ new ∷ (behind ++ rest)
+    pub put_gate : (bytes : List ℕ) (gate new : ℕ) (rest : List ℕ) → bytes ≡ front ++ gate ∷ (following ++ rest) → put bytes end (new ∷ []) ≡ front ++ new ∷ (following ++ rest)
     put_gate bytes gate new rest is =
-        ap (λ (l : List ℕ). put l end (new ∷ [])) is ∙ put_behind front (gate ∷ (behind ++ rest)) (new ∷ []) end sized ∙ append_assoc front (new ∷ []) (behind ++ rest)
+        ap (λ (l : List ℕ). put l end (new ∷ [])) is ∙ put_behind front (gate ∷ (following ++ rest)) (new ∷ []) end sized ∙ append_assoc front (new ∷ []) (following ++ rest)
 
-    ajar_at : (old : FileState) (gate : ℕ) (bytes rest : List ℕ) → IsAjar old front end behind → bytes ≡ front ++ gate ∷ (behind ++ rest) → IsAjar (written old end 1 bytes) front end behind
+    ajar_at : (old : FileState) (gate : ℕ) (bytes rest : List ℕ) → IsAjar old front end following → bytes ≡ front ++ gate ∷ (following ++ rest) → IsAjar (written old end 1 bytes) front end following
     ajar_at old gate bytes rest a is = record { gate = gate; rest = rest; bytes = is; long = a.long; unsynced = All-append Spared old.unsynced ((end, 1) ∷ []) a.unsynced (inl (omega arith, omega arith), tt) }
 
-    torn_gate : (old : FileState) (torn : List ℕ) → IsAjar old front end behind → IsTorn end 1 old.bytes torn → torn ≡ front ++ get_or torn end 0 ∷ (behind ++ drop (length behind) (drop (end + 1) torn))
+    torn_gate : (old : FileState) (torn : List ℕ) → IsAjar old front end following → IsTorn end 1 old.bytes torn → torn ≡ front ++ get_or torn end 0 ∷ (following ++ drop (length following) (drop (end + 1) torn))
     torn_gate old torn a t =
-        joined torn front behind end sized (omega (arith, t.no_shorter, length_of old.bytes a.gate a.rest a.bytes)) (t.before ∙ front_of old.bytes a.gate a.rest a.bytes)
-        (ap (take (length behind)) (t.after ∙ after_of old.bytes a.gate a.rest a.bytes) ∙ take_at behind a.rest (length behind) refl)
+        joined torn front following end sized (omega (arith, t.no_shorter, length_of old.bytes a.gate a.rest a.bytes)) (t.before ∙ front_of old.bytes a.gate a.rest a.bytes)
+        (ap (take (length following)) (t.after ∙ after_of old.bytes a.gate a.rest a.bytes) ∙ take_at following a.rest (length following) refl)
 
     -- whatever became of a write of the gate
-    pub ajar_write : {T : Type 0} (gate : ℕ) (result : Result T DiskFault) (old new : FileState) → IsAjar old front end behind → Writing end (gate ∷ []) result old new → IsAjar new front end behind
+    pub ajar_write : {T : Type 0} (gate : ℕ) (result : Result T DiskFault) (old new : FileState) → IsAjar old front end following → Writing end (gate ∷ []) result old new → IsAjar new front end following
     ajar_write gate (Ok x) old new a w =
-        subst (λ (f : FileState). IsAjar f front end behind) (sym w) (ajar_at old gate (put old.bytes end (gate ∷ [])) a.rest a (put_gate old.bytes a.gate gate a.rest a.bytes))
-    ajar_write gate (Err e) old new a (inl same) = subst (λ (f : FileState). IsAjar f front end behind) (sym same) a
+        subst (λ (f : FileState). IsAjar f front end following) (sym w) (ajar_at old gate (put old.bytes end (gate ∷ [])) a.rest a (put_gate old.bytes a.gate gate a.rest a.bytes))
+    ajar_write gate (Err e) old new a (inl same) = subst (λ (f : FileState). IsAjar f front end following) (sym same) a
     ajar_write gate (Err e) old new a (inr torn) =
-        subst (λ (f : FileState). IsAjar f front end behind) (sym torn.2)
-        (ajar_at old (get_or torn.0 end 0) torn.0 (drop (length behind) (drop (end + 1) torn.0)) a (torn_gate old torn.0 a torn.1))
+        subst (λ (f : FileState). IsAjar f front end following) (sym torn.2)
+        (ajar_at old (get_or torn.0 end 0) torn.0 (drop (length following) (drop (end + 1) torn.0)) a (torn_gate old torn.0 a torn.1))
 
-    ajar_kept : (old : FileState) → IsAjar old front end behind → IsAjar (kept_file old.bytes) front end behind
+    ajar_kept : (old : FileState) → IsAjar old front end following → IsAjar (kept_file old.bytes) front end following
     ajar_kept old a = record { gate = a.gate; rest = a.rest; bytes = a.bytes; long = length_of old.bytes a.gate a.rest a.bytes; unsynced = tt }
 
-    pub ajar_sync : {T : Type 0} (result : Result T DiskFault) (old new : FileState) → IsAjar old front end behind → Syncing result old new → IsAjar new front end behind
-    ajar_sync (Ok x) old new a w = subst (λ (f : FileState). IsAjar f front end behind) (sym w) (ajar_kept old a)
-    ajar_sync (Err e) old new a w = subst (λ (f : FileState). IsAjar f front end behind) (sym w) a
+    pub ajar_sync : {T : Type 0} (result : Result T DiskFault) (old new : FileState) → IsAjar old front end following → Syncing result old new → IsAjar new front end following
+    ajar_sync (Ok x) old new a w = subst (λ (f : FileState). IsAjar f front end following) (sym w) (ajar_kept old a)
+    ajar_sync (Err e) old new a w = subst (λ (f : FileState). IsAjar f front end following) (sym w) a
 
-    -- what was written behind a shut gate and synced stands there whatever becomes of the gate
-    pub staged : (old : FileState) → IsShut old front end → IsAjar (kept_file (put old.bytes (end + 1) behind)) front end behind
+    -- what was written after a shut gate and synced stands there whatever becomes of the gate
+    pub staged : (old : FileState) → IsShut old front end → IsAjar (kept_file (put old.bytes (end + 1) following)) front end following
     staged old s =
-        let rest = drop (end + 1 + length behind) old.bytes in
-        let is : put old.bytes (end + 1) behind ≡ front ++ s.gate ∷ (behind ++ rest) =
-        ap (λ (l : List ℕ). l ++ behind ++ rest) s.bytes ∙ append_assoc (front ++ s.gate ∷ []) behind rest ∙ append_assoc front (s.gate ∷ []) (behind ++ rest) in
-        record { gate = s.gate; rest = rest; bytes = is; long = length_of (put old.bytes (end + 1) behind) s.gate rest is; unsynced = tt }
+        let rest = drop (end + 1 + length following) old.bytes in
+        let is : put old.bytes (end + 1) following ≡ front ++ s.gate ∷ (following ++ rest) =
+        ap (λ (l : List ℕ). l ++ following ++ rest) s.bytes ∙ append_assoc (front ++ s.gate ∷ []) following rest ∙ append_assoc front (s.gate ∷ []) (following ++ rest) in
+        record { gate = s.gate; rest = rest; bytes = is; long = length_of (put old.bytes (end + 1) following) s.gate rest is; unsynced = tt }
 
     -- a gate that was closed and synced
-    pub closed : (old : FileState) (gate : ℕ) → gate ≢ open_gate → IsAjar old front end behind → IsShut (kept_file (put old.bytes end (gate ∷ []))) front end
+    pub closed : (old : FileState) (gate : ℕ) → gate ≢ open_gate → IsAjar old front end following → IsShut (kept_file (put old.bytes end (gate ∷ []))) front end
     closed old gate shut a =
         let is = put_gate old.bytes a.gate gate a.rest a.bytes in
         let size : length (front ++ gate ∷ []) ≡ end + 1 = omega (arith, length-append front (gate ∷ []), sized) in
         record {
           gate = gate;
           shut = shut;
-          bytes = ap (take (end + 1)) (is ∙ sym (append_assoc front (gate ∷ []) (behind ++ a.rest))) ∙ take_at (front ++ gate ∷ []) (behind ++ a.rest) (end + 1) size;
+          bytes = ap (take (end + 1)) (is ∙ sym (append_assoc front (gate ∷ []) (following ++ a.rest))) ∙ take_at (front ++ gate ∷ []) (following ++ a.rest) (end + 1) size;
           long = omega (arith, length_of (put old.bytes end (gate ∷ [])) gate a.rest is);
           unsynced = tt;
         }

@@ -12,7 +12,7 @@ put_behind front rest bytes at is =
     drop_past : (front rest : List ℕ) (at n : ℕ) → length front ≡ at → drop (at + n) (front ++ rest) ≡ drop n rest
     drop_past front rest at n is = sym (drop-drop n at (front ++ rest)) ∙ ap (drop n) (drop_at front rest at is)
 
--- three puts, one behind the other
+-- three puts, one after the other
 pub puts : (buffer size bytes gate : List ℕ) → put (put (put buffer 0 size) (length size) bytes) (length bytes + length size) gate ≡ ((size ++ bytes) ++ gate) ++ drop (length bytes + length size + length gate) buffer
 puts buffer size bytes gate =
     let first : put buffer 0 size ≡ size ++ drop (length size) buffer = put_behind [] buffer size 0 refl in

@@ -8,3 +8,4 @@ pub mod Reading
 pub mod Scans
 pub mod Spans
 pub mod Unique
+mod AppendSteps

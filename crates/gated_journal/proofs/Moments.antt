@@ -19,7 +19,7 @@ All_weaker P Q (x ∷ xs) f a = (f x a.0, All_weaker P Q xs f a.1)
 pub passes_none : (old : DiskView) (file : ℕ) (P : List ℕ → Type 0) → Passes old old file P
 passes_none old file P = record { moments = []; goes_on = sym (append-nil (old.past ++ old.now ∷ [])); images = tt; others = tt; others_now = λ k apart. refl }
 
--- two runs, one behind the other
+-- two runs, one after the other
 pub passes_on : (old mid new : DiskView) (file : ℕ) (P : List ℕ → Type 0) → Passes old mid file P → Passes mid new file P → Passes old new file P
 passes_on old mid new file P a b = record {
   moments = a.moments ++ b.moments;

@@ -20,7 +20,7 @@ pub before_gate-push : (records : List (List ℕ)) (payload : List ℕ) → befo
 unfolding before_gate
 before_gate-push records payload = ap (λ (l : List ℕ). magic ++ l) (spelled-push records payload) ∙ sym (append_assoc magic (spelled records) (open_gate ∷ measured payload))
 
--- an open gate and a whole record behind it
+-- an open gate and a whole record after it
 pub one_more : (records : List (List ℕ)) (payload rest : List ℕ) → before_gate records ++ open_gate ∷ (body payload ++ rest) ≡ before_gate (records ++ payload ∷ []) ++ closed_gate ∷ rest
 one_more records payload rest =
     ap (λ (l : List ℕ). before_gate records ++ open_gate ∷ l) (append_assoc (measured payload) (closed_gate ∷ []) rest)

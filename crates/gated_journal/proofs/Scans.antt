@@ -44,8 +44,8 @@ module _ (bytes : List ℕ) (spans : List Span) (at : ℕ) (within : at < length
     pub grown : payloads_in bytes next ≡ payloads_in bytes spans ++ payload ∷ []
     grown = map_push (bytes_in bytes) spans (record { start = at + 5; len = len })
 
-    behind : drop (at + 1) bytes ≡ measured payload ++ drop (at + (len + 5)) bytes
-    behind =
+    following : drop (at + 1) bytes ≡ measured payload ++ drop (at + (len + 5)) bytes
+    following =
         let rest : drop 4 (drop (at + 1) bytes) ≡ drop (at + 5) bytes = drop-drop 4 (at + 1) bytes ∙ (let same : at + 1 + 4 ≡ at + 5 = omega arith in ap (λ (k : ℕ). drop k bytes) same) in
         let tail : drop len (drop (at + 5) bytes) ≡ drop (at + (len + 5)) bytes = drop-drop len (at + 5) bytes ∙ (let same : at + 5 + len ≡ at + (len + 5) = omega arith in ap (λ (k : ℕ). drop k bytes) same) in
         sym (take-append-drop 4 (drop (at + 1) bytes))
@@ -55,7 +55,7 @@ module _ (bytes : List ℕ) (spans : List Span) (at : ℕ) (within : at < length
 
     pub split_on : bytes ≡ before_gate (payloads_in bytes next) ++ drop (at + (len + 5)) bytes
     split_on =
-        split ∙ ap (λ (l : List ℕ). before_gate (payloads_in bytes spans) ++ l) (here ∙ ap (λ (l : List ℕ). open_gate ∷ l) behind)
+        split ∙ ap (λ (l : List ℕ). before_gate (payloads_in bytes spans) ++ l) (here ∙ ap (λ (l : List ℕ). open_gate ∷ l) following)
         ∙ sym (append_assoc (before_gate (payloads_in bytes spans)) (open_gate ∷ measured payload) (drop (at + (len + 5)) bytes))
         ∙ ap (λ (l : List ℕ). l ++ drop (at + (len + 5)) bytes) (sym (ap before_gate grown ∙ before_gate-push (payloads_in bytes spans) payload))
 

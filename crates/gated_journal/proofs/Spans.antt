@@ -5,7 +5,7 @@ use Rattle.gated_journal.specs.Records.{bytes_in, payloads_in, IsInside, AreInsi
 use Rattle.gated_journal.specs.declared.records.Span.{Span}
 use Rattle.gated_journal.proofs.Moments.{All-append, All_weaker}
 
--- bytes behind them change nothing
+-- bytes after them change nothing
 pub bytes_more : (bytes more : List ℕ) (span : Span) → IsInside (length bytes) span → bytes_in (bytes ++ more) span ≡ bytes_in bytes span
 bytes_more bytes more span inside =
     let low : span.start ≤ length bytes = omega (arith, inside) in
@@ -23,7 +23,7 @@ inside_more m n spans le inside = All_weaker (IsInside m) (IsInside n) spans (λ
 pub inside_push : (n : ℕ) (spans : List Span) (span : Span) → AreInside n spans → IsInside n span → AreInside n (spans ++ span ∷ [])
 inside_push n spans span all one = All-append (IsInside n) spans (span ∷ []) all (one, tt)
 
--- a payload put behind the bytes
+-- a payload put after the bytes
 pub payloads_push : (bytes payload all : List ℕ) (spans new : List Span) (start : ℕ) → AreInside (length bytes) spans → start ≡ length bytes → all ≡ bytes ++ payload → new ≡ spans ++ record { start = start; len = length payload } ∷ [] → payloads_in all new ≡ payloads_in bytes spans ++ payload ∷ []
 payloads_push bytes payload all spans new start inside at is grows =
     (λ i. payloads_in (is i) ((grows ∙ ap (λ (k : ℕ). spans ++ record { start = k; len = length payload } ∷ []) at) i)) ∙

@@ -36,9 +36,9 @@ no_record (gate ∷ rest) payload more is some same (inr (opens, bad)) =
 same_payload : (a b more other : List ℕ) → IsPayload a → IsPayload b → measured a ++ more ≡ measured b ++ other → (a ≡ b) × (more ≡ other)
 same_payload a b more other is is' same =
     let sizes : length a ≡ length b = sym (size_of a more is) ∙ ap (λ (l : List ℕ). from_le_bytes w32 (take 4 l)) same ∙ size_of b other is' in
-    let behind : a ++ more ≡ b ++ other = ap (drop 4) same in
-    let first : a ≡ b = sym (take_at a more (length a) refl) ∙ ap (take (length a)) behind ∙ take_at b other (length a) (sym sizes) in
-    let second : more ≡ other = sym (drop_at a more (length a) refl) ∙ ap (drop (length a)) behind ∙ drop_at b other (length a) (sym sizes) in
+    let following : a ++ more ≡ b ++ other = ap (drop 4) same in
+    let first : a ≡ b = sym (take_at a more (length a) refl) ∙ ap (take (length a)) following ∙ take_at b other (length a) (sym sizes) in
+    let second : more ≡ other = sym (drop_at a more (length a) refl) ∙ ap (drop (length a)) following ∙ drop_at b other (length a) (sym sizes) in
     (first, second)
 
 longer : (xs ys : List ℕ) → 0 < length ys → 0 < length (xs ++ ys)

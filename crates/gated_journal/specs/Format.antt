@@ -7,35 +7,35 @@ use Rattle.std.specs.Int.{w32, to_le_bytes, from_le_bytes}
 abbrev pub magic : List ℕ
 magic = 0x71 ∷ 0x74 ∷ 0x70 ∷ 0x6c ∷ 0x61 ∷ 0x6e ∷ 0x74 ∷ 0x31 ∷ []
 
--- a gate that lets the record behind it count; each other byte ends the records
+-- a gate after which a record counts; each other byte ends the records
 abbrev pub open_gate : ℕ
 open_gate = 0xa5
 
--- the gate that is written behind the last record
+-- the gate that is written after the last record
 abbrev pub closed_gate : ℕ
 closed_gate = 0
 
--- the most bytes of a payload
+-- the greatest number of bytes of a payload
 abbrev pub longest_payload : ℕ
 longest_payload = 2147483647
 
 abbrev pub IsPayload : List ℕ → Type 0
 IsPayload payload = (0 < length payload) × (length payload ≤ longest_payload)
 
--- a payload behind its length in four bytes, the lowest first
+-- a payload's length in four bytes, the lowest first, and then the payload
 abbrev pub measured : List ℕ → List ℕ
 measured payload = to_le_bytes w32 (length payload) ++ payload
 
--- records one behind the other, each behind its open gate
+-- records in order, an open gate before each
 unfoldable pub spelled : List (List ℕ) → List ℕ
 spelled [] = []
 spelled (payload ∷ payloads) = open_gate ∷ (measured payload ++ spelled payloads)
 
--- all that stands before the last gate
+-- all that comes before the last gate
 unfoldable pub before_gate : List (List ℕ) → List ℕ
 before_gate payloads = magic ++ spelled payloads
 
--- a gate that isn't open, and whatever stands behind it
+-- a gate that isn't open, and whatever follows it
 abbrev pub IsEnd : List ℕ → Type 0
 IsEnd [] = ⊥
 IsEnd (gate ∷ rest) = gate ≢ open_gate
@@ -47,14 +47,14 @@ pub record Reads (file : List ℕ) (payloads : List (List ℕ)) : Type 0 where
   pub ends : IsEnd rest
   pub sized : AllByRecursion IsPayload payloads
 
--- an open gate with no whole record behind it: the file ends before the next gate, or the length is none of a payload
+-- an open gate with no whole record after it: the file ends before the next gate, or the length is none of a payload
 abbrev pub IsBroken : List ℕ → Type 0
 IsBroken [] = ⊥
 IsBroken (gate ∷ rest) =
     let size = from_le_bytes w32 (take 4 rest) in
     (gate ≡ open_gate) × ((length rest < 4) ⊎ ((length rest ≤ 4 + size) ⊎ ((size ≡ 0) ⊎ (longest_payload < size))))
 
--- behind so many records the gate at this place is open and has no whole record behind it
+-- after this number of records the gate at this offset is open and has no whole record after it
 pub record BreaksAt (file : List ℕ) (count at : ℕ) : Type 0 where
   pub payloads : List (List ℕ)
   pub rest : List ℕ
@@ -68,10 +68,10 @@ pub record BreaksAt (file : List ℕ) (count at : ℕ) : Type 0 where
 abbrev pub HasHeader : List ℕ → Type 0
 HasHeader file = (take 8 file ≡ magic) × (9 ≤ length file)
 
--- the file begins otherwise, or has no gate
+-- the file doesn't begin so, or has no gate
 abbrev pub IsStrange : List ℕ → Type 0
 IsStrange file = (take 8 file ≢ magic) ⊎ (length file < 9)
 
--- the file is no journal from this place on, behind so many records
+-- the file is no journal from this offset on, after this number of records
 abbrev pub IsCorrupt : List ℕ → ℕ → ℕ → Type 0
 IsCorrupt file records place = (IsStrange file × (records ≡ 0) × (place ≡ 0)) ⊎ BreaksAt file records place

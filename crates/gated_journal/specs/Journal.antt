@@ -1,4 +1,4 @@
--- How a journal and its file stand to each other.
+-- What a journal and its file say of each other.
 use Rattle.std.specs.Prelude.{◌≡◌, ◌≢◌, ◌⊎◌, ◌≤◌, ℕ, ◌+◌, IsTrue, List, [], ◌∷◌, ◌++◌, length, take, Option, Some, None}
 use Rattle.std.specs.List.{AllByRecursion}
 use Rattle.outside_api.specs.Disk.{FileState, IsImage, DiskView, put}
@@ -6,17 +6,17 @@ use Rattle.gated_journal.specs.Format.{Reads, IsPayload, before_gate, measured, 
 use Rattle.gated_journal.specs.declared.state.State.{State}
 use Rattle.gated_journal.specs.declared.state.State.TheVariants.{Clean, BodyFailed, GateFailed}
 
--- what a journal is seen as: its file's number, the place of the last gate, and how its last call ended
+-- what a journal is seen as: its file's number, the offset of the last gate, and how its last call ended
 pub record JournalView : Type 0 where
   pub file : ℕ
   pub end : ℕ
   pub state : State
 
--- what an append writes behind the last gate: the record, and a closed gate
+-- what an append writes after the last gate: the record, and a closed gate
 abbrev pub body : List ℕ → List ℕ
 body payload = measured payload ++ closed_gate ∷ []
 
--- each image of the file has below this place the bytes that reads give
+-- each range begins at this offset or after it, so that each image has the bytes before it that reads give
 abbrev pub StartsFrom : ℕ → List (ℕ × ℕ) → Type 0
 StartsFrom place ranges = AllByRecursion (λ range. place ≤ range.0) ranges
 
@@ -28,15 +28,15 @@ pub record IsShut (file : FileState) (front : List ℕ) (end : ℕ) : Type 0 whe
   pub long : end + 1 ≤ file.least
   pub unsynced : StartsFrom (end + 1) file.unsynced
 
--- the last gate may stand open in an image, and in each a whole record stands behind it
-pub record IsAjar (file : FileState) (front : List ℕ) (end : ℕ) (behind : List ℕ) : Type 0 where
+-- the last gate may be open in an image, and in each image a whole record follows it
+pub record IsAjar (file : FileState) (front : List ℕ) (end : ℕ) (following : List ℕ) : Type 0 where
   pub gate : ℕ
   pub rest : List ℕ
-  pub bytes : file.bytes ≡ front ++ gate ∷ (behind ++ rest)
-  pub long : end + 1 + length behind ≤ file.least
-  pub unsynced : AllByRecursion (λ range. ((end ≤ range.0) × (range.0 + range.1 ≤ end + 1)) ⊎ (end + 1 + length behind ≤ range.0)) file.unsynced
+  pub bytes : file.bytes ≡ front ++ gate ∷ (following ++ rest)
+  pub long : end + 1 + length following ≤ file.least
+  pub unsynced : AllByRecursion (λ range. ((end ≤ range.0) × (range.0 + range.1 ≤ end + 1)) ⊎ (end + 1 + length following ≤ range.0)) file.unsynced
 
--- how the file stands, and which payload may count beside the records
+-- the state of the file, and which payload may count beside the records
 abbrev pub Stands : State → FileState → List ℕ → ℕ → Option (List ℕ) → Type 0
 Stands Clean file front end None = IsShut file front end
 Stands Clean file front end (Some payload) = ⊥
@@ -50,7 +50,7 @@ abbrev pub MayRead : List (List ℕ) → Option (List ℕ) → List ℕ → Type
 MayRead records None image = Reads image records
 MayRead records (Some payload) image = Reads image records ⊎ Reads image (records ++ payload ∷ [])
 
--- the journal's file holds these records; a payload whose append failed at its gate may count too, until it is mended
+-- the journal's file holds these records; a payload whose append failed at its gate may count too, until it is repaired
 pub record Holds (journal : JournalView) (file : FileState) (records : List (List ℕ)) (late : Option (List ℕ)) : Type 0 where
   pub end : journal.end ≡ length (before_gate records)
   pub sized : AllByRecursion IsPayload records
@@ -58,7 +58,7 @@ pub record Holds (journal : JournalView) (file : FileState) (records : List (Lis
   pub reads : MayRead records late file.bytes
   pub images : (image : List ℕ) → IsImage file image → MayRead records late image
 
--- the same of the journal's file on a disk, where the disk tells
+-- the same of the journal's file on a disk, where the disk reports
 abbrev pub Keeps : DiskView → JournalView → List (List ℕ) → Option (List ℕ) → Type 0
 Keeps disk journal records late = IsTrue disk.tells → Holds journal (disk.now journal.file) records late
 
@@ -66,17 +66,17 @@ Keeps disk journal records late = IsTrue disk.tells → Holds journal (disk.now 
 abbrev pub IsKept : DiskView → JournalView → Type 0
 IsKept disk journal = IsTrue disk.tells → (records : List (List ℕ)) × (late : Option (List ℕ)) × Holds journal (disk.now journal.file) records late
 
--- the payload that may count behind an append that failed
+-- the payload that may count after an append that failed
 abbrev pub late_of : State → List ℕ → Option (List ℕ)
 late_of GateFailed payload = Some payload
 late_of Clean payload = None
 late_of BodyFailed payload = None
 
--- the bytes behind an append: the record behind the last gate, and then that gate opened
+-- the bytes after an append: the record after the last gate, and then that gate opened
 abbrev pub appended : List ℕ → ℕ → List ℕ → List ℕ
 appended bytes end payload = put (put bytes (end + 1) (body payload)) end (open_gate ∷ [])
 
--- the bytes behind a mend: the last gate is closed again where it may stand open
+-- the bytes after a repair: the last gate is closed again where it may be open
 abbrev pub mended : State → List ℕ → ℕ → List ℕ
 mended GateFailed bytes end = put bytes end (closed_gate ∷ [])
 mended Clean bytes end = bytes

@@ -1,4 +1,4 @@
--- A file is read in one way: it holds one list of records, or it is corrupt at one place, and never both.
+-- A file is read in one way: it holds one list of records, or it is corrupt at one offset, and never both.
 use Rattle.std.specs.Prelude.{◌≡◌, ℕ, List}
 use Rattle.gated_journal.specs.Format.{Reads, IsCorrupt}
 

@@ -12,7 +12,7 @@ LoadCounts old new (Err DiskFault) = (new.faults ≡ counted old.faults 1) × (n
 LoadCounts old new (Err (Corrupt records bytes)) = (new.faults ≡ old.faults) × (new.tells ≡ old.tells)
 LoadCounts old new (Err NoMemory) = (new.faults ≡ old.faults) × (new.tells ≡ old.tells)
 
--- where the answer is `Corrupt`, its two numbers are so
+-- where the answer is `Corrupt`, this holds of its two numbers
 abbrev pub IfCorrupt : {T : Type 0} → Result T JournalRefusal → (ℕ → ℕ → Type 0) → Type 0
 IfCorrupt (Ok _) P = ⊤
 IfCorrupt (Err DiskFault) P = ⊤

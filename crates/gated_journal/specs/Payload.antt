@@ -1,3 +1,4 @@
+-- What a payload is seen as.
 use Rattle.std.specs.Prelude.{ℕ, List}
 
 -- what a payload is seen as: its bytes, and how many it has room for

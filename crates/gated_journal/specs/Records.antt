@@ -1,4 +1,4 @@
--- The payloads that stand in one text of bytes.
+-- The payloads that are parts of one list of bytes.
 use Rattle.std.specs.Prelude.{◌≤◌, ◌+◌, ℕ, List, map, take, drop}
 use Rattle.std.specs.List.{AllByRecursion}
 use Rattle.gated_journal.specs.declared.records.Span.{Span}
@@ -10,7 +10,7 @@ bytes_in bytes span = take span.len (drop span.start bytes)
 abbrev pub payloads_in : List ℕ → List Span → List (List ℕ)
 payloads_in bytes spans = map (bytes_in bytes) spans
 
--- a span lies within so many bytes
+-- a span lies within this number of bytes
 abbrev pub IsInside : ℕ → Span → Type 0
 IsInside size span = span.start + span.len ≤ size
 

@@ -4,28 +4,28 @@ use Rattle.outside_api.specs.Disk.{DiskView, Passes}
 use Rattle.gated_journal.specs.Format.{open_gate}
 use Rattle.gated_journal.specs.Journal.{IsShut, IsAjar}
 
--- a front part, and behind it a gate that isn't open
+-- a prefix, and after it a gate that isn't open
 pub record HasShut (front image : List ℕ) : Type 0 where
   pub gate : ℕ
   pub rest : List ℕ
   pub shut : gate ≢ open_gate
   pub split : image ≡ front ++ gate ∷ rest
 
--- a front part, any gate, and this behind it
-pub record HasAny (front behind image : List ℕ) : Type 0 where
+-- a prefix, any gate, and this after it
+pub record HasAny (front following image : List ℕ) : Type 0 where
   pub gate : ℕ
   pub rest : List ℕ
-  pub split : image ≡ front ++ gate ∷ (behind ++ rest)
+  pub split : image ≡ front ++ gate ∷ (following ++ rest)
 
 -- the last gate was shut, and is at each moment since
 pub record StaysShut (old new : DiskView) (file end : ℕ) (front : List ℕ) : Type 0 where
   pub passes : Passes old new file (HasShut front)
   pub stands : IsShut (new.now file) front end
 
--- what stood behind the last gate stands there at each moment since
-pub record StaysAjar (old new : DiskView) (file end : ℕ) (front behind : List ℕ) : Type 0 where
-  pub passes : Passes old new file (HasAny front behind)
-  pub stands : IsAjar (new.now file) front end behind
+-- what followed the last gate follows it at each moment since
+pub record StaysAjar (old new : DiskView) (file end : ℕ) (front following : List ℕ) : Type 0 where
+  pub passes : Passes old new file (HasAny front following)
+  pub stands : IsAjar (new.now file) front end following
 
 abbrev pub KeepsShut : DiskView → DiskView → ℕ → ℕ → Type 0
 KeepsShut old new file end =
@@ -33,4 +33,4 @@ KeepsShut old new file end =
 
 abbrev pub KeepsAjar : DiskView → DiskView → ℕ → ℕ → Type 0
 KeepsAjar old new file end =
-    IsTrue old.tells → (front behind : List ℕ) → length front ≡ end → IsAjar (old.now file) front end behind → StaysAjar old new file end front behind
+    IsTrue old.tells → (front following : List ℕ) → length front ≡ end → IsAjar (old.now file) front end following → StaysAjar old new file end front following

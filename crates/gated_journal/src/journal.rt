@@ -1,35 +1,35 @@
-// A journal: its records in a file, and how they are added.
-ghost use Rattle.std.specs.Prelude.{◌≡◌, ◌≢◌, ◌<◌, ◌≤◌, ◌+◌, ◌^◌, ◌↔◌, ◌++◌, [], ◌∷◌, List, Option, Some, None, ℕ, IsTrue, length, IfOk, OnOk, OnErr};
+//! A journal: its records in a file, and how they are added.
+ghost use Rattle.std.specs.Prelude.{◌≡◌, ◌≢◌, ◌<◌, ◌≤◌, ◌+◌, ◌^◌, ◌↔◌, ◌++◌, [], ◌∷◌, List, Option, Some, None, ℕ};
+ghost use Rattle.std.specs.Prelude.{IsTrue, length, IfOk, OnOk, OnErr};
 ghost use Rattle.outside_api.specs.Disk.{Counts, IsWithin, Passes, put, kept_file};
 ghost use Rattle.gated_journal.specs.Steps.{KeepsShut, KeepsAjar};
 ghost use Rattle.gated_journal.specs.Format.{Reads, IsCorrupt};
 ghost use Rattle.gated_journal.specs.Load.{LoadCounts, IfCorrupt, KeepsImages};
 ghost use Rattle.gated_journal.specs.Journal.{Keeps, IsKept, MayRead, late_of, appended, mended, fresh_bytes};
 
+use crate::layout::{CLOSED_GATE, FIRST_GATE, NO_RECORDS, OPEN_GATE};
 use crate::payload::Payload;
 use crate::records::Records;
 use crate::refusal::JournalRefusal;
 use crate::scan::scan;
 use crate::state::State;
 use outside_api::{Disk, DiskFault};
+use q_values::NoMemory;
 use std::alloc::Global;
 use std::marker::Model;
 
-const OPEN_GATE: u8 = 0xa5;
-
-const CLOSED_GATE: u8 = 0;
-
-const EMPTY: [u8; 9] = *b"qtplant1\0";
-
 /// Records in a file of a disk. A record counts once the gate before it is open, and a gate is opened by a write of its
-/// own, behind a sync of the record and of the closed gate that stands behind it.
+/// own, after a sync of the record and of the closed gate at its end.
 ///
 /// The journal doesn't hold the disk: each call is given it, and nobody else may write the journal's file. Where the
-/// disk tells what it holds, `Keeps` says which records the file has, now and in each image that a stop may leave.
+/// disk reports what it holds, `Keeps` says which records the file has, now and in each image that a crash may leave.
 #[derive(Debug, Drop)]
 pub struct Journal {
+    // The file's number on the disk.
     file: u64,
+    // The offset of the last gate, below 2^63.
     end: u64,
+    // How the last append or repair ended.
     state: State,
 }
 
@@ -47,10 +47,10 @@ impl Model for Journal {
 impl Journal {
     ghost use Rattle.gated_journal.specs.Journal.{JournalView};
 
-    /// Makes the file an empty journal, whatever it held: cuts it to nothing, writes the magic and a closed gate, and
-    /// syncs. It takes no memory.
+    /// Makes the file an empty journal, whatever it held: truncates it, writes the magic and a closed gate, and syncs. It
+    /// takes no memory.
     ///
-    /// A stop within this call may leave any bytes in the file.
+    /// A crash within this call may leave any bytes in the file.
     pub fn fresh<D: Disk>(disk: &mut D, file: u64) -> Result<Journal, DiskFault>
         ensures journal { IfOk result (λ j. j ≡ record { file = file; end = 8; state = State.Clean }) }
         ensures keeps { IfOk result (λ j. Keeps (D.shown disk.new) j [] None) }
@@ -60,21 +60,21 @@ impl Journal {
         ensures counts { Counts (D.shown disk.old) (D.shown disk.new) result }
     {
         disk.cut(file, 0)?;
-        disk.write_at(file, 0, &EMPTY)?;
+        disk.write_at(file, 0, &NO_RECORDS)?;
         disk.sync(file)?;
         Ok(Journal {
             file,
-            end: 8,
+            end: FIRST_GATE as u64,
             state: State::Clean,
         })
     }
 
-    /// Reads the records of a journal, behind a sync, and gives them with the journal, which is clean. The file reads as
-    /// before. Time and memory go with the size of the file.
+    /// Syncs the file, reads its records, and gives them with the journal, which is clean. The file reads as before. Time
+    /// and memory are linear in the size of the file.
     ///
-    /// The answer is `Corrupt` where the file begins otherwise than a journal or has fewer than nine bytes, with both
-    /// numbers 0, and where a gate is open and no whole record and further gate stand behind it, with the number of the
-    /// records before that gate and its place.
+    /// The answer is `Corrupt` where the file doesn't begin as a journal does or has fewer than nine bytes, with both
+    /// numbers 0, and where a gate is open and no whole record with a further gate follows it, with the number of records
+    /// before that gate and its offset.
     pub fn load<D: Disk>(
         alloc: Global,
         disk: &mut D,
@@ -100,10 +100,10 @@ impl Journal {
             end: end as u64,
             state: State::Clean,
         };
-        Ok((journal, Records::of(bytes, spans)))
+        Ok((journal, Records::from_parts(bytes, spans)))
     }
 
-    /// Whether the last append or mend succeeded. Else the journal has to be mended before the next append.
+    /// Whether the last append or repair succeeded. Otherwise the journal must be repaired before the next append.
     pub fn is_clean(&self) -> bool
         ensures { IsTrue result ↔ (self.now.state ≡ State.Clean) }
     {
@@ -137,7 +137,7 @@ impl Journal {
     {
         let body = payload.body();
         self.state = State::BodyFailed;
-        write_behind(disk, self.file, self.end, body)?;
+        write_record(disk, self.file, self.end, body)?;
         self.state = State::GateFailed;
         write_gate(disk, self.file, self.end, OPEN_GATE)?;
         self.state = State::Clean;
@@ -145,8 +145,8 @@ impl Journal {
         Ok(())
     }
 
-    /// Makes the journal clean, with the records that it had. Where the last gate may stand open it is closed and synced;
-    /// else the file is synced. It takes no memory.
+    /// Repairs the journal, which keeps the records that it had. Where the last gate may be open it is closed and synced;
+    /// otherwise the file is synced. It takes no memory.
     ///
     /// After a fault the journal isn't clean.
     pub fn mend<D: Disk>(&mut self, disk: &mut D) -> Result<(), DiskFault>
@@ -181,7 +181,7 @@ impl Journal {
     }
 }
 
-// The bytes of a file, behind a sync.
+// The bytes of a file, after a sync.
 fn read_whole<D: Disk>(alloc: Global, disk: &mut D, file: u64) -> Result<Vec<u8>, JournalRefusal>
     ensures bytes { IfOk result (λ b. IsTrue (D.shown disk.old).tells → b.items ≡ ((D.shown disk.old).now file).bytes) }
     ensures small { IfOk result (λ b. length b.items < 2 ^ 63) }
@@ -192,15 +192,22 @@ fn read_whole<D: Disk>(alloc: Global, disk: &mut D, file: u64) -> Result<Vec<u8>
     ensures counts { LoadCounts (D.shown disk.old) (D.shown disk.new) result }
     ensures no_corrupt { IfCorrupt result (λ _ _. ⊥) }
 {
-    disk.sync(file)?; // from here on a stop leaves what is read
+    disk.sync(file)?; // from here on a crash leaves what is read
     let size = disk.size(file)?;
-    let mut bytes = vec![in alloc; 0; size as usize]?;
+    let mut bytes = zeroes(alloc, size as usize)?;
     disk.read(file, 0, bytes.as_mut_slice())?;
     Ok(bytes)
 }
 
-// Writes behind the last gate, and syncs.
-fn write_behind<D: Disk>(disk: &mut D, file: u64, end: u64, body: &[u8]) -> Result<(), DiskFault>
+// This number of zeroes.
+fn zeroes(alloc: Global, n: usize) -> Result<Vec<u8>, NoMemory>
+    ensures { IfOk result (λ v. length v.items ≡ n) }
+{
+    Ok(vec![in alloc; 0; n]?)
+}
+
+// Writes after the last gate, and syncs.
+fn write_record<D: Disk>(disk: &mut D, file: u64, end: u64, body: &[u8]) -> Result<(), DiskFault>
     requires small { end < 2 ^ 63 }
     requires within { IsWithin (D.shown disk.old) file (end + 1) 0 }
     ensures small { OnOk result (end + 1 + length body.now < 2 ^ 63) }

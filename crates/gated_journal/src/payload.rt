@@ -1,17 +1,20 @@
-// The payload of a record, as an append writes it.
-ghost use Rattle.std.specs.Prelude.{◌≡◌, ◌<◌, ◌≤◌, ◌+◌, ◌++◌, [], ◌∷◌, length, take, drop, IfOk};
+//! The payload of a record, as an append writes it.
+ghost use Rattle.std.specs.Prelude.{◌≡◌, ◌==◌, ◌<◌, ◌≤◌, ◌+◌, ◌++◌, [], ◌∷◌, length, take, drop, IfOk};
 ghost use Rattle.gated_journal.specs.Format.{longest_payload, measured, closed_gate};
 ghost use Rattle.outside_api.specs.Disk.{put};
 
+use crate::layout::{CLOSED_GATE, LENGTH_BYTES, RECORD_OVERHEAD};
 use q_values::NoMemory;
 use std::alloc::Global;
 use std::marker::Model;
 
-/// The payload of a record, with room for so many bytes. It stands between its length and a closed gate, so that one
-/// write sends all three and copies nothing.
+/// The payload of a record, with room for a number of bytes. It is kept between its length and a closed gate, so that
+/// one write sends all three and copies nothing.
 #[derive(Drop)]
 pub struct Payload {
+    // The length, the payload, a closed gate, and then what is left of the room: 5 bytes more than the room.
     buffer: Vec<u8>,
+    // The number of bytes of the payload, at most the room.
     len: usize,
 }
 
@@ -29,14 +32,14 @@ impl Model for Payload {
 }
 
 impl Payload {
-    /// An empty payload with room for so many bytes, at most 2,147,483,647.
+    /// An empty payload with room for `room` bytes, at most 2,147,483,647.
     pub fn with_room(alloc: Global, room: u32) -> Result<Payload, NoMemory>
         requires { room ≤ longest_payload }
         ensures bytes { IfOk result (λ p. p.bytes ≡ []) }
         ensures room { IfOk result (λ p. p.room ≡ room) }
     {
         Ok(Payload {
-            buffer: vec![in alloc; 0; room as usize + 5]?,
+            buffer: vec![in alloc; 0; room as usize + RECORD_OVERHEAD]?,
             len: 0,
         })
     }
@@ -53,6 +56,13 @@ impl Payload {
         self.len = len;
     }
 
+    /// Whether it has no bytes.
+    pub fn is_empty(&self) -> bool
+        ensures { result ≡ (length self.now.bytes == 0) }
+    {
+        self.len == 0
+    }
+
     /// The number of its bytes.
     pub fn len(&self) -> usize
         ensures { result ≡ length self.now.bytes }
@@ -60,17 +70,17 @@ impl Payload {
         self.len
     }
 
-    // Its length, its bytes and a closed gate.
+    /// Its length, its bytes and a closed gate.
     pub fn body(&self) -> &[u8]
         requires { 0 < length self.now.bytes }
         ensures body { result.now ≡ measured self.now.bytes ++ closed_gate ∷ [] }
         ensures within { length self.now.bytes ≤ longest_payload }
     {
-        &self.buffer[..self.len + 5]
+        &self.buffer[..self.len + RECORD_OVERHEAD]
     }
 }
 
-// Puts bytes at a place of the buffer.
+// Puts bytes into the buffer from an offset on.
 fn put_at(buffer: &mut [u8], at: usize, bytes: &[u8])
     requires { at + length bytes.now ≤ length buffer.old }
     ensures { buffer.new ≡ put buffer.old at bytes.now }
@@ -86,6 +96,6 @@ fn lay_out(buffer: &mut [u8], bytes: &[u8])
 {
     let size = bytes.len();
     put_at(buffer, 0, &(size as u32).to_le_bytes());
-    put_at(buffer, 4, bytes);
-    put_at(buffer, size + 4, &[0]);
+    put_at(buffer, LENGTH_BYTES, bytes);
+    put_at(buffer, size + LENGTH_BYTES, &[CLOSED_GATE]);
 }

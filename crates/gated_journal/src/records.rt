@@ -1,23 +1,27 @@
-//! The payloads of a journal's records, in one text of bytes.
-ghost use Rattle.std.specs.Prelude.{◌≡◌, ◌<◌, ◌+◌, ◌≤◌, ◌++◌, [], ◌∷◌, Some, slice_get, take, drop, length, OnOk, OnErr};
+//! The payloads of a journal's records, all in one vector of bytes.
+ghost use Rattle.std.specs.Prelude.{◌≡◌, ◌==◌, ◌<◌, ◌+◌, ◌≤◌, ◌++◌, [], ◌∷◌, Some, slice_get, take, drop, length, OnOk, OnErr};
 ghost use Rattle.gated_journal.specs.Records.{payloads_in, AreInside};
 
 use q_values::NoMemory;
 use std::alloc::Global;
 use std::marker::Model;
 
-// So many bytes from a place on.
+/// A part of the bytes.
 #[derive(Clone, Copy, Debug, PartialEq, Eq)]
 pub struct Span {
+    /// The offset of its first byte.
     pub start: usize,
+    /// Its number of bytes.
     pub len: usize,
 }
 
-/// The payloads of records, first to last, seen as the list of them. They stand in one text of bytes, which a load reads
-/// at once, and cost 16 bytes each beside it.
+/// The payloads of records, first to last, seen as a list of payloads. They are parts of one vector of bytes, which a load
+/// reads at once, and cost 16 bytes each beside it.
 #[derive(Drop)]
 pub struct Records {
+    // The bytes that hold the payloads.
     bytes: Vec<u8>,
+    // Where each payload is, within the bytes.
     spans: Vec<Span>,
 }
 
@@ -43,8 +47,8 @@ impl Records {
         }
     }
 
-    // The payloads in these spans of the bytes.
-    pub fn of(bytes: Vec<u8>, spans: Vec<Span>) -> Records
+    /// The payloads in these spans of the bytes.
+    pub fn from_parts(bytes: Vec<u8>, spans: Vec<Span>) -> Records
         requires { AreInside (length bytes.items) spans.items }
         ensures { result ≡ payloads_in bytes.items spans.items }
     {
@@ -58,7 +62,14 @@ impl Records {
         self.spans.len()
     }
 
-    /// Lends the payload at a place.
+    /// Whether there are no records.
+    pub fn is_empty(&self) -> bool
+        ensures { result ≡ (length self.now == 0) }
+    {
+        self.len() == 0
+    }
+
+    /// Lends the payload at the index `i`.
     pub fn at(&self, i: usize) -> &[u8]
         requires { i < length self.now }
         ensures { slice_get self.now i ≡ Some result.now }

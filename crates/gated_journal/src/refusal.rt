@@ -1,5 +1,6 @@
 //! Why a journal can't be loaded.
-use std::alloc::{AllocError, AllocFailed};
+
+use q_values::NoMemory;
 use thiserror::Error;
 
 /// Why a journal can't be loaded. Its file reads as before.
@@ -8,10 +9,10 @@ pub enum JournalRefusal {
     /// A call of the disk failed.
     #[error("the disk failed")]
     DiskFault,
-    /// The file is no journal from the place `bytes` on, behind so many records.
-    #[error("no journal from a place on")]
+    /// The file is no journal from the offset `bytes` on, after `records` records.
+    #[error("no journal from byte {bytes} on, after {records} records")]
     Corrupt { records: u64, bytes: u64 },
-    /// Memory was wanting.
+    /// Out of memory.
     #[error("out of memory")]
     NoMemory,
 }
@@ -27,24 +28,13 @@ impl From<outside_api::DiskFault> for JournalRefusal {
     }
 }
 
-impl From<AllocError> for JournalRefusal {
+impl From<NoMemory> for JournalRefusal {
     ghost use Rattle.std.specs.Prelude.{◌≡◌};
     ghost use Rattle.gated_journal.specs.declared.refusal.JournalRefusal.TheVariants as r;
 
     ghost from_gives = { λ _ e. e ≡ r.NoMemory };
 
-    fn from(_e: AllocError) -> JournalRefusal {
-        JournalRefusal::NoMemory
-    }
-}
-
-impl<T: Drop> From<AllocFailed<T>> for JournalRefusal {
-    ghost use Rattle.std.specs.Prelude.{◌≡◌};
-    ghost use Rattle.gated_journal.specs.declared.refusal.JournalRefusal.TheVariants as r;
-
-    ghost from_gives = { λ _ e. e ≡ r.NoMemory };
-
-    fn from(_e: AllocFailed<T>) -> JournalRefusal {
+    fn from(_e: NoMemory) -> JournalRefusal {
         JournalRefusal::NoMemory
     }
 }

@@ -1,4 +1,15 @@
-// What appending to a journal and loading it cost, over a disk in memory.
+//! Times the appends of a journal and its load, over a disk in memory.
+//!
+//! `journal_bench N` appends N records of 80 bytes, loads the journal, and prints the milliseconds of both:
+//!
+//! ```text
+//! $ rt run -- 1000000
+//! append 1000000: 83100 us, done true
+//! load 1000000: 98000 us
+//! ```
+//!
+//! The disk in memory keeps what its file holds, so memory is that of the file and of what the load reads. The program
+//! proves nothing about time, and nothing stands on it.
 #![tactic(auto)]
 
 ghost use Rattle.std.specs.Prelude.{◌≡◌, ◌<◌, length, IfOk};
@@ -25,7 +36,7 @@ fn payload(alloc: Global) -> Result<Payload, NoMemory>
     Ok(payload)
 }
 
-// Appends the payload so often, and says whether each append succeeded.
+// Appends the payload `count` times, and says whether each append succeeded.
 fn append_all(disk: &mut MemDisk, journal: &mut Journal, payload: &Payload, count: u64) -> bool
     requires clean { journal.old.state ≡ State.Clean }
     requires some { 0 < length payload.now.bytes }

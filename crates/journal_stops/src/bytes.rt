@@ -1,4 +1,4 @@
-// The bytes of a journal, and where they are no journal.
+//! The bytes of a journal, and where they are no journal.
 use crate::steps::{FILE, finds, payload, started};
 use gated_journal::{Journal, JournalRefusal};
 use outside_api::Disk;
@@ -15,7 +15,7 @@ fn disk_of(alloc: Global, bytes: &[u8]) -> Option<MemDisk> {
     Some(disk)
 }
 
-// Whether a load of these bytes is refused so.
+// Whether a load of these bytes is refused with these two numbers.
 fn is_corrupt(alloc: Global, file: &[u8], records: u64, bytes: u64) -> Result<bool, NoMemory> {
     let Some(mut disk) = disk_of(alloc, file) else {
         return Ok(false);

@@ -1,4 +1,4 @@
-// Each call of the disk failing in turn.
+//! Each call of the disk failing in turn.
 ghost use Rattle.std.specs.Prelude.{◌≡◌, ◌<◌, length};
 ghost use Rattle.gated_journal.specs.Journal.{IsKept};
 ghost use Rattle.outside_mem.specs.MemDisk.{shown_by};
@@ -26,7 +26,7 @@ fn fails_append(
     journal.append(disk, payload).is_err()
 }
 
-// A mend of which one call fails.
+// A repair of which one call fails.
 fn fails_mend(disk: &mut MemDisk, journal: &mut Journal, callings: Callings) -> bool
     requires kept { IsKept (shown_by disk.old) journal.old }
     ensures kept { IsKept (shown_by disk.new) journal.new }
@@ -35,7 +35,7 @@ fn fails_mend(disk: &mut MemDisk, journal: &mut Journal, callings: Callings) -> 
     journal.mend(disk).is_err()
 }
 
-// A mend that succeeds.
+// A repair that succeeds.
 fn mends(alloc: Global, disk: &mut MemDisk, journal: &mut Journal) -> bool
     requires kept { IsKept (shown_by disk.old) journal.old }
 {
@@ -43,7 +43,7 @@ fn mends(alloc: Global, disk: &mut MemDisk, journal: &mut Journal) -> bool
     !journal.is_clean() && journal.mend(disk).is_ok() && journal.is_clean()
 }
 
-// An append of which one call fails, then a mend.
+// An append of which one call fails, then a repair.
 fn mends_an_append(alloc: Global, place: usize, how: Calling) -> Result<bool, NoMemory> {
     let second = payload(alloc, b"cde")?;
     let callings = one_failing(alloc, place, how)?;
@@ -58,7 +58,7 @@ fn mends_an_append(alloc: Global, place: usize, how: Calling) -> Result<bool, No
     Ok(failed && mended && finds(alloc, &mut disk, b"ab,")?)
 }
 
-// The same, with a mend of which one call fails before.
+// The same, with a failed repair before the one that succeeds.
 fn mends_again(
     alloc: Global,
     place: usize,

@@ -1,4 +1,4 @@
-// Parts of the tests: a journal with one record, and what a load finds.
+//! Parts of the tests: a journal with one record, and what a load finds.
 ghost use Rattle.std.specs.Prelude.{◌≡◌, ◌<◌, ◌≤◌, length, IfOk};
 
 use gated_journal::{Journal, JournalRefusal, Payload, Records};
@@ -6,8 +6,10 @@ use outside_mem::{Calling, Callings, MemDisk};
 use q_values::NoMemory;
 use std::alloc::Global;
 
+/// The number of the journal's file.
 pub const FILE: u64 = 7;
 
+/// A payload of these bytes.
 pub fn payload(alloc: Global, bytes: &[u8]) -> Result<Payload, NoMemory>
     requires some { 0 < length bytes.now }
     requires small { length bytes.now ≤ 16 }
@@ -18,7 +20,7 @@ pub fn payload(alloc: Global, bytes: &[u8]) -> Result<Payload, NoMemory>
     Ok(payload)
 }
 
-// A disk with a journal of one record, `ab`.
+/// A disk with a journal of one record, `ab`.
 pub fn started(alloc: Global) -> Result<Option<MemDisk>, NoMemory> {
     let first = payload(alloc, b"ab")?;
     let mut disk = MemDisk::new(alloc);
@@ -31,7 +33,7 @@ pub fn started(alloc: Global) -> Result<Option<MemDisk>, NoMemory> {
     Ok(Some(disk))
 }
 
-// Calls of which the one at this place goes so, and the others succeed.
+/// Calls that succeed, but for one after `place` others, which goes as `how` says.
 pub fn one_failing(alloc: Global, place: usize, how: Calling) -> Result<Callings, NoMemory> {
     let mut callings = Callings::new(alloc);
     for _ in 0..place {
@@ -41,7 +43,7 @@ pub fn one_failing(alloc: Global, place: usize, how: Calling) -> Result<Callings
     Ok(callings)
 }
 
-// The payloads, each with a comma behind it.
+// The payloads, a comma after each.
 fn text_of(alloc: Global, records: &Records) -> Result<Vec<u8>, NoMemory> {
     let mut text = Vec::new(alloc);
     for i in 0..records.len() {
@@ -51,7 +53,7 @@ fn text_of(alloc: Global, records: &Records) -> Result<Vec<u8>, NoMemory> {
     Ok(text)
 }
 
-// Whether a load finds these payloads.
+/// Whether a load finds these payloads.
 pub fn finds(alloc: Global, disk: &mut MemDisk, wanted: &[u8]) -> Result<bool, NoMemory> {
     match Journal::load(alloc, disk, FILE) {
         Ok((_journal, records)) => Ok(text_of(alloc, &records)?.as_slice() == wanted),

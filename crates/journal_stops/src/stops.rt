@@ -1,4 +1,4 @@
-// A stop behind each call of the disk.
+//! A crash after each call of the disk.
 use crate::steps::{FILE, finds, payload, started};
 use gated_journal::Journal;
 use outside_mem::{Callings, Leaving};
@@ -6,7 +6,7 @@ use q_values::NoMemory;
 use std::alloc::Global;
 use std::test::Fail;
 
-// An append over a disk that stops behind so many calls, and what a restart finds.
+// An append over a disk that goes down after a number of calls, and what a restart finds.
 fn stops_within(
     alloc: Global,
     calls: u64,

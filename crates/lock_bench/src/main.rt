@@ -1,5 +1,15 @@
-//! Times takes and gives of a `plant_lock`, for `bench/lock.py`: `lock_bench COUNT` prints the nanoseconds of COUNT of
-//! them by one thread, and of COUNT by each of four.
+//! Times takes and gives of a `plant_lock`, for `bench/lock.py`.
+//!
+//! `lock_bench COUNT` prints the nanoseconds of COUNT takes and gives by one thread, and of COUNT by each of four threads
+//! at once:
+//!
+//! ```text
+//! lock 1 25150000
+//! lock 4 1080180000
+//! ```
+//!
+//! The state under the lock is a counter, so what is timed is the lock itself. The program checks at its end that each
+//! take was counted. It proves nothing about time, and nothing stands on it. Without an argument it prints nothing.
 #![tactic(auto)]
 
 mod turns;

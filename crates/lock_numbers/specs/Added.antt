@@ -12,7 +12,8 @@ made_by n x = record { by = n; number = x }
 abbrev pub mine_after : Told Made → ℕ → Bool → List Made
 mine_after p x added = cond added (p.mine ++ made_by p.number x ∷ []) p.mine
 
--- the pass is the same one and has seen no less; what it has seen has of its number just the entries that it made, each once: those before, and the number, where it was added
+-- the pass is the same one and has seen no less; what it has seen has of its number exactly the entries that it made, each
+-- once: those before, and the number, where it was added
 pub record IsAdded (p : Told Made) (x : ℕ) (q : Told Made) (added : Bool) : Type 0 where
   pub lock : q.lock ≡ p.lock
   pub number : q.number ≡ p.number

@@ -9,13 +9,16 @@ use std::sync::Wait;
 /// A number, and the pass that added it.
 #[derive(Clone, Copy, Debug, Drop)]
 pub struct Made {
+    /// The number of the pass.
     pub by: u64,
+    /// The number that it added.
     pub number: u64,
 }
 
 /// A list of numbers. It has no frame.
 #[derive(Drop)]
 pub struct Numbers {
+    /// What was added, in order.
     pub all: Vec<Made>,
 }
 

@@ -1,3 +1,4 @@
+//! Passes, notes and threads under one lock.
 ghost use Rattle.std.specs.Prelude.{◌≡◌, ◌<◌, ◌-◌, ◌^◌, IfOk};
 
 use crate::{Asker, Numbers, add, add_all, push_both};
@@ -21,7 +22,8 @@ fn opened<R>(rt: &R, alloc: Global, first: u64) -> Result<(PlantLock<Numbers>, A
     }
 }
 
-// A pass logs an entry and gives a note. Another learns it, takes the lock and finds a list that begins with that entry.
+// A pass adds an entry and writes a note. Another learns the note, takes the lock and finds a list that begins with that
+// entry.
 #[test]
 fn notes_and_save_refusals(rt: HostRuntime) -> Result<(), Fail> {
     let (lock, first) = opened(&rt, rt.alloc(), 1)?;

@@ -8,7 +8,7 @@ use std::sync::Wait;
 use std::thread::{Threads, join};
 
 /// Each of two threads takes the lock, adds its number and gives the list back. At the end both passes have seen one
-/// list, which has of each pass just the entries that it made before and the one that it added, each once.
+/// list, which has of each pass exactly the entries that it made before and the one that it added, each once.
 pub fn push_both<R: Threads + Wait + Sync>(
     rt: &R,
     lock: &PlantLock<Numbers>,

@@ -26,7 +26,7 @@ inside_first j (range ∷ ranges) (suc i) d less (inr rest) = elim (inside_first
   | inr last ↦ inr last
 ]
 
--- behind one range more, each place within the ranges so far has the byte
+-- after one range more, each place within the ranges so far has the byte
 pub torn_on : (j : ℕ) (ranges : List (ℕ × ℕ)) (i n : ℕ) (d : ℕ × ℕ) (old new : List ℕ) (byte : ℕ) → n ≡ suc i → i < length ranges → length new ≡ length old
     → ((k : ℕ) → (k < (get_or ranges i d).0) ⊎ ((get_or ranges i d).0 + (get_or ranges i d).1 ≤ k) → slice_index new k ≡ slice_index old k)
     → ((k : ℕ) → k < length new → (get_or ranges i d).0 ≤ k → k < (get_or ranges i d).0 + (get_or ranges i d).1 → slice_index new k ≡ byte)
@@ -40,7 +40,7 @@ torn_on j ranges i n d old new byte next more size others torn before less insid
         | inl low ↦ others j (inl low) ∙ same
         | inr high ↦ elim (cases_lt j ((get_or ranges i d).0 + (get_or ranges i d).1)) [
           | inl within ↦ torn j less high within
-          | inr behind ↦ others j (inr behind) ∙ same
+          | inr after ↦ others j (inr after) ∙ same
         ]
       ]
 ]
@@ -138,7 +138,7 @@ changes_over old es now n i e made step reads same less first is sets =
     let changes = changes_at es now n i e made (step (file_in old n)) same less first is made_is in
     record { changed = changes.changed; others = λ k apart. changes.others k apart ∙ reads k }
 
--- entries of the same numbers, whose files are what a stop leaves
+-- entries of the same numbers, whose files are what a crash leaves
 abbrev pub AllLeft : Leaving → List Numbered → List Numbered → Type 0
 AllLeft leaving [] [] = Unit {0}
 AllLeft leaving [] (y ∷ ys) = ⊥
@@ -151,7 +151,7 @@ left_push leaving [] (b ∷ ys) x y image all number is kept = absurd all
 left_push leaving (a ∷ xs) [] x y image all number is kept = absurd all
 left_push leaving (a ∷ xs) (b ∷ ys) x y image all number is kept = (all.0, all.1, left_push leaving xs ys x y image all.2 number is kept)
 
--- a stop leaves nothing of a file that was never written
+-- a crash leaves nothing of a file that was never written
 nothing_left : (leaving : Leaving) → IsChosen leaving empty_file []
 nothing_left Whole = refl
 nothing_left (Torn byte) = record { size = refl; others = λ k outside. refl; torn = λ k less inside. absurd inside }

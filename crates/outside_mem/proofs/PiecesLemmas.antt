@@ -97,9 +97,9 @@ front-fault pieces next at now piece view here is =
     let front : drop next pieces ≡ Fault ∷ drop (next + 1) pieces = drop_next pieces next piece here ∙ ap (λ p. p ∷ drop (next + 1) pieces) is in
     sym view ∙ ap (from_within at) front
 
--- a read behind spent pieces
-pub Plays_behind : (old now new : List Piece) (before after : List ℕ) (result : Got) → now ≡ unspent old → Plays now new before after result → Plays old new before after result
-Plays_behind old now new before after result e h = Plays-unspent old new before after result (rw (← e) h)
+-- a read after spent pieces
+pub Plays_after : (old now new : List Piece) (before after : List ℕ) (result : Got) → now ≡ unspent old → Plays now new before after result → Plays old new before after result
+Plays_after old now new before after result e h = Plays-unspent old new before after result (rw (← e) h)
 
 pub Plays-bytes : (ys : List ℕ) (pieces new : List Piece) (before after : List ℕ) (n : ℕ) → is_spent (Bytes ys ∷ pieces) ≡ false → n ≡ min (length ys) (length before) → new ≡ Bytes (drop n ys) ∷ pieces → after ≡ take n ys ++ drop n before → Plays (Bytes ys ∷ pieces) new before after (got.Bytes n)
 Plays-bytes [] pieces new before after n spent count left copied = absurd (cc)
@@ -117,7 +117,7 @@ IsWithin-bytes pieces next at piece bs inside here is =
     let front : drop next pieces ≡ Bytes bs ∷ drop (next + 1) pieces = drop_next pieces next piece here ∙ ap (λ p. p ∷ drop (next + 1) pieces) is in
     rw front inside
 
--- the pieces behind a read of so many bytes
+-- the pieces after a read of n bytes
 pub from_within-bytes : (pieces : List Piece) (next at n : ℕ) (piece : Piece) (bs : List ℕ) → slice_get pieces next ≡ Some piece → piece ≡ Bytes bs → from_within (at + n) (drop next pieces) ≡ Bytes (drop n (drop at bs)) ∷ drop (next + 1) pieces
 from_within-bytes pieces next at n piece bs here is =
     let front : drop next pieces ≡ Bytes bs ∷ drop (next + 1) pieces = drop_next pieces next piece here ∙ ap (λ p. p ∷ drop (next + 1) pieces) is in
@@ -134,15 +134,15 @@ gives-bytes xs pieces before some =
     ap (λ l. l ++ bytes_of pieces) (sym (take-append-drop n xs)) ∙ append_assoc (take n xs) (drop n xs) (bytes_of pieces) in
     (omega arith, (λ room. omega (arith, room, some)), whole ∙ ap (λ l. l ++ (drop n xs ++ bytes_of pieces)) (sym (take_at (take n xs) (drop n before) n front)))
 
-Gives_behind : (pieces new : List Piece) (buf : List ℕ) (result : Got) → Gives pieces new buf result → Gives (Bytes [] ∷ pieces) new buf result
-Gives_behind pieces new buf (got.Bytes n) h = h
-Gives_behind pieces new buf got.End h = h
-Gives_behind pieces new buf got.Idle h = h
-Gives_behind pieces new buf got.Failed h = h
+Gives_after : (pieces new : List Piece) (buf : List ℕ) (result : Got) → Gives pieces new buf result → Gives (Bytes [] ∷ pieces) new buf result
+Gives_after pieces new buf (got.Bytes n) h = h
+Gives_after pieces new buf got.End h = h
+Gives_after pieces new buf got.Idle h = h
+Gives_after pieces new buf got.Failed h = h
 
 pub gives : (old new : List Piece) (before after : List ℕ) (result : Got) → Plays old new before after result → Gives old new after result
 gives [] new before after result h = rw (h.0, h.1) (refl, refl)
 gives (Idle ∷ pieces) new before after result h = rw (h.0, h.1) refl
 gives (Fault ∷ pieces) new before after result h = rw (h.0, h.1) refl
-gives (Bytes [] ∷ pieces) new before after result h = Gives_behind pieces new after result (gives pieces new before after result h)
+gives (Bytes [] ∷ pieces) new before after result h = Gives_after pieces new after result (gives pieces new before after result h)
 gives (Bytes (b ∷ bs) ∷ pieces) new before after result h = rw (h.0, h.1, h.2) (gives-bytes (b ∷ bs) pieces before (omega arith))

@@ -6,7 +6,7 @@ pub record MemClockView : Type 0 where
   pub given : List ℤ
   -- the readings that it has not given yet
   pub left : List ℤ
-  -- what it reads behind them
+  -- what it reads after them
   pub last : ℤ
 
 -- what it reads next

@@ -17,7 +17,7 @@ pub record MemLinkView : Type 0 where
   pub left : List Piece
   -- how its next writes go
   pub takings : List Taking
-  -- how often memory was wanting
+  -- how many writes were out of memory
   pub short : ℕ
 
 -- a link that has given and taken nothing
@@ -36,18 +36,18 @@ planned_fault [] = None
 planned_fault (All ∷ takings) = None
 planned_fault (Front n ∷ takings) = Some n
 
--- behind a write that took these bytes
+-- after a write that took these bytes
 abbrev pub after_write : MemLinkView → List ℕ → MemLinkView
 after_write old bytes = record old { shown = record old.shown { taken = told old.shown.taken bytes }; takings = drop 1 old.takings }
 
--- behind a write that took these bytes and failed
+-- after a write that took these bytes and failed
 abbrev pub after_fault : MemLinkView → List ℕ → MemLinkView
 after_fault old bytes = record old {
   shown = record old.shown { taken = told old.shown.taken bytes; write_faults = counted old.shown.write_faults 1 };
   takings = drop 1 old.takings;
 }
 
--- behind a write that wanted memory
+-- after a write that was out of memory
 abbrev pub after_short : MemLinkView → MemLinkView
 after_short old = record old {
   shown = record old.shown { write_faults = counted old.shown.write_faults 1 };
@@ -55,7 +55,7 @@ after_short old = record old {
   short = counted old.short 1;
 }
 
--- a write fails where it is to fail, or where memory is wanting, and nowhere else
+-- a write fails where it is to fail, or where it is out of memory, and nowhere else
 abbrev pub Takes : {T : Type 0} → MemLinkView → MemLinkView → List ℕ → Result T LinkFault → Type 0
 Takes old new bytes (Ok _) = (planned_fault old.takings ≡ None) × (new ≡ after_write old bytes)
 Takes old new bytes (Err _) = ((n : ℕ) × (planned_fault old.takings ≡ Some n) × (new ≡ after_fault old (take n bytes))) ⊎ (new ≡ after_short old)

@@ -16,9 +16,9 @@ pub record MemDiskView : Type 0 where
   pub past : List (List Numbered)
   -- how its next calls go
   pub callings : List Calling
-  -- how many calls are left before it stops
+  -- after how many more calls it goes down
   pub left : Option ℕ
-  -- how often memory was wanting
+  -- how many calls were out of memory
   pub short : ℕ
 
 -- what it shows: all
@@ -43,7 +43,7 @@ abbrev pub fewer : Option ℕ → Option ℕ
 fewer (Some n) = Some (n - 1)
 fewer None = None
 
--- a call succeeds only where it is to, and fails only where it is to or where memory is wanting
+-- a call succeeds only where it is to, and fails only where it is to or where it is out of memory
 abbrev pub Goes : {T : Type 0} → MemDiskView → MemDiskView → Result T DiskFault → Type 0
 Goes old new (Ok _) = (next_calling old.left old.callings ≡ Succeeds) × (new.short ≡ old.short)
 Goes old new (Err _) = ((next_calling old.left old.callings ≢ Succeeds) × (new.short ≡ old.short)) ⊎ (new.short ≡ counted old.short 1)
@@ -53,11 +53,11 @@ abbrev pub GoesFreely : {T : Type 0} → MemDiskView → MemDiskView → Result 
 GoesFreely old new (Ok _) = (next_calling old.left old.callings ≡ Succeeds) × (new.short ≡ old.short)
 GoesFreely old new (Err _) = (next_calling old.left old.callings ≢ Succeeds) × (new.short ≡ old.short)
 
--- the script is read on by one call
+-- one call of the script is used up
 pub record PlaysOn (old new : MemDiskView) : Type 0 where
   pub callings : new.callings ≡ drop 1 old.callings
   pub left : new.left ≡ fewer old.left
 
--- each file holds, all of it kept, what a stop leaves of it
+-- each file holds, all of it durable, what a crash leaves of it
 abbrev pub AreLeft : Leaving → (ℕ → FileState) → (ℕ → FileState) → Type 0
 AreLeft leaving old new = (number : ℕ) → (image : List ℕ) × IsLeft leaving (old number) image × (new number ≡ kept_file image)

@@ -15,18 +15,18 @@ pub record ChangesFile (old new : ℕ → FileState) (number : ℕ) (file : File
   pub changed : new number ≡ file
   pub others : (k : ℕ) → k ≢ number → new k ≡ old k
 
--- no entry before this place has the number
+-- no entry before this index has the number
 abbrev pub IsAbsentBefore : List Numbered → ℕ → ℕ → Type 0
 IsAbsentBefore entries number i = (k : ℕ) (d : Numbered) → k < i → k < length entries → (get_or entries k d).number ≢ number
 
--- the first entry of this number stands at this place
+-- the first entry of this number has this index
 abbrev pub IsFirst : List Numbered → ℕ → ℕ → Type 0
 IsFirst entries number i = IsAbsentBefore entries number i × ((d : Numbered) → (get_or entries i d).number ≡ number)
 
 abbrev pub IsAbsent : List Numbered → ℕ → Type 0
 IsAbsent entries number = IsAbsentBefore entries number (length entries)
 
--- a place lies in one of these ranges
+-- an offset lies in one of these ranges
 abbrev pub IsInside : ℕ → List (ℕ × ℕ) → Type 0
 IsInside k [] = ⊥
 IsInside k (range ∷ ranges) = ((range.0 ≤ k) × (k < range.0 + range.1)) ⊎ IsInside k ranges
@@ -37,13 +37,13 @@ pub record IsTornBy (byte : ℕ) (file : FileState) (image : List ℕ) : Type 0 
   pub others : (k : ℕ) → IsOutside k file.unsynced → slice_index image k ≡ slice_index file.bytes k
   pub torn : (k : ℕ) → k < length image → IsInside k file.unsynced → slice_index image k ≡ byte
 
--- what a stop leaves of a file, as it was chosen
+-- what a crash leaves of a file, as it was chosen
 abbrev pub IsChosen : Leaving → FileState → List ℕ → Type 0
 IsChosen Whole file image = image ≡ file.bytes
 IsChosen (Torn byte) file image = IsTornBy byte file image
 IsChosen Shortest file image = image ≡ take file.least file.bytes
 
--- what a stop leaves of a file is one of its images, and the one that was chosen
+-- what a crash leaves of a file is one of its images, and the one that was chosen
 pub record IsLeft (leaving : Leaving) (file : FileState) (left : List ℕ) : Type 0 where
   pub image : IsImage file left
   pub chosen : IsChosen leaving file left

@@ -5,21 +5,21 @@ use Rattle.outside_api.specs.declared.link.Got.TheVariants as got
 use Rattle.outside_mem.specs.declared.input.Piece.{Piece}
 use Rattle.outside_mem.specs.declared.input.Piece.TheVariants.{Bytes, Idle, Fault}
 
--- the pieces, of the first only what stands from this place on
+-- the pieces, of the first only what is at this offset or after it
 abbrev pub from_within : ℕ → List Piece → List Piece
 from_within at [] = []
 from_within at (Bytes bytes ∷ pieces) = Bytes (drop at bytes) ∷ pieces
 from_within at (Idle ∷ pieces) = Idle ∷ pieces
 from_within at (Fault ∷ pieces) = Fault ∷ pieces
 
--- the place lies in the first piece
+-- the offset lies in the first piece
 abbrev pub IsWithin : ℕ → List Piece → Type 0
 IsWithin at [] = Unit {0}
 IsWithin at (Bytes bytes ∷ pieces) = at ≤ length bytes
 IsWithin at (Idle ∷ pieces) = Unit {0}
 IsWithin at (Fault ∷ pieces) = Unit {0}
 
--- all bytes of the pieces, in their order
+-- all bytes of the pieces, in order
 abbrev pub bytes_of : List Piece → List ℕ
 bytes_of [] = []
 bytes_of (Bytes bytes ∷ pieces) = bytes ++ bytes_of pieces
@@ -36,7 +36,7 @@ abbrev pub unspent : List Piece → List Piece
 unspent (Bytes [] ∷ pieces) = unspent pieces
 unspent pieces = pieces
 
--- what a read gives of the pieces that are left, what it leaves of them, and the buffer before and behind it
+-- what a read gives of the pieces that are left, what it leaves of them, and the buffer before and after it
 abbrev pub Plays : List Piece → List Piece → List ℕ → List ℕ → Got → Type 0
 Plays [] new before after result = (result ≡ got.End) × (new ≡ []) × (after ≡ before)
 Plays (Idle ∷ pieces) new before after result = (result ≡ got.Idle) × (new ≡ pieces) × (after ≡ before)

@@ -1,4 +1,4 @@
-// How a call of a disk is to go.
+//! How a call of a disk in memory goes, and what a crash leaves of its files.
 
 /// How a call of a disk in memory goes.
 #[derive(Clone, Copy, Debug, PartialEq, Eq)]
@@ -7,17 +7,17 @@ pub enum Calling {
     Succeeds,
     /// It fails, and changes nothing.
     FailsUndone,
-    /// It fails, though what it was to write or cut is written or cut.
+    /// It fails, although what it was to write or truncate is written or truncated.
     FailsDone,
 }
 
-/// Which image a stop leaves of each file.
+/// Which image a crash leaves of each file.
 #[derive(Clone, Copy, Debug, PartialEq, Eq)]
 pub enum Leaving {
     /// What reads give.
     Whole,
     /// What reads give, with this byte throughout the ranges that were written since the last sync.
     Torn(u8),
-    /// The front of what reads give, of the least size that the file had since the last sync.
+    /// A prefix of what reads give, of the least size that the file had since the last sync.
     Shortest,
 }

@@ -1,3 +1,4 @@
+//! A clock in memory, with a list of readings.
 ghost use Rattle.std.specs.Prelude.{◌≡◌, ◌<◌, ◌-◌, [], length, slice_get, Some, ◌∷◌};
 
 use crate::history::History;
@@ -9,11 +10,14 @@ use std::marker::Model;
 /// The readings of a clock, each in nanoseconds since 2000.01.01.
 pub type Moments = Sequence<i64>;
 
-/// A clock in memory, whose readings are stated; the last one is repeated. It tells all that it read.
+/// A clock in memory: its readings are given to it, and the last one is repeated. It reports all its readings.
 #[derive(Drop)]
 pub struct MemClock {
+    // The readings that it has not given yet.
     readings: Tape<i64>,
+    // What it gives once they are used up.
     last: i64,
+    // The readings that it has given; a ghost.
     given: History<i64>,
 }
 
@@ -35,7 +39,7 @@ impl MemClock {
     {
         let last = *readings.at(readings.len() - 1);
         MemClock {
-            readings: Tape::of(readings),
+            readings: Tape::new(readings),
             last,
             given: History::new(),
         }

@@ -1,4 +1,4 @@
-// The files of a disk in memory, by their numbers.
+//! The files of a disk in memory, by their numbers.
 ghost use Rattle.std.specs.Prelude.{◌≡◌, ◌≢◌, ◌<◌, ◌≤◌, ◌+◌, ◌^◌, ℕ, length, take, drop, slice_get, Some, IfOk, IfSome, IfNone, OnOk, OnErr, List};
 ghost use Rattle.outside_api.specs.Disk.{FileState, put, written, cut_to, kept_file, empty_file};
 ghost use Rattle.outside_mem.specs.MemFile.{file_in, ChangesFile, IsFirst, IsAbsent};
@@ -9,15 +9,19 @@ use q_values::NoMemory;
 use std::alloc::Global;
 use std::marker::Model;
 
+/// A file and its number.
 #[derive(Drop)]
 pub struct Numbered {
+    /// The file's number.
     pub number: u64,
+    /// The file.
     pub file: MemFile,
 }
 
-// Each call goes over the numbers of the files that are there.
+/// Numbered files. Each call searches the list of those that were written, which is meant for a few files.
 #[derive(Drop)]
 pub struct Files {
+    // The files that were written, in no order; of two with one number the first counts.
     entries: Vec<Numbered>,
 }
 
@@ -30,7 +34,7 @@ impl Model for Files {
     ghost view = { λ f. f.entries.items };
 }
 
-// Where the file of this number stands.
+// The index of the file of this number.
 fn place_of(entries: &[Numbered], number: u64) -> Option<usize>
     ensures within { IfSome result (λ i. i < length entries.now) }
     ensures found { IfSome result (λ i. IsFirst entries.now number i) }
@@ -48,6 +52,7 @@ impl Files {
     ghost use Rattle.std.specs.Prelude.{[]};
     ghost use Rattle.outside_mem.specs.MemDisk.{AreLeft};
 
+    /// No files, which takes no memory.
     pub fn new(alloc: Global) -> Files
         ensures { result ≡ [] }
     {
@@ -56,6 +61,7 @@ impl Files {
         }
     }
 
+    /// The bytes of a file as reads give them; none of one that was never written.
     pub fn bytes_of(&self, number: u64) -> &[u8]
         ensures bytes { result.now ≡ (file_in self.now number).bytes }
         ensures small { length result.now < 2 ^ 63 }
@@ -66,7 +72,7 @@ impl Files {
         }
     }
 
-    // A refused call changes no file.
+    /// Writes the bytes from the offset `at` on. A refused call changes no file.
     pub fn write(
         &mut self,
         alloc: Global,
@@ -84,7 +90,7 @@ impl Files {
         self.entries[i].file.write(at, bytes)
     }
 
-    // The place of the file of this number, which is made where it isn't there.
+    // The index of the file of this number, which is made where it is missing.
     fn entry(&mut self, alloc: Global, number: u64) -> Result<usize, NoMemory>
         ensures same { (k : ℕ) → file_in self.new k ≡ file_in self.old k }
         ensures within { IfOk result (λ i. i < length self.new) }
@@ -101,6 +107,7 @@ impl Files {
         Ok(i)
     }
 
+    /// Truncates a file to a size, in bytes.
     pub fn cut(&mut self, number: u64, size: u64)
         requires { size ≤ length (file_in self.old number).bytes }
         ensures { ChangesFile (file_in self.old) (file_in self.new) number (cut_to size (file_in self.old number)) }
@@ -110,6 +117,7 @@ impl Files {
         }
     }
 
+    /// Makes a file durable.
     pub fn sync(&mut self, number: u64)
         ensures { ChangesFile (file_in self.old) (file_in self.new) number (kept_file (file_in self.old number).bytes) }
     {
@@ -118,7 +126,7 @@ impl Files {
         }
     }
 
-    // The files as a stop leaves them, all of them kept.
+    /// The files as a crash leaves them, all of them durable.
     pub fn images(&self, alloc: Global, leaving: Leaving) -> Result<Files, NoMemory>
         ensures { IfOk result (λ f. AreLeft leaving (file_in self.now) (file_in f)) }
     {
@@ -127,7 +135,7 @@ impl Files {
             let image = entry.file.image(alloc, leaving)?;
             entries.push(Numbered {
                 number: entry.number,
-                file: MemFile::of(alloc, image),
+                file: MemFile::from_vec(alloc, image),
             })?;
         }
         Ok(Files { entries })

@@ -1,3 +1,5 @@
+//! A gate that never pauses.
+
 use outside_api::{Gate, Point};
 
 /// A gate that never pauses.

@@ -1,4 +1,4 @@
-// The input of a link in memory: pieces in their order, and how far they were read.
+//! The input of a link in memory: a list of pieces, and how far they were read.
 ghost use Rattle.std.specs.Prelude.{◌≡◌, ◌<◌, ◌≤◌, ◌++◌, min, length, take, drop};
 ghost use Rattle.outside_mem.specs.Pieces.{is_spent, unspent};
 
@@ -6,21 +6,25 @@ use outside_api::Got;
 use q_values::{Sequence, Text};
 use std::marker::Model;
 
-/// A piece of what comes in.
+/// A piece of the input of a link.
 #[derive(Drop)]
 pub enum Piece {
-    /// Bytes, given in one read or more. A read gives bytes of one piece only; an empty piece is passed over.
+    /// Bytes, given by one or more reads. A read gives bytes of one piece only; an empty piece is skipped.
     Bytes(Text),
-    /// A read that finds nothing within the link's time.
+    /// A read that times out.
     Idle,
     /// A read that fails.
     Fault,
 }
 
+/// Pieces, and how far they were read.
 #[derive(Drop)]
 pub struct Input {
+    // All pieces, in order.
     pieces: Sequence<Piece>,
+    // The index of the piece that is read next; their number where all were read.
     next: usize,
+    // How many bytes of that piece were read, at most its length; 0 of a piece without bytes.
     at: usize,
 }
 
@@ -41,7 +45,8 @@ impl Model for Input {
 impl Input {
     ghost use Rattle.outside_mem.specs.Pieces.{Plays, Gives};
 
-    pub fn of(pieces: Sequence<Piece>) -> Input
+    /// An input of these pieces, of which nothing was read.
+    pub fn new(pieces: Sequence<Piece>) -> Input
         ensures { result ≡ pieces }
     {
         Input {
@@ -51,7 +56,7 @@ impl Input {
         }
     }
 
-    // Reads on into the front of the buffer.
+    /// Reads on, into the front of the buffer.
     pub fn read(&mut self, buf: &mut [u8]) -> Got
         ensures plays { Plays self.old self.new buf.old buf.new result }
         ensures gives { Gives self.old self.new buf.new result }
@@ -73,7 +78,7 @@ impl Input {
         got
     }
 
-    // Passes over pieces of which nothing is left.
+    // Skips pieces of which nothing is left.
     fn settle(&mut self)
         ensures { self.new ≡ unspent self.old }
     {
@@ -111,7 +116,7 @@ fn rest_of(bytes: &[u8], at: usize) -> &[u8]
     &bytes[at..]
 }
 
-// Copies as much as the buffer has room for into its front.
+// Copies into the front of the buffer as many bytes as it has room for, and gives their number.
 fn copy_front(from: &[u8], buf: &mut [u8]) -> usize
     ensures count { result ≡ min (length from.now) (length buf.old) }
     ensures copied { buf.new ≡ take result from.now ++ drop result buf.old }

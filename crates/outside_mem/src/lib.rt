@@ -1,4 +1,21 @@
-//! Devices in memory, which tell everything: what comes in is stated beforehand, and what goes out is kept.
+//! Devices in memory, for tests and for proofs about whole runs: what comes in is given to them beforehand, what goes out
+//! is kept, and all of it is reported, so that contracts over `outside_api` say everything of it.
+//!
+//! [`MemLink`] reads a script of pieces, timeouts and faults, and keeps what it was written. [`MemDisk`] has numbered
+//! files; its calls fail where that is planned, and [`MemDisk::restart`] is the disk as a crash leaves it. Beside them
+//! [`MemClock`], [`SteadyClock`], [`MemRecorder`], [`MemOutside`] and [`NoGate`].
+//!
+//! ```text
+//! let mut disk = MemDisk::new(alloc);
+//! disk.write_at(0, 0, b"abc")?;
+//! disk.restart(alloc, Leaving::Shortest)?.bytes_of(0)   // empty: nothing was synced
+//! disk.sync(0)?;
+//! disk.restart(alloc, Leaving::Torn(0))?.bytes_of(0)    // abc, whatever the crash leaves
+//! ```
+//!
+//! A device keeps no history as data: its past is a ghost that only contracts see. A call that is out of memory is a
+//! fault like others, and is counted apart as `short`. The files of a disk are found by a search through a list, which is
+//! meant for a few files.
 #![tactic(auto)]
 
 mod calling;
@@ -26,6 +43,3 @@ pub use outside::{Handed, MemOutside};
 pub use recorder::MemRecorder;
 pub use steady::SteadyClock;
 pub use taking::Taking;
-
-#[cfg(test)]
-mod tests;

@@ -1,3 +1,4 @@
+//! A link in memory.
 ghost use Rattle.std.specs.Prelude.{◌≡◌, [], ◌∷◌, IsTrue, ◌↔◌, IfOk};
 
 use crate::history::History;
@@ -10,24 +11,34 @@ use std::alloc::Global;
 use std::marker::Model;
 use std::snapshot::Snapshot;
 
-/// The pieces of a link's input, in their order.
+/// The pieces of a link's input, in order.
 pub type Pieces = Sequence<Piece>;
 
-/// How the writes of a link go, in their order; those behind the last take all bytes.
+/// How the writes of a link go, in order; those after the last take all bytes.
 pub type Takings = Sequence<Taking>;
 
-/// A link in memory: its input stands in a script, and what it takes is kept. It tells all.
+/// A link in memory: its input is a script of pieces, and what its writes took is kept. It reports all of it.
 #[derive(Drop)]
 pub struct MemLink {
+    // The whole input, which only contracts see.
     script: Snapshot<Pieces>,
+    // What is left of it.
     input: Input,
+    // The bytes that reads gave, which only contracts see: with what is left, they are the whole input.
     given: History<u8>,
+    // How the next writes go.
     takings: Tape<Taking>,
+    // The bytes that writes took.
     taken: Vec<u8>,
+    // Whether a read has given the end; then nothing is left.
     ended: bool,
+    // How many reads failed.
     read_faults: u64,
+    // How many writes failed, those that were out of memory among them.
     write_faults: u64,
+    // How many reads timed out.
     idles: u64,
+    // How many writes were out of memory.
     short: u64,
 }
 
@@ -63,8 +74,8 @@ impl MemLink {
     ghost use Rattle.outside_mem.specs.Link.{new_link};
     ghost use Rattle.outside_mem.specs.Pieces.{bytes_of};
 
-    /// A link whose input is these bytes in one piece, with no idle and no fault.
-    pub fn of(alloc: Global, input: &[u8]) -> Result<MemLink, NoMemory>
+    /// A link whose input is these bytes in one piece, without timeouts and faults.
+    pub fn from_bytes(alloc: Global, input: &[u8]) -> Result<MemLink, NoMemory>
         ensures link { IfOk result (λ l. l ≡ new_link (Piece.Bytes input.now ∷ []) []) }
         ensures fresh { IfOk result (λ l. IsFresh l.shown) }
         ensures input { IfOk result (λ l. l.input ≡ input.now) }
@@ -74,16 +85,16 @@ impl MemLink {
         Ok(MemLink::script(alloc, pieces, Sequence::new(alloc)))
     }
 
-    /// A link whose input comes in these pieces, and whose writes go so.
+    /// A link whose input comes in these pieces, and whose writes go as these.
     pub fn script(alloc: Global, pieces: Pieces, takings: Takings) -> MemLink
         ensures link { result ≡ new_link pieces takings }
         ensures fresh { IsFresh result.shown }
     {
         MemLink {
             script: Snapshot::of(&pieces),
-            input: Input::of(pieces),
+            input: Input::new(pieces),
             given: History::new(),
-            takings: Tape::of(takings),
+            takings: Tape::new(takings),
             taken: Vec::new(alloc),
             ended: false,
             read_faults: 0,
@@ -93,8 +104,8 @@ impl MemLink {
         }
     }
 
-    /// Whether its input has ended. What it gave stands at the front of its input, and the pieces that are left hold
-    /// the rest; behind the end it has given all.
+    /// Whether its input has ended. What it gave is a prefix of its input, and the pieces that are left hold the rest;
+    /// at the end it has given all of it.
     pub fn is_ended(&self) -> bool
         ensures ended { result ≡ self.now.shown.ended }
         ensures parts { (given : _) → self.now.shown.given ≡ Some given → given ++ bytes_of self.now.left ≡ self.now.input }
@@ -111,7 +122,7 @@ impl MemLink {
         self.taken.as_slice()
     }
 
-    /// How often memory was wanting in a write.
+    /// How many writes were out of memory.
     pub fn short(&self) -> u64
         ensures { result ≡ self.now.short }
     {

@@ -13,24 +13,31 @@ use q_values::{NoMemory, Sequence};
 use std::alloc::Global;
 use std::marker::Model;
 
-/// How the calls of a disk go, in their order; those behind the last succeed.
+/// How the calls of a disk go, in order; those after the last succeed.
 pub type Callings = Sequence<Calling>;
 
+// No file reaches this number of bytes.
 const SIZE_LIMIT: u64 = 1 << 63;
 
-/// A disk in memory, which tells all: its files, and what a stop at each moment may leave of them. The moments that have
-/// passed take no memory.
+/// A disk in memory. It reports its files at each moment, and so what a crash at each moment may leave of them; the
+/// moments that have passed take no memory.
 ///
-/// Its calls may be planned to fail, and it may stop: from then on each call fails. Want of memory counts as a fault, and
-/// is counted apart too.
+/// Its calls may be planned to fail, and it may go down: from then on each call fails. A call that is out of memory
+/// counts as a fault, and is counted apart too.
 #[derive(Drop)]
 pub struct MemDisk {
     alloc: Global,
+    // The files now.
     files: Files,
+    // The files at each moment before, which only contracts see.
     past: History<Files>,
+    // How the next calls go.
     callings: Tape<Calling>,
+    // After how many more calls each call fails, if that is planned.
     left: Option<u64>,
+    // How many calls failed.
     faults: u64,
+    // How many calls were out of memory.
     short: u64,
 }
 
@@ -53,23 +60,23 @@ impl MemDisk {
             alloc,
             files: Files::new(alloc),
             past: History::new(),
-            callings: Tape::of(Sequence::new(alloc)),
+            callings: Tape::new(Sequence::new(alloc)),
             left: None,
             faults: 0,
             short: 0,
         }
     }
 
-    /// Plans the next calls: they go so, in their order, and behind so many calls the disk stops.
+    /// Plans the next calls: they go as these, in order, and after `left` calls the disk goes down.
     pub fn plan(&mut self, callings: Callings, left: Option<u64>)
         ensures { self.new ≡ record self.old { callings = callings; left = left } }
     {
-        self.callings = Tape::of(callings);
+        self.callings = Tape::new(callings);
         self.left = left;
     }
 
-    /// The disk as a stop at this moment leaves it, and as a restart finds it: of each file the image that is chosen, all
-    /// of it kept.
+    /// The disk as a crash at this moment leaves it, and as a restart finds it: of each file the image that is chosen,
+    /// all of it durable.
     pub fn restart(&self, alloc: Global, leaving: Leaving) -> Result<MemDisk, NoMemory>
         ensures left { IfOk result (λ d. AreLeft leaving (file_in self.now.files) (file_in d.files)) }
         ensures fresh { IfOk result (λ d. d ≡ record (new_disk [] None) { files = d.files }) }
@@ -78,7 +85,7 @@ impl MemDisk {
             alloc,
             files: self.files.images(alloc, leaving)?,
             past: History::new(),
-            callings: Tape::of(Sequence::new(alloc)),
+            callings: Tape::new(Sequence::new(alloc)),
             left: None,
             faults: 0,
             short: 0,
@@ -92,14 +99,14 @@ impl MemDisk {
         self.files.bytes_of(file)
     }
 
-    /// How often a call failed.
+    /// How many calls failed.
     pub fn faults(&self) -> u64
         ensures { result ≡ self.now.faults }
     {
         self.faults
     }
 
-    /// How often memory was wanting.
+    /// How many calls were out of memory.
     pub fn short(&self) -> u64
         ensures { result ≡ self.now.short }
     {
@@ -113,7 +120,7 @@ impl MemDisk {
         DiskFault
     }
 
-    // A fault for want of memory.
+    // A fault of a call that is out of memory.
     fn short_fault(&mut self) -> DiskFault
         ensures { self.new ≡ record self.old { faults = counted self.old.faults 1; short = counted self.old.short 1 } }
     {

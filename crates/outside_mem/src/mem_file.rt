@@ -1,4 +1,4 @@
-// A file in memory.
+//! A file in memory, and what a crash may leave of it.
 ghost use Rattle.std.specs.Prelude.{◌≡◌, ◌⊎◌, ◌<◌, ◌≤◌, ◌+◌, ◌^◌, ℕ, length, take, drop, slice_index, IfOk, OnOk, OnErr, [], ◌∷◌};
 ghost use Rattle.std.specs.List.{AllByRecursion};
 ghost use Rattle.outside_api.specs.Disk.{put, IsOutside};
@@ -9,11 +9,16 @@ use q_values::NoMemory;
 use std::alloc::Global;
 use std::marker::Model;
 
+/// A file in memory: its bytes, and what was written since its last sync.
 #[derive(Drop)]
 pub struct MemFile {
+    // The bytes as reads give them.
     bytes: Vec<u8>,
+    // What was written since the last sync: pairs of an offset and a number of bytes, each ending below 2^63.
     unsynced: Vec<(u64, u64)>,
+    // The least size since the last sync, at most the number of bytes.
     least: u64,
+    // The greatest size since the last sync, at least the number of bytes and below 2^63.
     greatest: u64,
 }
 
@@ -34,6 +39,7 @@ impl MemFile {
     ghost use Rattle.outside_api.specs.Disk.{FileState, empty_file, kept_file, written, cut_to};
     ghost use Rattle.outside_mem.specs.MemFile.{IsLeft};
 
+    /// A file that was never written; it takes no memory.
     pub fn new(alloc: Global) -> MemFile
         ensures { result ≡ empty_file }
     {
@@ -45,8 +51,8 @@ impl MemFile {
         }
     }
 
-    // A file that holds these bytes, all of them kept.
-    pub fn of(alloc: Global, bytes: Vec<u8>) -> MemFile
+    /// A file that holds these bytes, all of them durable.
+    pub fn from_vec(alloc: Global, bytes: Vec<u8>) -> MemFile
         requires { length bytes.items < 2 ^ 63 }
         ensures { result ≡ kept_file bytes.items }
     {
@@ -59,6 +65,7 @@ impl MemFile {
         }
     }
 
+    /// The bytes as reads give them.
     pub fn bytes(&self) -> &[u8]
         ensures bytes { result.now ≡ self.now.bytes }
         ensures small { length result.now < 2 ^ 63 }
@@ -66,7 +73,7 @@ impl MemFile {
         self.bytes.as_slice()
     }
 
-    // A refused call changes nothing.
+    /// Writes the bytes from the offset `at` on. A refused call changes nothing.
     pub fn write(&mut self, at: u64, bytes: &[u8]) -> Result<(), NoMemory>
         requires within { at ≤ length self.old.bytes }
         requires small { at + length bytes.now < 2 ^ 63 }
@@ -81,6 +88,7 @@ impl MemFile {
         Ok(())
     }
 
+    /// Truncates it to a size, in bytes.
     pub fn cut(&mut self, size: u64)
         requires { size ≤ length self.old.bytes }
         ensures { self.new ≡ cut_to size self.old }
@@ -89,6 +97,7 @@ impl MemFile {
         self.least = self.least.min(size);
     }
 
+    /// Makes it durable.
     pub fn sync(&mut self)
         ensures { self.new ≡ kept_file self.old.bytes }
     {
@@ -98,7 +107,7 @@ impl MemFile {
         self.greatest = size;
     }
 
-    // What a stop leaves of it.
+    /// What a crash leaves of it, as chosen.
     pub fn image(&self, alloc: Global, leaving: Leaving) -> Result<Vec<u8>, NoMemory>
         ensures left { IfOk result (λ v. IsLeft leaving self.now v.items) }
         ensures small { IfOk result (λ v. length v.items < 2 ^ 63) }
@@ -118,7 +127,7 @@ impl MemFile {
     }
 }
 
-// Puts bytes at a place, over what is there and past the end. A refused call changes nothing.
+// Writes bytes from an offset on, over what is there and past the end. A refused call changes nothing.
 fn write_over(old: &mut Vec<u8>, at: usize, bytes: &[u8]) -> Result<(), NoMemory>
     requires { at ≤ length old.old.items }
     ensures ok { OnOk result (old.new.items ≡ put old.old.items at bytes.now) }
@@ -139,7 +148,7 @@ fn put_at(buffer: &mut [u8], at: usize, bytes: &[u8])
     buffer[at..at + bytes.len()].copy_from_slice(bytes);
 }
 
-// Puts a byte throughout these ranges.
+// Fills these ranges with a byte.
 fn tear(bytes: &mut [u8], ranges: &[(u64, u64)], byte: u8)
     requires { AllByRecursion (λ range. range.0 + range.1 < 2 ^ 63) ranges.now }
     ensures length { length bytes.new ≡ length bytes.old }

@@ -1,3 +1,4 @@
+//! An outside in memory.
 ghost use Rattle.std.specs.Prelude.{◌≡◌, ◌++◌, [], ◌∷◌, Some, None, IfOk, IfSome, map, MatchResult};
 
 use crate::gate::NoGate;
@@ -12,20 +13,30 @@ use std::marker::Model;
 /// A link and a recorder that were handed back together.
 #[derive(Drop)]
 pub struct Handed {
+    /// The link, if there was one.
     pub link: Option<MemLink>,
+    /// The recorder, if there was one.
     pub recorder: Option<MemRecorder>,
 }
 
-/// An outside in memory: it gives one link and one recorder, made beforehand, and keeps what it is told. It tells all.
+/// An outside in memory: it gives one link and one recorder, made beforehand, and keeps the lines that were printed and
+/// what was handed back. It reports all of it.
 #[derive(Drop)]
 pub struct MemOutside {
     alloc: Global,
+    // The link that it has still to give, of which nothing was used.
     link: Option<MemLink>,
+    // The recorder that it has still to give, which has noted nothing.
     recorder: Option<MemRecorder>,
+    // How many devices could not be made.
     make_faults: u64,
+    // The lines printed, which only contracts see.
     warned: History<History<u8>>,
+    // The same lines, or none once it was out of memory for one.
     lines: Option<Vec<Text>>,
+    // What was handed back, which only contracts see.
     backs: History<Handed>,
+    // The same, or none once it was out of memory for one.
     handed: Option<Vec<Handed>>,
 }
 
@@ -76,21 +87,21 @@ impl MemOutside {
         }
     }
 
-    /// The lines warned of; none where memory was wanting for one.
+    /// The lines printed on standard error; none where it was out of memory for one.
     pub fn warned(&self) -> Option<&[Text]>
         ensures { IfSome result (λ lines. self.now.seen.warned ≡ Some lines.now) }
     {
         self.lines.as_ref().map(|lines| lines.as_slice())
     }
 
-    /// What was handed back; none where memory was wanting for one.
+    /// What was handed back; none where it was out of memory for one.
     pub fn backs(&self) -> Option<&[Handed]>
         ensures { IfSome result (λ handed. self.now.seen.backs ≡ Some (map back_of handed.now)) }
     {
         self.handed.as_ref().map(|handed| handed.as_slice())
     }
 
-    /// How often a device could not be made.
+    /// How many devices could not be made.
     pub fn make_faults(&self) -> u64
         ensures { result ≡ self.now.seen.make_faults }
     {
@@ -170,7 +181,7 @@ impl Outside for MemOutside {
     }
 }
 
-// The lines with one more at their end; none where memory is wanting.
+// The lines and one more; none where out of memory.
 fn with_line(alloc: Global, mut lines: Vec<Text>, line: &[u8]) -> Option<Vec<Text>>
     ensures { IfSome result (λ all. all.items ≡ lines.items ++ line.now ∷ []) }
 {
@@ -179,7 +190,7 @@ fn with_line(alloc: Global, mut lines: Vec<Text>, line: &[u8]) -> Option<Vec<Tex
     Some(lines)
 }
 
-// What was handed back with one more at its end; none where memory is wanting.
+// What was handed back and one more; none where out of memory.
 fn with_handed(mut all: Vec<Handed>, handed: Handed) -> Option<Vec<Handed>>
     ensures { IfSome result (λ new. new.items ≡ all.items ++ handed ∷ []) }
 {

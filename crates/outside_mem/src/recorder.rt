@@ -1,3 +1,4 @@
+//! A recorder in memory.
 ghost use Rattle.std.specs.Prelude.{◌≡◌, ◌<◌, [], ◌∷◌, IfOk, false};
 
 use outside_api::Recorder;
@@ -5,11 +6,14 @@ use q_values::{NoMemory, Turn};
 use std::alloc::Global;
 use std::marker::Model;
 
-/// A recorder in memory with room for so many turns. It tells them until it gets one more.
+/// A recorder in memory with room for a number of turns. It reports them until it gets one more.
 #[derive(Drop)]
 pub struct MemRecorder {
+    // The turns noted, at most `room` of them.
     turns: Vec<Turn>,
+    // How many turns it has room for; the vector has that capacity.
     room: usize,
+    // Whether a turn was lost for lack of room.
     full: bool,
 }
 
@@ -27,7 +31,7 @@ impl Model for MemRecorder {
 impl MemRecorder {
     ghost use Rattle.outside_mem.specs.Recorder.{MemRecorderView, noted_by};
 
-    /// A recorder with room for so many turns, which has noted none.
+    /// A recorder with room for `room` turns, which has noted none.
     pub fn with_room(alloc: Global, room: usize) -> Result<MemRecorder, NoMemory>
         ensures { IfOk result (λ r. r ≡ record { kept = []; room = room; full = false }) }
     {
@@ -56,7 +60,7 @@ impl MemRecorder {
         self.turns.as_slice()
     }
 
-    /// Whether it lost a turn for want of room; from then on it tells nothing.
+    /// Whether it lost a turn for lack of room; from then on it reports nothing.
     pub fn is_full(&self) -> bool
         ensures { result ≡ self.now.full }
     {

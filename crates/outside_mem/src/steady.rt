@@ -1,13 +1,16 @@
+//! A clock that always reads one time.
 ghost use Rattle.std.specs.Prelude.{◌≡◌, [], ◌∷◌, All};
 
 use crate::history::History;
 use outside_api::Clock;
 use std::marker::Model;
 
-/// A clock that always reads one moment. It tells all its readings.
+/// A clock that always reads one time. It reports all its readings.
 #[derive(Drop)]
 pub struct SteadyClock {
+    // What it reads.
     moment: i64,
+    // Its readings, which only contracts see: each is that time.
     given: History<i64>,
 }
 
@@ -25,7 +28,7 @@ impl Model for SteadyClock {
 impl SteadyClock {
     ghost use Rattle.outside_mem.specs.Clock.{SteadyClockView};
 
-    /// A clock that reads this moment, in nanoseconds since 2000.01.01.
+    /// A clock that reads this, in nanoseconds since 2000.01.01.
     pub fn new(moment: i64) -> SteadyClock
         ensures { result ≡ record { moment = moment; given = [] } }
     {

@@ -1,10 +1,10 @@
-// How a write is to go.
+//! How a write of a link in memory goes.
 
 /// How a write of a link in memory goes.
 #[derive(Clone, Copy, Debug, PartialEq, Eq)]
 pub enum Taking {
     /// All bytes are taken.
     All,
-    /// So many bytes at the front are taken, and the write fails.
+    /// At most this number of bytes is taken, from the front, and the write fails.
     Front(usize),
 }

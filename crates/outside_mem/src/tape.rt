@@ -1,12 +1,15 @@
-// A list that is read from its front on, and kept.
+//! A list that is read once, from its front on.
 ghost use Rattle.std.specs.Prelude.{◌≡◌, drop, slice_get};
 
 use q_values::Sequence;
 use std::marker::Model;
 
+/// A list, and how far it was read.
 #[derive(Drop)]
 pub struct Tape<T> {
+    // All items.
     items: Sequence<T>,
+    // The index of the item that is read next; their number where all were read.
     next: usize,
 }
 
@@ -19,12 +22,14 @@ impl<T> Model for Tape<T> {
 }
 
 impl<T: Copy + Drop> Tape<T> {
-    pub fn of(items: Sequence<T>) -> Tape<T>
+    /// A list of which nothing was read.
+    pub fn new(items: Sequence<T>) -> Tape<T>
         ensures { result ≡ items }
     {
         Tape { items, next: 0 }
     }
 
+    /// The next item, if there is one.
     pub fn next(&mut self) -> Option<T>
         ensures first { result ≡ slice_get self.old 0 }
         ensures rest { self.new ≡ drop 1 self.old }

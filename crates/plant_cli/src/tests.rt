@@ -67,7 +67,7 @@ fn behind_greeting(alloc: Global, bytes: &[u8]) -> Result<Option<MemLink>, NoMem
 {
     let mut input = Vec::from_slice(alloc, GREETING)?;
     input.extend_from_slice(bytes)?;
-    Ok(Some(MemLink::of(alloc, &input)?))
+    Ok(Some(MemLink::from_bytes(alloc, &input)?))
 }
 
 // Whether the program, over a greeting and these bytes, ends so.

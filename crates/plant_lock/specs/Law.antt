@@ -70,7 +70,7 @@ module _ {E : Type 0} where
   abbrev pub spent : View E
   spent = record { seen = []; mine = []; drawn = false; number = 0; latest = 0; stage = Idle; before = []; told = [] }
 
-  -- its turn has come, and it sees the whole history, which has just the entries of its own that it made
+  -- its turn has come, and it sees the whole history, which has exactly those entries of its own number that it made
   abbrev pub turned : (E → ℕ) → View E → View E → Type 0
   turned by v w = (all : List E) × (w ≡ record v { seen = all; stage = Turns }) × IsPrefix v.seen all × (v.drawn ≡ true → own by v.number all ≡ v.mine)
 
@@ -108,7 +108,9 @@ module _ {S E : Type 0} where
   -- a number was drawn, which is above those that were known, and no entry has it or a greater one; or another seat drew it
   abbrev pub numbered : (E → ℕ) → At S → Sat S E → ℕ → Sat S E → Type 0
   numbered by st m found m' =
-      (found ≡ st.first → (m' ≡ (record m.0 { drawn = true; number = st.first; latest = st.first }, m.1)) × (m.0.latest < st.first) × All (λ e. by e < st.first) m.0.seen)
+      (found ≡ st.first →
+      (m' ≡ (record m.0 { drawn = true; number = st.first; latest = st.first }, m.1)) × (m.0.latest < st.first)
+      × All (λ e. by e < st.first) m.0.seen)
       × (found ≢ st.first → m' ≡ m)
 
   -- both former lists are beginnings of what is seen

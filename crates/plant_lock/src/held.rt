@@ -78,7 +78,8 @@ impl<'a, S: Chronicle> Held<'a, S> {
     pub fn give(self) -> PassOf<S>
         requires frame { S.frame self.state ≡ S.frame self.lock.made }
         requires history { IsExtendedBy S.by self.pass.number self.pass.seen (S.entries self.state) }
-        ensures pass { let t = self.entry in let mine = t.pass.mine ++ drop (length t.pass.seen) (S.entries t.state) in result ≡ record t.pass { seen = S.entries t.state; mine = mine } }
+        ensures pass { let t = self.entry in let mine = t.pass.mine ++ drop (length t.pass.seen) (S.entries t.state) in
+            result ≡ record t.pass { seen = S.entries t.state; mine = mine } }
         ensures own { own S.by result.number result.seen ≡ result.mine }
     {
         let Held {

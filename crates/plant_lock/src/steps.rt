@@ -141,7 +141,8 @@ fn put_state<S: Chronicle>(top: &Top<S>, seat: &mut Place<S>, state: S)
 // Serves the next ticket, and wakes those who sleep. They sleep on one word, and it isn't known who has that ticket.
 fn serve_next<S: Chronicle>(top: &Top<S>, sleepers: &AtomicU64, seat: &mut Place<S>)
     requires table { (seat.old.table_id ≡ top.now.table_id) × IsSized top.now.table_id }
-    requires holds { (x : S) × (seat.old.me.0.stage ≡ Holds) × (seat.old.me.1 ≡ (0, Some x) ∷ []) × (S.entries x ≡ seat.old.me.0.seen) × (S.frame x ≡ S.frame top.now.key.state.value) }
+    requires holds { (x : S) × (seat.old.me.0.stage ≡ Holds) × (seat.old.me.1 ≡ (0, Some x) ∷ [])
+        × (S.entries x ≡ seat.old.me.0.seen) × (S.frame x ≡ S.frame top.now.key.state.value) }
     ensures same { IsSameSeat seat.old seat.new }
     ensures served { seat.new.me ≡ (record seat.old.me.0 { stage = Idle }, []) }
 {
@@ -165,7 +166,8 @@ pub(crate) fn give_state<S: Chronicle>(
     requires frame { S.frame state ≡ S.frame top.now.key.state.value }
     requires history { IsExtendedBy S.by seat.old.me.0.number seat.old.me.0.seen (S.entries state) }
     ensures same { IsSameSeat seat.old seat.new }
-    ensures seen { let mine = seat.old.me.0.mine ++ drop (length seat.old.me.0.seen) (S.entries state) in seat.new.me ≡ (record seat.old.me.0 { seen = S.entries state; mine = mine; stage = Idle }, []) }
+    ensures seen { let mine = seat.old.me.0.mine ++ drop (length seat.old.me.0.seen) (S.entries state) in
+        seat.new.me ≡ (record seat.old.me.0 { seen = S.entries state; mine = mine; stage = Idle }, []) }
     ensures own { own S.by seat.old.me.0.number (S.entries state) ≡ seat.old.me.0.mine ++ drop (length seat.old.me.0.seen) (S.entries state) }
 {
     let added = state.length() - taken;
@@ -215,7 +217,11 @@ pub(crate) fn learn_seat<S: Chronicle>(top: &Top<S>, seat: &mut Place<S>, other:
     requires rests { seat.old.me ≡ (resting seat.old.me.0.number seat.old.me.0.latest seat.old.me.0.seen seat.old.me.0.mine, []) }
     requires notes { other.me ≡ (noting other.me.0.latest other.me.0.seen, []) }
     ensures same { IsSameSeat seat.old seat.new }
-    ensures learnt { seat.new.me ≡ (resting seat.old.me.0.number (max seat.old.me.0.latest other.me.0.latest) (longer seat.old.me.0.seen other.me.0.seen) seat.old.me.0.mine, []) }
+    ensures learnt { seat.new.me ≡ (
+      resting seat.old.me.0.number (max seat.old.me.0.latest other.me.0.latest)
+          (longer seat.old.me.0.seen other.me.0.seen) seat.old.me.0.mine,
+      [],
+    ) }
     ensures before { IsPrefix seat.old.me.0.seen (longer seat.old.me.0.seen other.me.0.seen) }
     ensures told { IsPrefix other.me.0.seen (longer seat.old.me.0.seen other.me.0.seen) }
     ensures own { own S.by seat.old.me.0.number (longer seat.old.me.0.seen other.me.0.seen) ≡ seat.old.me.0.mine }

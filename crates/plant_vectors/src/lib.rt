@@ -2,6 +2,8 @@
 #![tactic(auto)]
 
 #[cfg(test)]
+mod building;
+#[cfg(test)]
 mod bytes;
 #[cfg(test)]
 mod faults;
@@ -9,5 +11,7 @@ mod faults;
 mod sessions;
 #[cfg(test)]
 mod sitting;
+#[cfg(test)]
+mod sizes;
 #[cfg(test)]
 mod updates;

@@ -93,6 +93,40 @@ fn clock_of(alloc: Global, readings: &[i64]) -> Result<Option<MemClock>, NoMemor
     Ok(Some(MemClock::new(moments)))
 }
 
+/// What came of a session: its end, the link, and what was noted.
+#[derive(Drop)]
+pub struct Outcome {
+    /// How it ended.
+    pub end: End,
+    /// The link, with what was sent.
+    pub link: MemLink,
+    /// The recorder, with the turns.
+    pub recorder: MemRecorder,
+}
+
+/// A session whose input is these bytes, with these readings of the clock and room for many turns.
+pub fn sat<R: Wait>(
+    rt: &R,
+    alloc: Global,
+    readings: &[i64],
+    bytes: &[u8],
+) -> Result<Option<Outcome>, NoMemory> {
+    let Some(mut clock) = clock_of(alloc, readings)? else {
+        return Ok(None);
+    };
+    let mut link = MemLink::from_bytes(alloc, bytes)?;
+    let mut recorder = MemRecorder::with_room(alloc, 20_000)?;
+    let limits = Limits::standard();
+    match serve(rt, alloc, &limits, &mut clock, &mut link, &mut recorder)? {
+        Some(end) => Ok(Some(Outcome {
+            end,
+            link,
+            recorder,
+        })),
+        None => Ok(None),
+    }
+}
+
 /// Whether the session over this link and clock goes as it is to go.
 fn goes_by<R: Wait>(
     rt: &R,
@@ -150,7 +184,7 @@ pub fn bytes_go<R: Wait>(
 ) -> Result<bool, NoMemory>
     requires { AreLimits limits.now }
 {
-    let link = MemLink::of(alloc, bytes)?;
+    let link = MemLink::from_bytes(alloc, bytes)?;
     goes(rt, alloc, limits, &[NOW], link, wanted)
 }
 
@@ -172,7 +206,7 @@ pub fn messages_go_at<R: Wait>(
     wanted: Wanted,
 ) -> Result<bool, NoMemory> {
     let bytes = greeted(alloc, messages)?;
-    let link = MemLink::of(alloc, bytes.as_slice())?;
+    let link = MemLink::from_bytes(alloc, bytes.as_slice())?;
     goes(rt, alloc, &Limits::standard(), readings, link, wanted)
 }
 

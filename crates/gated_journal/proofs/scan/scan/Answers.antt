@@ -37,7 +37,7 @@ pub loop-at-preserved : goal.loop-at-preserved
 loop-at-preserved c =
     let i = c.loop-at.invariant in
     let m = c.in-Some.ensures in
-    let e = c.in_ok-push.ensures.items in
+    let e = c.in_ok-push_span.ensures in
     let bytes = c.args.bytes.now in
     let spans = c.loop-at.spans.items in
     let at = c.loop-at.at in

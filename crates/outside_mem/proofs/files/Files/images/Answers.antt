@@ -16,9 +16,9 @@ loop-entry-preserved c =
     let here : x ≡ get_or all i x = c.entry-item.is ∙ ap (λ (l : List Numbered). get_or l i x) same in
     let less : i < length all = omega (arith, c.loop-entry-test.true, ap length same) in
     let front : take (i + 1) all ≡ take i all ++ x ∷ [] = take_more all i x less ∙ ap (λ (e : Numbered). take i all ++ e ∷ []) (sym here) in
-    let step = left_push c.args.leaving (take i all) c.loop-entry.entries.items x (record { number = x.number; file = c.of.result }) c.in_ok-image.image.items c.loop-entry.invariant refl c.in_ok-image.ensures.left c.of.ensures in
+    let step = left_push c.args.leaving (take i all) c.loop-entry.entries.items x (record { number = x.number; file = c.from_vec.result }) c.in_ok-image.image.items c.loop-entry.invariant refl c.in_ok-image.ensures.left c.from_vec.ensures in
     subst (λ (l : List Numbered). AllLeft c.args.leaving (take (i + 1) all) l) (sym c.in_ok-push.ensures.items)
-    (subst (λ (l : List Numbered). AllLeft c.args.leaving l (c.loop-entry.entries.items ++ record { number = x.number; file = c.of.result } ∷ [])) (sym front) step)
+    (subst (λ (l : List Numbered). AllLeft c.args.leaving l (c.loop-entry.entries.items ++ record { number = x.number; file = c.from_vec.result } ∷ [])) (sym front) step)
 
 pub returns : goal.returns
 returns c =

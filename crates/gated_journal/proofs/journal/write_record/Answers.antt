@@ -1,6 +1,6 @@
 use Rattle.std.proofs.Common.{Bool, IsTrue, subst, sym}
 use Rattle.gated_journal.proofs.Halves.{shut_one, shut_two}
-use Rattle.gated_journal.proofs.journal.write_behind.Goals as goal
+use Rattle.gated_journal.proofs.journal.write_record.Goals as goal
 
 pub returns-in_err-write_at-clause-shut : goal.returns-in_err-write_at-clause-shut
 returns-in_err-write_at-clause-shut g c tells front sized s =

@@ -1,8 +1,9 @@
-use crate::{
+//! Each device used through its trait.
+use outside_api::{Clock, Gate, Got, Link, LinkFault, MakeFault, Outside, Point, Recorder};
+use outside_mem::{
     Handed, MemClock, MemLink, MemOutside, MemRecorder, Moments, NoGate, Piece, Pieces,
     SteadyClock, Taking, Takings,
 };
-use outside_api::{Clock, Gate, Got, Link, LinkFault, MakeFault, Outside, Point, Recorder};
 use q_values::{NoMemory, Text, Turn};
 use std::alloc::Global;
 use std::test::Fail;
@@ -148,7 +149,7 @@ fn is_kept(outside: &MemOutside) -> bool {
 }
 
 fn outside_of(alloc: Global) -> Result<MemOutside, NoMemory> {
-    let link = MemLink::of(alloc, b"")?;
+    let link = MemLink::from_bytes(alloc, b"")?;
     let recorder = MemRecorder::with_room(alloc, 4)?;
     Ok(MemOutside::new(alloc, Some(link), recorder))
 }
