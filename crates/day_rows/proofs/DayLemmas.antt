@@ -54,7 +54,7 @@ day-pushed opened entry spare less pushed day room next size =
       record { updates = own.1; bounded = omega (arith, whole, grown, room.bounded); enough = omega (arith, shorter, room.enough, size); counted = omega (arith, shorter, room.counted) },
     )
 
--- the rows at the places of their symbols' order are those of the ended day
+-- the rows, taken in the order of their symbols, are those of the ended day
 pub gathered-arrived : (day : Day) (t : ℕ) (places : List ℕ) → IsDay day → IsOrder atom_cmp (map symbol_of (arrived day t)) places → gathered (arrived day t) places ≡ settled day t
 gathered-arrived day t places is h =
     let same : arrived day t ≡ numbered day.date 0 (lines_of_day day t) = arrived-numbered day t is.updates in
@@ -112,7 +112,7 @@ bounded-arrived day t is =
     let below = sum_by-le-sum_by (rows_in t) entry_rows day.updates (rows_in-le t) in
     omega (arith, length-arrived day t is.updates, below, is.bounded)
 
--- a table that is read among those of the day
+-- a table that is one of the day's
 pub kept-settled : (day : Day) (tables : List SettledTable) (t : ℕ) (kept : SettledTable) → AreSettled day tables → t < length day.kinds → kept ≡ get_or tables t kept → IsSettled day t kept.columns kept.arrivals
 kept-settled day tables t kept all t_in is = all.each t kept (slice_get_read tables (length tables) t kept refl (omega (arith, t_in, all.count)) is)
 
@@ -121,7 +121,7 @@ column-kept day t c kind columns arrivals kept has =
     let here : 0 + c ≡ c = omega arith in
     rw (kept.columns_are has.0 has.1) (subst (λ n. slice_get (columns_from 0 has.0 (settled day t)) c ≡ Some (column_of kind n (settled day t))) here (slice_get-columns_from 0 has.0 c kind (settled day t) has.2))
 
--- what holds of each element and its place, with one element more
+-- what holds of each element and its index, with one more element
 pub each-push : {X : Type 0} (P : ℕ → X → Type 0) (xs : List X) (x : X) → ((t : ℕ) (y : X) → slice_get xs t ≡ Some y → P t y) → P (length xs) x → (t : ℕ) (y : X) → slice_get (xs ++ x ∷ []) t ≡ Some y → P t y
 each-push P [] x h new zero y is = let same : x ≡ y = cc in subst (P 0) same new
 each-push P [] x h new (suc t) y is = cc

@@ -19,27 +19,27 @@ drop-append (suc n) [] ys = let same : suc n - 0 ≡ suc n = omega arith in rw s
 drop-append zero (x ∷ xs) ys = let e : 0 - length (x ∷ xs) ≡ 0 = omega arith in rw e refl
 drop-append (suc n) (x ∷ xs) ys = let e : suc n - suc (length xs) ≡ n - length xs = omega arith in rw e (drop-append n xs ys)
 
--- a part of two lists, one after the other
+-- a part of two lists that are joined
 pub part-append : {X : Type 0} (n from : ℕ) (xs ys : List X) → take n (drop from (xs ++ ys)) ≡ take n (drop from xs) ++ take (n - length (take n (drop from xs))) (drop (from - length xs) ys)
 part-append n from xs ys =
     let size : n - length (drop from xs) ≡ n - length (take n (drop from xs)) = omega (arith, length-take n (drop from xs)) in
     ap (take n) (drop-append from xs ys) ∙ take-append n (drop from xs) (drop (from - length xs) ys) ∙ ap (λ k. take n (drop from xs) ++ take k (drop (from - length xs) ys)) size
 
--- a join of one list more
+-- a join with one more list
 pub flat_map_more : {X Y : Type 0} (f : X → List Y) (xs : List X) (n : ℕ) (x : X) → n < length xs → x ≡ get_or xs n x → flat_map f (take (n + 1) xs) ≡ flat_map f (take n xs) ++ f x
 flat_map_more f xs n x n_in x_is =
     ap (flat_map f) (take_more xs n x n_in) ∙ ap (λ y. flat_map f (take n xs ++ y ∷ [])) (sym x_is) ∙ flat_map-append f (take n xs) (x ∷ []) ∙ ap (λ l. flat_map f (take n xs) ++ l) (append-nil (f x))
 
--- all of a list, cut out of it
+-- a part that is the whole list
 pub part-all : {X : Type 0} (n : ℕ) (xs : List X) → n ≡ length xs → take n (drop 0 xs) ≡ xs
 part-all n xs is = take_all n xs (omega (arith, is))
 
--- what a loop over entries has of a part, one entry more
+-- what a loop over entries has of a part, after one more entry
 pub part_more : (kind : Kind) (n from skip : ℕ) (J A : List Atom) (F G : Contents) → F ≡ record { kind = kind; atoms = take n (drop from J) } → skip ≡ from - length J
     → G ≡ record F { atoms = F.atoms ++ take (n - length F.atoms) (drop skip A) } → G ≡ record { kind = kind; atoms = take n (drop from (J ++ A)) }
 part_more kind n from skip J A F G f s g = g ∙ rw (f, s) (ap (λ a. record { kind = kind; atoms = a }) (sym (part-append n from J A)))
 
--- two lists that agree so far, and at the next place
+-- two lists that agree so far, and at the next index
 pub take_more_same : {X Y : Type 0} (f : X → Y) (xs : List X) (ys : List Y) (i : ℕ) (x : X) (d : Y) → i < length xs → i < length ys → x ≡ get_or xs i x → f x ≡ get_or ys i d → take i (map f xs) ≡ take i ys
     → take (i + 1) (map f xs) ≡ take (i + 1) ys
 take_more_same f xs ys i x d i_in i_in' x_is same before =

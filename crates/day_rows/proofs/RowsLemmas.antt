@@ -28,7 +28,7 @@ use Rattle.day_rows.specs.declared.entry.Entry.{Entry}
 use Rattle.day_rows.specs.declared.entry.Entry.TheVariants as e
 use Rattle.day_rows.proofs.Sorting.{sorted_is-in_order}
 
--- what each place of a list holds, from a place on
+-- the element at each index of a list, from an index on
 places-read : {X : Type 0} (xs : List X) (d : X) (from n : ℕ) → from + n ≤ length xs → map (λ p. get_or xs p d) (range_with_len from n) ≡ take n (drop from xs)
 places-read xs d from zero within = refl
 places-read xs d from (suc n) within =
@@ -101,7 +101,7 @@ column-lines kinds columns c column are known =
     let read : (p : ℕ) → get_or (map (atom_at p) columns) c absent ≡ get_or column.atoms p absent =
     λ p. get_or-map (atom_at p) columns c column absent c_in ∙ ap (atom_at p) (get_or_from_slice_get columns c column column known) in
     let size : rows_of columns ≡ length column.atoms =
-    sym (subst (λ (x : Contents). length x.atoms ≡ rows_of columns) (get_or_from_slice_get columns c column column known) (are.even c column c_in)) in
+    sym (subst (λ (x : Contents). length x.atoms ≡ rows_of columns) (get_or_from_slice_get columns c column column known) (are.equal_lengths c column c_in)) in
     map-map (λ l. get_or l c absent) (λ p. map (atom_at p) columns) (range_with_len 0 (rows_of columns))
     ∙ (λ i. map (λ p. read p i) (range_with_len 0 (rows_of columns)))
     ∙ ap (λ n. map (λ p. get_or column.atoms p absent) (range_with_len 0 n)) size
@@ -130,7 +130,7 @@ flat_map_same : {A B : Type 0} (f g : A → List B) (P : A → Type 0) → ((x :
 flat_map_same f g P same [] h = refl
 flat_map_same f g P same (x ∷ xs) h = ap₂ ◌++◌ (same x h.0) (flat_map_same f g P same xs h.1)
 
--- a column read off the rows by arrival is the joined column
+-- a column read from the rows by arrival is the joined column
 pub column-arrived : (day : Day) (t c : ℕ) (kinds : List Kind) → AllByRecursion (IsUpdate day.kinds) day.updates → slice_get day.kinds t ≡ Some kinds → c < length kinds → map (field c) (arrived day t) ≡ joined t c day.updates
 column-arrived day t c kinds all known c_in =
     ap (map (field c)) (rows-numbered day.kinds day.date 0 day.updates t all)
@@ -203,14 +203,14 @@ numbered-apart date n [] = tt
 numbered-apart date n (l ∷ ls) =
     (later-apart (record { date = date; arrival = n; fields = l }) date (n + 1) ls (omega arith), numbered-apart date (n + 1) ls)
 
--- what stands at places is what is read there
+-- the elements at indices are those that are read there
 gathered-read : {X : Type 0} (xs : List X) (places : List ℕ) (d : X) → All (λ p. p < length xs) places → gathered xs places ≡ map (λ p. get_or xs p d) places
 gathered-read xs [] d within = refl
 gathered-read xs (p ∷ places) d within =
     rw (drop_more xs p d (All-head (λ p. p < length xs) p places within))
     (ap (λ l. get_or xs p d ∷ l) (gathered-read xs places d (All-tail (λ p. p < length xs) p places within)))
 
--- the rows at the places of their symbols' order are the rows in order
+-- the rows, taken in the order of their symbols, are the rows in order
 pub gathered-numbered : (date : ℤ) (ls : List (List Atom)) (places : List ℕ) → IsOrder atom_cmp (map symbol_of (numbered date 0 ls)) places → gathered (numbered date 0 ls) places ≡ in_order ended_cmp (numbered date 0 ls)
 gathered-numbered date ls places h =
     let R : List Row = numbered date 0 ls in

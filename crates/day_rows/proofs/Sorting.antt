@@ -32,7 +32,8 @@ module _ {A : Type 0} (p : A → Bool) where
   filter_none [] h = refl
   filter_none (x ∷ xs) h = rw (h.0, filter_none xs h.1)
 
--- A relation holds along each permutation if it is reflexive and transitive, and goes under a head and over an exchange of two heads.
+-- A relation holds along each permutation if it is reflexive and transitive, and is kept under a common head and under
+-- an exchange of the first two elements.
 module _ {X : Type 0} (R : List X → List X → Type 0) (same : (xs : List X) → R xs xs)
     (skip : (x : X) (xs ys : List X) → R xs ys → R (x ∷ xs) (x ∷ ys))
     (turn : (x y : X) (xs : List X) → R (x ∷ y ∷ xs) (y ∷ x ∷ xs))

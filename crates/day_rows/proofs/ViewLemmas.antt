@@ -121,17 +121,17 @@ rows-from date n (e.Roll by next ∷ es) t up =
     all_weaker (λ (r : Row). IsFrom next r.date) (λ (r : Row). IsFrom date r.date) (λ r h. inr (from-later date next r.date up.0 h)) (rows_from next 0 es t) (rows-from next 0 es t up.1)
 rows-from date n (e.Fault by ∷ es) t up = rows-from date n es t up
 
--- in the open date, what arrived later stands behind
-later-behind : (row : Row) (date : ℤ) (n : ℕ) (ls : List (List Atom)) → row.date ≡ date → row.arrival < n → AllByRecursion (λ r. is_gt (documented_cmp date row r) ≡ false) (numbered date n ls)
-later-behind row date n [] own below = tt
-later-behind row date n (l ∷ ls) own below =
+-- in the open date, later arrivals come later
+later-after : (row : Row) (date : ℤ) (n : ℕ) (ls : List (List Atom)) → row.date ≡ date → row.arrival < n → AllByRecursion (λ r. is_gt (documented_cmp date row r) ≡ false) (numbered date n ls)
+later-after row date n [] own below = tt
+later-after row date n (l ∷ ls) own below =
     let less : nat_cmp row.arrival n ≡ Less = grind (arith, nat_tests) in
     let tied : int_cmp date date ≡ Equal = tied_itself int_cmp_total date in
-    (rw (own, tied, less) refl, later-behind row date (n + 1) ls own (omega arith))
+    (rw (own, tied, less) refl, later-after row date (n + 1) ls own (omega arith))
 
 numbered-kept : (date : ℤ) (n : ℕ) (ls : List (List Atom)) → IsAscending (λ a b. is_gt (documented_cmp date a b) ≡ false) (numbered date n ls)
 numbered-kept date n [] = tt
-numbered-kept date n (l ∷ ls) = (later-behind (record { date = date; arrival = n; fields = l }) date (n + 1) ls refl (omega arith), numbered-kept date (n + 1) ls)
+numbered-kept date n (l ∷ ls) = (later-after (record { date = date; arrival = n; fields = l }) date (n + 1) ls refl (omega arith), numbered-kept date (n + 1) ls)
 
 pub view-open : (date : ℤ) (t : ℕ) (today : List Entry) → AllByRecursion KeepsDate today → view date today t ≡ rows date today t
 view-open date t today keep =

@@ -1,4 +1,4 @@
--- What a plant stands for: one list of updates, rolls and faults.
+-- A chronicle: the list of updates, rolls and faults that a plant stands for, and its rows in the documented order.
 use Rattle.std.specs.Prelude.{◌≡◌, ℕ, ℤ, Bool, true, false, if◌then◌else◌, List, [], ◌∷◌, ◌++◌, filter, IsPermutation}
 use Rattle.std.specs.List.{AllByRecursion}
 use Rattle.std.specs.declared.cmp.Ordering.{Ordering}
@@ -30,8 +30,8 @@ log = filter is_logged
 abbrev pub ended_cmp : Row → Row → Ordering
 ended_cmp a b = ordering_then (atom_cmp (symbol_of a) (symbol_of b)) (nat_cmp a.arrival b.arrival)
 
--- the documented order, where this date is open: by date, in a date before it by symbol and arrival, and in the open
--- date by arrival (KX, partitioned tables)
+-- the documented order, where this date is open: by date; within an earlier date by symbol and arrival, and within the
+-- open date by arrival (KX, partitioned tables)
 abbrev pub documented_cmp : ℤ → Row → Row → Ordering
 documented_cmp open_date a b =
     ordering_then (int_cmp a.date b.date) (if is_lt (int_cmp a.date open_date) then ended_cmp a b else nat_cmp a.arrival b.arrival)
@@ -46,7 +46,7 @@ KeepsDate (e.Upd by table columns) = Unit {0}
 KeepsDate (e.Roll by date) = ⊥
 KeepsDate (e.Fault by) = Unit {0}
 
--- each roll opens a date behind the one that it ends, the first of which is this
+-- each roll opens a later date than the one that it ends; this is the first
 abbrev pub DatesAscend : ℤ → List Entry → Type 0
 DatesAscend date [] = Unit {0}
 DatesAscend date (e.Upd by table columns ∷ entries) = DatesAscend date entries
@@ -57,12 +57,12 @@ DatesAscend date (e.Fault by ∷ entries) = DatesAscend date entries
 abbrev pub OpenDateByArrival : Type 0
 OpenDateByArrival = (date : ℤ) (table : ℕ) (today : List Entry) → AllByRecursion KeepsDate today → view date today table ≡ rows date today table
 
--- once a date has ended, its rows are seen by symbol and arrival, and the rows of the later dates behind them
+-- once a date has ended, its rows are seen by symbol and arrival, followed by the rows of the later dates
 abbrev pub EndedDateBySymbol : Type 0
 EndedDateBySymbol =
     (date next : ℤ) (by table : ℕ) (ended later : List Entry) → AllByRecursion KeepsDate ended → int_cmp date next ≡ Less → DatesAscend next later
     → view date (ended ++ e.Roll by next ∷ later) table ≡ in_order ended_cmp (rows date ended table) ++ view next later table
 
--- the view has each row once
+-- the view has each row exactly once
 abbrev pub EachRowOnce : Type 0
 EachRowOnce = (first : ℤ) (table : ℕ) (entries : List Entry) → IsPermutation (rows first entries table) (view first entries table)

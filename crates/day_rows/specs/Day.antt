@@ -26,10 +26,10 @@ pub record Opened : Type 0 where
 abbrev pub opened_of : ℤ → List (List Kind) → List Entry → List Entry → Opened
 opened_of date kinds updates room = record { day = record { date = date; kinds = kinds; updates = updates }; room = room }
 
--- the columns are those of a table's update: of the table's kinds, and of one length
+-- the columns are those of a table's update: of the table's kinds, and all of one length
 pub record AreColumns (kinds : List Kind) (columns : List Contents) : Type 0 where
   pub of_kinds : map (λ c. c.kind) columns ≡ kinds
-  pub even : All (λ c. length c.atoms ≡ rows_of columns) columns
+  pub equal_lengths : All (λ c. length c.atoms ≡ rows_of columns) columns
 
 -- an update of one of the tables whose columns have these kinds
 abbrev pub IsUpdate : List (List Kind) → Entry → Type 0
@@ -37,21 +37,21 @@ IsUpdate tables (e.Upd by table columns) = (kinds : List Kind) × (slice_get tab
 IsUpdate tables (e.Roll by date) = ⊥
 IsUpdate tables (e.Fault by) = ⊥
 
--- the rows of an entry
+-- the number of rows of an entry
 abbrev pub entry_rows : Entry → ℕ
 entry_rows (e.Upd by table columns) = rows_of columns
 entry_rows (e.Roll by date) = 0
 entry_rows (e.Fault by) = 0
 
--- the rows of all tables
+-- the number of rows of all tables
 abbrev pub total_rows : List Entry → ℕ
 total_rows = sum_by entry_rows
 
--- the rows of a table of the day by arrival, as they stand while the day is open
+-- the rows of a table of the day by arrival: the order while the day is open
 abbrev pub arrived : Day → ℕ → List Row
 arrived day = rows day.date day.updates
 
--- the rows of a table of the day by symbol and arrival, as they stand once the day has ended
+-- the rows of a table of the day by symbol and arrival: the order once the day has ended
 abbrev pub settled : Day → ℕ → List Row
 settled day table = in_order ended_cmp (arrived day table)
 
@@ -60,35 +60,35 @@ pub record AreTableKinds (kinds : List Kind) : Type 0 where
   pub begin : take 2 kinds ≡ k.Timespan ∷ k.Symbol ∷ []
   pub few : length kinds ≤ 48
 
--- the table has a column of this number, and this kind
+-- the table has a column with this index, of this kind
 abbrev pub HasColumn : Day → ℕ → ℕ → Kind → Type 0
 HasColumn day table column kind = (kinds : List Kind) × (slice_get day.kinds table ≡ Some kinds) × (slice_get kinds column ≡ Some kind)
 
--- the updates are of the day's tables, whose columns begin with `time` and `sym`, and there are as many rows as can be numbered
+-- the updates are of the day's tables, whose columns begin with `time` and `sym`, and the number of rows fits 32 bits
 pub record IsDay (day : Day) : Type 0 where
   pub few : length day.kinds ≤ 64
   pub tables : AllByRecursion AreTableKinds day.kinds
   pub updates : AllByRecursion (IsUpdate day.kinds) day.updates
   pub bounded : total_rows day.updates ≤ 4294967295
 
--- there is room for the entries, of which the day has pushed so many already
+-- there is room for the entries; the day has pushed the given number of them already
 pub record HasRoom (opened : Opened) (spare pushed : ℕ) : Type 0 where
   pub updates : AllByRecursion (IsUpdate opened.day.kinds) opened.room
   pub bounded : total_rows opened.day.updates + total_rows opened.room ≤ 4294967295
   pub enough : length opened.room ≤ spare
   pub counted : pushed + length opened.room < 2 ^ 64
 
--- the columns of a table, read off its rows
+-- the columns of a table, read from its rows
 abbrev pub columns_from : ℕ → List Kind → List Row → List Contents
-columns_from place [] shown = []
-columns_from place (kind ∷ kinds) shown = column_of kind place shown ∷ columns_from (place + 1) kinds shown
+columns_from index [] shown = []
+columns_from index (kind ∷ kinds) shown = column_of kind index shown ∷ columns_from (index + 1) kinds shown
 
 -- the columns of an ended day's table in the documented order, and the arrival numbers in that order
 pub record IsSettled (day : Day) (table : ℕ) (columns : List Contents) (arrivals : List ℕ) : Type 0 where
   pub columns_are : (kinds : List Kind) → slice_get day.kinds table ≡ Some kinds → columns ≡ columns_from 0 kinds (settled day table)
   pub arrivals_are : arrivals ≡ map (λ row. row.arrival) (settled day table)
 
--- an ended day has the rows that the open day had, each once
+-- an ended day has the rows that the open day had, each exactly once
 abbrev pub KeepsRowsAtItsEnd : Type 0
 KeepsRowsAtItsEnd = (day : Day) (table : ℕ) → IsPermutation (arrived day table) (settled day table)
 

@@ -1,4 +1,4 @@
--- A table's columns in the updates, one after the other.
+-- A table's columns, joined from consecutive updates.
 use Rattle.std.specs.Prelude.{ℕ, ◌==◌, if◌then◌else◌, List, [], Option, Some, None, slice_get}
 use Rattle.std.specs.List.{flat_map}
 use Rattle.q_values.specs.Contents.{Contents}
@@ -17,7 +17,7 @@ atoms_in table column (e.Upd by to columns) = if to == table then atoms_of (slic
 atoms_in table column (e.Roll by date) = []
 atoms_in table column (e.Fault by) = []
 
--- the rows of a table in an entry
+-- the number of a table's rows in an entry
 abbrev pub rows_in : ℕ → Entry → ℕ
 rows_in table (e.Upd by to columns) = if to == table then rows_of columns else 0
 rows_in table (e.Roll by date) = 0

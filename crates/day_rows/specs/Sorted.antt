@@ -4,7 +4,7 @@ use Rattle.std.specs.List.{AllByRecursion}
 use Rattle.std.specs.declared.cmp.Ordering.{Ordering}
 use Rattle.std.specs.Ordering.{is_gt}
 
--- x before the first element that is not below it
+-- x inserted before the first element that is not below it
 abbrev pub inserted : {X : Type 0} → (X → X → Ordering) → X → List X → List X
 inserted cmp x [] = x ∷ []
 inserted cmp x (y ∷ ys) = if is_gt (cmp x y) then y ∷ inserted cmp x ys else x ∷ y ∷ ys

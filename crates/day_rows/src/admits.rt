@@ -1,4 +1,4 @@
-//! Whether entries may be put into a day.
+//! Whether entries may be added to a day.
 ghost use Rattle.std.specs.Prelude.{◌≡◌, ◌+◌, ◌≤◌, length, map, All, IfSome, true};
 ghost use Rattle.std.specs.List.{AllByRecursion};
 ghost use Rattle.q_values.specs.Table.{rows_of};
@@ -20,8 +20,8 @@ fn has_kinds(columns: &[Vector], kinds: &[Kind]) -> bool
     if columns.len() != kinds.len() {
         return false;
     }
-    for place in 0..columns.len() {
-        if !is_of_kind(&columns[place], &kinds[place]) {
+    for i in 0..columns.len() {
+        if !is_of_kind(&columns[i], &kinds[i]) {
             return false;
         }
     }
@@ -37,7 +37,7 @@ fn first_len(columns: &[Vector]) -> usize
     }
 }
 
-fn is_even(columns: &[Vector]) -> bool
+fn have_equal_lengths(columns: &[Vector]) -> bool
     ensures { result ≡ true → All (λ c. length c.atoms ≡ rows_of columns.now) columns.now }
 {
     let rows = first_len(columns);
@@ -55,7 +55,8 @@ fn is_update(tables: &[Kinds], entry: &Entry) -> bool
     match entry {
         Entry::Upd { table, columns, .. } => match tables.get(*table as usize) {
             Some(kinds) => {
-                has_kinds(columns.as_slice(), kinds.as_slice()) && is_even(columns.as_slice())
+                has_kinds(columns.as_slice(), kinds.as_slice())
+                    && have_equal_lengths(columns.as_slice())
             }
             None => false,
         },
@@ -63,7 +64,7 @@ fn is_update(tables: &[Kinds], entry: &Entry) -> bool
     }
 }
 
-/// Whether the entries are updates of the tables.
+/// Whether each entry is an update of one of the tables, whose columns have these kinds.
 pub fn are_updates(tables: &[Kinds], entries: &[Entry]) -> bool
     ensures { result ≡ true → AllByRecursion (IsUpdate tables.now) entries.now }
 {
@@ -84,7 +85,7 @@ fn rows_of_entry(entry: &Entry) -> usize
     }
 }
 
-/// The rows of all entries, where a number of 64 bits has them.
+/// The number of rows of all entries, or `None` where it exceeds 64 bits.
 pub fn total_of(entries: &[Entry]) -> Option<u64>
     ensures { IfSome result (λ total. total ≡ total_rows entries.now) }
 {

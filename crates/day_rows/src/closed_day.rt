@@ -1,4 +1,4 @@
-//! Ended dates, whose columns stand in the documented order.
+//! Dates that have ended, with their columns in the documented order.
 ghost use Rattle.std.specs.Prelude.{◌≡◌, ◌<◌, ◌≤◌, ◌+◌, [], ◌∷◌, ◌++◌, length, map, take, drop, IfOk, Some, slice_get, All};
 ghost use Rattle.std.specs.List.{AllByRecursion};
 ghost use Rattle.q_values.specs.Order.{IsOrder, atom_cmp};
@@ -19,14 +19,19 @@ use std::snapshot::Snapshot;
 /// A table's columns in the documented order, and the arrival numbers in that order.
 #[derive(Drop)]
 pub struct SettledTable {
+    // the whole columns, sorted by symbol and then by arrival
     columns: Columns,
+    // the arrival number of each row, in the same order
     arrivals: Places,
 }
 
-/// The documented order of one day's content: by symbol, then by arrival. Contracts see it as that content.
+/// The documented order of one day's content: by symbol, then by arrival. Contracts see it as the content that it was
+/// made of.
 #[derive(Drop)]
 pub struct DayOrder {
+    /// Each table of the day, sorted.
     pub(crate) tables: Vec<SettledTable>,
+    /// The day as it was when the order was made; takes no memory.
     pub(crate) of: Snapshot<OpenDay>,
 }
 
@@ -45,9 +50,13 @@ impl Model for DayOrder {
 /// A date that has ended: its updates, in order, and its columns in the documented order (KX, partitioned tables).
 #[derive(Drop)]
 pub struct ClosedDay {
+    /// The date, in days since 2000.01.01.
     pub(crate) date: i32,
+    /// The kinds of each table's columns: at most 64 tables, each beginning with a timespan and a symbol.
     pub(crate) kinds: Vec<Kinds>,
+    /// The updates in the order of arrival, with at most 4,294,967,295 rows together.
     pub(crate) entries: Vec<Entry>,
+    /// The rows of `entries` in the documented order, one for each table.
     pub(crate) tables: Vec<SettledTable>,
 }
 
@@ -74,7 +83,7 @@ impl ClosedDay {
         self.date
     }
 
-    /// The number of rows of a table.
+    /// The number of rows of the table with this index.
     pub fn rows(&self, table: u32) -> u32
         requires { table < length self.now.kinds }
         ensures { result ≡ length (settled self.now table) }
@@ -90,7 +99,7 @@ impl ClosedDay {
         Ok(Entries::from_vec(copy_entries(alloc, &self.entries)?))
     }
 
-    /// The `n` atoms from the place `from` on of a table's column, in the documented order.
+    /// The `n` atoms of a table's column from the row `from` on, in the documented order. Reading it costs that part.
     pub fn column(
         &self,
         alloc: Global,
@@ -131,6 +140,7 @@ fn whole_column(alloc: Global, day: &OpenDay, table: u32, column: u32) -> Result
     Ok(whole)
 }
 
+// The columns of a table, with their rows in the order that `arrivals` gives.
 fn settle_columns(
     alloc: Global,
     day: &OpenDay,
@@ -145,14 +155,15 @@ fn settle_columns(
     ensures { IfOk result (λ columns. columns ≡ columns_from 0 kinds.now (settled day.now.day table)) }
 {
     let mut columns = Columns::new(alloc);
-    for place in 0..kinds.len() {
-        let whole = whole_column(alloc, day, table, place as u32)?;
+    for i in 0..kinds.len() {
+        let whole = whole_column(alloc, day, table, i as u32)?;
         let column = whole.gather(alloc, arrivals)?;
         columns.push(column)?;
     }
     Ok(columns)
 }
 
+// A table in the documented order.
 fn settle_table(
     alloc: Global,
     day: &OpenDay,
@@ -170,6 +181,7 @@ fn settle_table(
     Ok(SettledTable { columns, arrivals })
 }
 
+/// Each table of the day in the documented order. `tables` are the kinds of the day's columns.
 pub fn settle_tables(
     alloc: Global,
     day: &OpenDay,

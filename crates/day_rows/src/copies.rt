@@ -1,4 +1,4 @@
-//! Copies of entries and of their parts.
+//! Copies of entries, and a table's column joined from them.
 ghost use Rattle.std.specs.Prelude.{◌≡◌, ◌<◌, ◌≤◌, ◌+◌, ◌-◌, ◌++◌, [], length, take, drop, min, IfOk, OnOk, OnErr, MatchOption};
 ghost use Rattle.std.specs.List.{sum_by};
 ghost use Rattle.day_rows.specs.Day.{total_rows};
@@ -14,6 +14,7 @@ fn copy_vector(alloc: Global, vector: &Vector) -> Result<Vector, NoMemory>
     vector.take(alloc, 0, vector.len())
 }
 
+/// A copy of the columns.
 pub fn copy_columns(alloc: Global, columns: &Columns) -> Result<Columns, NoMemory>
     ensures { IfOk result (λ copied. copied ≡ columns.now) }
 {
@@ -42,6 +43,7 @@ fn copy_entry(alloc: Global, entry: &Entry) -> Result<Entry, NoMemory>
     }
 }
 
+/// A copy of the entries, in order.
 pub fn copy_entries(alloc: Global, entries: &[Entry]) -> Result<Vec<Entry>, NoMemory>
     ensures { IfOk result (λ copied. copied.items ≡ entries.now) }
 {
@@ -65,7 +67,7 @@ fn count_in(entry: &Entry, table: u32) -> usize
     }
 }
 
-/// The rows of a table.
+/// The number of a table's rows in the entries.
 pub fn count_rows(entries: &[Entry], table: u32) -> u32
     requires { total_rows entries.now ≤ 4294967295 }
     ensures { result ≡ sum_by (rows_in table) entries.now }
@@ -92,31 +94,22 @@ fn column_in<'a>(entry: &'a Entry, table: u32, column: usize) -> Option<&'a Vect
     }
 }
 
-// Appends what `take left` of `drop skip` of the atoms has.
-fn append_part(
-    alloc: Global,
-    found: &mut Vector,
-    more: &Vector,
-    skip: usize,
-    left: usize,
-) -> Result<(), NoMemory>
+// Appends at most `left` of the atoms of `more`, after skipping the first `skip` of them.
+fn append_part(found: &mut Vector, more: &Vector, skip: usize, left: usize) -> Result<(), NoMemory>
     ensures ok { OnOk result (found.new
         ≡ record found.old { atoms = found.old.atoms ++ take left (drop skip more.now.atoms) }) }
 {
     let start = skip.min(more.len());
     let count = left.min(more.len() - start);
-    if count > 0 {
-        let part = more.take(alloc, start, count)?;
-        if found.append(&part).is_err() {
-            return Err(NoMemory);
-        }
+    if count > 0 && found.append_part(more, start, count).is_err() {
+        return Err(NoMemory);
     }
     Ok(())
 }
 
-// Appends what belongs to the part of `n` atoms behind `skip` more atoms, and answers how many are to be skipped then.
+// Appends what the entry adds to a part that should have `n` atoms, where the first `skip` atoms from here on don't
+// belong to it. Returns how many are still to be skipped after the entry.
 fn append_entry(
-    alloc: Global,
     found: &mut Vector,
     entry: &Entry,
     table: u32,
@@ -134,14 +127,14 @@ fn append_entry(
     match column_in(entry, table, column) {
         Some(more) => {
             let left = n - found.len();
-            append_part(alloc, found, more, skip, left)?;
+            append_part(found, more, skip, left)?;
             Ok(skip.saturating_sub(more.len()))
         }
         None => Ok(skip),
     }
 }
 
-/// A part of a table's column, in the order of arrival.
+/// The `n` atoms from the row `from` on of a table's column, in the order of arrival; fewer where it ends before.
 pub fn join_column(
     alloc: Global,
     entries: &[Entry],
@@ -157,7 +150,7 @@ pub fn join_column(
     let mut found = Vector::new(alloc, kind);
     let mut skip = from;
     for entry in entries {
-        skip = append_entry(alloc, &mut found, entry, table, column, skip, n)?;
+        skip = append_entry(&mut found, entry, table, column, skip, n)?;
     }
     Ok(found)
 }

@@ -1,5 +1,6 @@
-//! The open date: a list of updates.
-ghost use Rattle.std.specs.Prelude.{◌≡◌, ◌<◌, ◌≤◌, ◌+◌, ◌^◌, [], ◌∷◌, ◌++◌, length, map, take, drop, IfOk, OnOk, OnErr, true, Some, slice_get, vec_capacity, vec_len};
+//! The open date: its updates as they came, and room for more.
+ghost use Rattle.std.specs.Prelude.{◌≡◌, ◌<◌, ◌≤◌, ◌+◌, ◌^◌, [], ◌∷◌, ◌++◌, length, map, take, drop};
+ghost use Rattle.std.specs.Prelude.{IfOk, OnOk, OnErr, true, Some, slice_get, vec_capacity, vec_len};
 ghost use Rattle.std.specs.List.{AllByRecursion};
 ghost use Rattle.q_values.specs.declared.kind.Kind.{Kind};
 ghost use Rattle.day_rows.specs.Rows.{column_of};
@@ -18,10 +19,15 @@ use std::snapshot::Snapshot;
 /// A date that is open: its updates, in order, and room for more (KX, tick.q and r.q).
 #[derive(Drop)]
 pub struct OpenDay {
+    // the date, in days since 2000.01.01
     date: i32,
+    // the kinds of each table's columns: at most 64 tables, each beginning with a timespan and a symbol
     tables: Vec<Kinds>,
+    // the updates in the order of arrival, with at most 4,294,967,295 rows together
     entries: Vec<Entry>,
+    // the entries that room was last made for; takes no memory
     planned: Snapshot<Entries>,
+    // how many of `planned` have been pushed since
     pushed: usize,
 }
 
@@ -38,7 +44,7 @@ impl Model for OpenDay {
 }
 
 impl OpenDay {
-    /// A day without updates and without room. The date is in days since 2000.01.01.
+    /// A day without updates and without room for any. The date is in days since 2000.01.01.
     pub fn new(alloc: Global, schema: &Schema, date: i32) -> Result<OpenDay, NoMemory>
         ensures { IfOk result (λ opened. opened ≡ record {
           day = record { date = date; kinds = map (λ shape. shape.kinds) schema.now; updates = [] };
@@ -55,8 +61,8 @@ impl OpenDay {
         })
     }
 
-    /// Whether room may be made for these entries: they are updates of the day's tables, and the day would hold no more
-    /// rows than can be numbered.
+    /// Whether [`reserve`](OpenDay::reserve) may be called with these entries: they are updates of the day's tables, and
+    /// the day would then have at most 4,294,967,295 rows in all its tables.
     pub fn admits(&self, entries: &Entries) -> bool
         ensures updates { result ≡ true → AllByRecursion (IsUpdate self.now.day.kinds) entries.now }
         ensures bounded { result ≡ true → total_rows self.now.day.updates + total_rows entries.now ≤ 4294967295 }
@@ -70,7 +76,7 @@ impl OpenDay {
         }
     }
 
-    /// Makes room for these entries, in place of any former room. They are updates of the day's tables. A refused call
+    /// Makes room for these entries, which replaces any former room. They are updates of the day's tables. An error
     /// changes nothing.
     pub fn reserve(&mut self, entries: &Entries) -> Result<(), NoMemory>
         requires updates { AllByRecursion (IsUpdate self.old.day.kinds) entries.now }
@@ -84,7 +90,7 @@ impl OpenDay {
         Ok(())
     }
 
-    /// Puts an entry at the end: the next of those that room was made for. It takes no memory.
+    /// Appends an entry: the next of those that room was made for. It takes no memory.
     pub fn push(&mut self, entry: Entry)
         requires { take 1 self.old.room ≡ entry ∷ [] }
         ensures { self.new ≡ record {
@@ -96,7 +102,7 @@ impl OpenDay {
         self.pushed += 1;
     }
 
-    /// An equal day, without room.
+    /// An equal day, without room for more updates.
     pub fn copy(&self, alloc: Global) -> Result<OpenDay, NoMemory>
         ensures { IfOk result (λ copied. copied ≡ record self.now { room = [] }) }
     {
@@ -119,7 +125,7 @@ impl OpenDay {
         self.date
     }
 
-    /// The number of rows of a table.
+    /// The number of rows of the table with this index.
     pub fn rows(&self, table: u32) -> u32
         requires { table < length self.now.day.kinds }
         ensures { result ≡ length (arrived self.now.day table) }
@@ -134,7 +140,7 @@ impl OpenDay {
         Ok(Entries::from_vec(copy_entries(alloc, &self.entries)?))
     }
 
-    /// The `n` atoms from the place `from` on of a table's column, in the order of arrival.
+    /// The `n` atoms of a table's column from the row `from` on, in the order of arrival. It reads all updates.
     pub fn column(
         &self,
         alloc: Global,
@@ -148,14 +154,14 @@ impl OpenDay {
         ensures { IfOk result (λ part. (kind : Kind) → HasColumn self.now.day table column kind
             → part ≡ record { kind = kind; atoms = take n (drop from (column_of kind column (arrived self.now.day table)).atoms) }) }
     {
-        let place = column as usize;
-        let kind = *self.tables[table as usize].at(place);
+        let index = column as usize;
+        let kind = *self.tables[table as usize].at(index);
         let (from, n) = (from as usize, n as usize);
-        let part = join_column(alloc, &self.entries, table, place, kind, from, n)?;
+        let part = join_column(alloc, &self.entries, table, index, kind, from, n)?;
         Ok(part)
     }
 
-    /// The documented order of the day's content, once the day has ended: by symbol, then by arrival.
+    /// The order that the day's rows have once it has ended: by symbol, then by arrival.
     pub fn close_order(&self, alloc: Global) -> Result<DayOrder, NoMemory>
         ensures { IfOk result (λ order. order ≡ self.now.day) }
     {
@@ -166,7 +172,7 @@ impl OpenDay {
         })
     }
 
-    /// The ended day. The order was made of this content. It takes no memory.
+    /// The ended day. `order` was made of this very content. It takes no memory.
     pub fn close(self, order: DayOrder) -> ClosedDay
         requires { order ≡ self.day }
         ensures { result ≡ self.day }
@@ -193,6 +199,7 @@ fn copy_kinds(alloc: Global, kinds: &Kinds) -> Result<Kinds, NoMemory>
     Ok(Kinds::from_vec(Vec::from_slice(alloc, kinds.as_slice())?))
 }
 
+/// A copy of the kinds of each table's columns.
 pub fn copy_tables(alloc: Global, tables: &[Kinds]) -> Result<Vec<Kinds>, NoMemory>
     ensures { IfOk result (λ copied. copied.items ≡ tables.now) }
 {

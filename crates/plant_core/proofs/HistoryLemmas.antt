@@ -9,7 +9,7 @@ use Rattle.day_rows.specs.Chronicle.{date_of, KeepsDate, DatesAscend}
 use Rattle.day_rows.specs.Day.{Day, IsDay, IsUpdate}
 use Rattle.day_rows.specs.declared.entry.Entry.{Entry}
 use Rattle.day_rows.specs.declared.entry.Entry.TheVariants as e
-use Rattle.plant_core.specs.Chronicle.{behind_roll_from, place_behind_roll, today, by_of, top_by, dates_of, update_count}
+use Rattle.plant_core.specs.Chronicle.{after_roll_from, index_after_roll, today, by_of, top_by, dates_of, update_count}
 use Rattle.std.proofs.Common.{◌^◌, pos}
 use Rattle.std.specs.Prelude.{◌+ℤ◌, ◌<ℤ◌}
 use Rattle.std.proofs.lemmas.Int.{ints}
@@ -70,21 +70,21 @@ ascend-roll date next by (e.Upd own table columns ∷ es) later all less up = as
 ascend-roll date next by (e.Roll own other ∷ es) later all less up = absurd all.0
 ascend-roll date next by (e.Fault own ∷ es) later all less up = ascend-roll date next by es later all.1 less up
 
-behind-kept : (place found : ℕ) (es : List Entry) → AllByRecursion KeepsDate es → behind_roll_from place found es ≡ found
-behind-kept place found [] all = refl
-behind-kept place found (e.Upd by table columns ∷ es) all = behind-kept (place + 1) found es all.1
-behind-kept place found (e.Roll by next ∷ es) all = absurd all.0
-behind-kept place found (e.Fault by ∷ es) all = behind-kept (place + 1) found es all.1
+after_roll-kept : (place found : ℕ) (es : List Entry) → AllByRecursion KeepsDate es → after_roll_from place found es ≡ found
+after_roll-kept place found [] all = refl
+after_roll-kept place found (e.Upd by table columns ∷ es) all = after_roll-kept (place + 1) found es all.1
+after_roll-kept place found (e.Roll by next ∷ es) all = absurd all.0
+after_roll-kept place found (e.Fault by ∷ es) all = after_roll-kept (place + 1) found es all.1
 
-behind-roll : (place found : ℕ) (next : ℤ) (by : ℕ) (es later : List Entry) → AllByRecursion KeepsDate es → behind_roll_from place found (es ++ e.Roll by next ∷ later) ≡ behind_roll_from (place + length es + 1) (place + length es + 1) later
-behind-roll place found next by [] later all = let same : place + 1 ≡ place + 0 + 1 = omega arith in ap (λ n. behind_roll_from n n later) same
-behind-roll place found next by (e.Upd own table columns ∷ es) later all =
+after_roll-roll : (place found : ℕ) (next : ℤ) (by : ℕ) (es later : List Entry) → AllByRecursion KeepsDate es → after_roll_from place found (es ++ e.Roll by next ∷ later) ≡ after_roll_from (place + length es + 1) (place + length es + 1) later
+after_roll-roll place found next by [] later all = let same : place + 1 ≡ place + 0 + 1 = omega arith in ap (λ n. after_roll_from n n later) same
+after_roll-roll place found next by (e.Upd own table columns ∷ es) later all =
     let same : (place + 1) + length es + 1 ≡ place + suc (length es) + 1 = omega arith in
-    behind-roll (place + 1) found next by es later all.1 ∙ ap (λ n. behind_roll_from n n later) same
-behind-roll place found next by (e.Roll own other ∷ es) later all = absurd all.0
-behind-roll place found next by (e.Fault own ∷ es) later all =
+    after_roll-roll (place + 1) found next by es later all.1 ∙ ap (λ n. after_roll_from n n later) same
+after_roll-roll place found next by (e.Roll own other ∷ es) later all = absurd all.0
+after_roll-roll place found next by (e.Fault own ∷ es) later all =
     let same : (place + 1) + length es + 1 ≡ place + suc (length es) + 1 = omega arith in
-    behind-roll (place + 1) found next by es later all.1 ∙ ap (λ n. behind_roll_from n n later) same
+    after_roll-roll (place + 1) found next by es later all.1 ∙ ap (λ n. after_roll_from n n later) same
 
 -- the entries of the ended dates
 abbrev pub ended_length : List Past → ℕ
@@ -122,14 +122,14 @@ pub ascend-chronicle : (kinds : List (List Kind)) (first : ℤ) (pasts : List Pa
 ascend-chronicle kinds first [] current h = ascend-kept first current.updates (day_keeps current h.2)
 ascend-chronicle kinds first (past ∷ pasts) current h = ascend-roll first past.next past.by past.day.updates (chronicle_of pasts current.updates) (day_keeps past.day h.2) h.3 (ascend-chronicle kinds past.next pasts current h.4)
 
-behind-chronicle_from : (place : ℕ) (kinds : List (List Kind)) (first : ℤ) (pasts : List Past) (current : Day) → Follow kinds first pasts current → behind_roll_from place place (chronicle_of pasts current.updates) ≡ place + ended_length pasts
-behind-chronicle_from place kinds first [] current h = behind-kept place place current.updates (day_keeps current h.2) ∙ (let same : place ≡ place + 0 = omega arith in same)
-behind-chronicle_from place kinds first (past ∷ pasts) current h =
+after_roll-chronicle_from : (place : ℕ) (kinds : List (List Kind)) (first : ℤ) (pasts : List Past) (current : Day) → Follow kinds first pasts current → after_roll_from place place (chronicle_of pasts current.updates) ≡ place + ended_length pasts
+after_roll-chronicle_from place kinds first [] current h = after_roll-kept place place current.updates (day_keeps current h.2) ∙ (let same : place ≡ place + 0 = omega arith in same)
+after_roll-chronicle_from place kinds first (past ∷ pasts) current h =
     let same : (place + length past.day.updates + 1) + ended_length pasts ≡ place + (length past.day.updates + 1 + ended_length pasts) = omega arith in
-    behind-roll place place past.next past.by past.day.updates (chronicle_of pasts current.updates) (day_keeps past.day h.2) ∙ behind-chronicle_from (place + length past.day.updates + 1) kinds past.next pasts current h.4 ∙ same
+    after_roll-roll place place past.next past.by past.day.updates (chronicle_of pasts current.updates) (day_keeps past.day h.2) ∙ after_roll-chronicle_from (place + length past.day.updates + 1) kinds past.next pasts current h.4 ∙ same
 
-pub behind-chronicle : (kinds : List (List Kind)) (first : ℤ) (pasts : List Past) (current : Day) → Follow kinds first pasts current → place_behind_roll (chronicle_of pasts current.updates) ≡ ended_length pasts
-behind-chronicle kinds first pasts current h = behind-chronicle_from 0 kinds first pasts current h ∙ (let same : 0 + ended_length pasts ≡ ended_length pasts = omega arith in same)
+pub after_roll-chronicle : (kinds : List (List Kind)) (first : ℤ) (pasts : List Past) (current : Day) → Follow kinds first pasts current → index_after_roll (chronicle_of pasts current.updates) ≡ ended_length pasts
+after_roll-chronicle kinds first pasts current h = after_roll-chronicle_from 0 kinds first pasts current h ∙ (let same : 0 + ended_length pasts ≡ ended_length pasts = omega arith in same)
 
 drop-chronicle : (pasts : List Past) (current : List Entry) → drop (ended_length pasts) (chronicle_of pasts current) ≡ current
 drop-chronicle [] current = refl
@@ -138,7 +138,7 @@ drop-chronicle (past ∷ pasts) current =
     rw same (drop-front past.day.updates (e.Roll past.by past.next ∷ chronicle_of pasts current) (suc (ended_length pasts)) ∙ drop-chronicle pasts current)
 
 pub today-chronicle : (kinds : List (List Kind)) (first : ℤ) (pasts : List Past) (current : Day) → Follow kinds first pasts current → today (chronicle_of pasts current.updates) ≡ current.updates
-today-chronicle kinds first pasts current h = ap (λ n. drop n (chronicle_of pasts current.updates)) (behind-chronicle kinds first pasts current h) ∙ drop-chronicle pasts current.updates
+today-chronicle kinds first pasts current h = ap (λ n. drop n (chronicle_of pasts current.updates)) (after_roll-chronicle kinds first pasts current h) ∙ drop-chronicle pasts current.updates
 
 pub length-chronicle : (pasts : List Past) (current : List Entry) → length (chronicle_of pasts current) ≡ ended_length pasts + length current
 length-chronicle [] current = omega arith
@@ -150,7 +150,7 @@ pub top_by-push : (es : List Entry) (entry : Entry) → top_by (es ++ entry ∷ 
 top_by-push [] entry = omega arith
 top_by-push (x ∷ es) entry = let h = top_by-push es entry in omega arith
 
--- the open day with one update more, or another open day
+-- the open day with one more update, or another open day
 pub follow-current : (kinds : List (List Kind)) (first : ℤ) (pasts : List Past) (current other : Day) → other.date ≡ current.date → other.kinds ≡ current.kinds → IsDay other → Follow kinds first pasts current → Follow kinds first pasts other
 follow-current kinds first [] current other date same is h = (date ∙ h.0, same ∙ h.1, is)
 follow-current kinds first (past ∷ pasts) current other date same is h = (h.0, h.1, h.2, h.3, follow-current kinds past.next pasts current other date same is h.4)
@@ -160,7 +160,7 @@ pub follow-ended : (kinds : List (List Kind)) (first : ℤ) (pasts : List Past) 
 follow-ended kinds first [] past current h date same is less = (h.0, h.1, h.2, subst (λ d. int_cmp d past.next ≡ Less) h.0 less, (date, same, is))
 follow-ended kinds first (other ∷ pasts) past current h date same is less = (h.0, h.1, h.2, h.3, follow-ended kinds other.next pasts past current h.4 date same is less)
 
--- one update more
+-- one more update
 pub history-pushed : (first : ℤ) (pasts : List Past) (current other : Day) (entry : Entry) (count at rows top after more : ℕ) → IsHistory first pasts current count at rows top → other ≡ record current { updates = current.updates ++ entry ∷ [] } → IsDay other
     → after ≡ max top (by_of entry) → more ≡ entry_rows entry → by_of entry + 1 < 2 ^ 64 → IsHistory first pasts other (count + 1) at (rows + more) after
 history-pushed first pasts current other entry count at rows top after more h grown is after_is more_is few =
@@ -171,7 +171,7 @@ history-pushed first pasts current other entry count at rows top after more h gr
     record {
       follow = subst (λ ks. Follow ks first pasts other) (sym kinds) follow;
       count_is = omega (arith, h.count_is, ap length whole, length-append (chronicle_of pasts current.updates) (entry ∷ []));
-      opened_is = h.opened_is ∙ behind-chronicle current.kinds first pasts current h.follow ∙ sym (behind-chronicle current.kinds first pasts other follow);
+      opened_is = h.opened_is ∙ after_roll-chronicle current.kinds first pasts current h.follow ∙ sym (after_roll-chronicle current.kinds first pasts other follow);
       rows_is = let joined = sum_by-append entry_rows current.updates (entry ∷ []) in omega (arith, h.rows_is, ap total_rows updates, joined, more_is);
       top_is = after_is ∙ ap (λ n. max n (by_of entry)) h.top_is ∙ sym (ap top_by whole ∙ top_by-push (chronicle_of pasts current.updates) entry);
       few = omega (arith, after_is, h.few, few);
@@ -202,7 +202,7 @@ history-rolled first pasts past other count at rows top after h date kinds none 
     record {
       follow = subst (λ ks. Follow ks first (pasts ++ past ∷ []) other) (sym kinds) follow;
       count_is = size;
-      opened_is = let behind = behind-chronicle past.day.kinds first (pasts ++ past ∷ []) other follow in omega (arith, size, behind, length-chronicle (pasts ++ past ∷ []) other.updates, empty);
+      opened_is = let after = after_roll-chronicle past.day.kinds first (pasts ++ past ∷ []) other follow in omega (arith, size, after, length-chronicle (pasts ++ past ∷ []) other.updates, empty);
       rows_is = sym (ap total_rows none);
       top_is = after_is ∙ ap (λ n. max n past.by) h.top_is ∙ sym (ap top_by whole ∙ top_by-push (chronicle_of pasts past.day.updates) (e.Roll past.by past.next));
       few = omega (arith, after_is, h.few, few);
@@ -212,20 +212,20 @@ history-rolled first pasts past other count at rows top after h date kinds none 
 pub same_day : (some other : Day) → some.date ≡ other.date → some.kinds ≡ other.kinds → some.updates ≡ other.updates → some ≡ other
 same_day some other date kinds updates = λ i. record { date = date i; kinds = kinds i; updates = updates i }
 
--- the updates of the open date are what stands behind the last roll
+-- the updates of the open date are the entries after the last roll
 pub record IsToday (entries : List Entry) (count at : ℕ) : Type 0 where
   pub below : at ≤ count
   pub updates : count - at ≡ update_count (today entries)
 
 pub today_counted : (first : ℤ) (pasts : List Past) (current : Day) (count at rows top : ℕ) → IsHistory first pasts current count at rows top → IsToday (chronicle_of pasts current.updates) count at
 today_counted first pasts current count at rows top h =
-    let behind = behind-chronicle current.kinds first pasts current h.follow in
+    let after = after_roll-chronicle current.kinds first pasts current h.follow in
     let size = length-chronicle pasts current.updates in
     let all = counted_updates current.kinds current.updates (last_day current.kinds first pasts current h.follow).updates in
     let same = ap update_count (today-chronicle current.kinds first pasts current h.follow) in
     record {
-      below = omega (arith, h.count_is, h.opened_is, behind, size);
-      updates = omega (arith, h.count_is, h.opened_is, behind, size, all, same);
+      below = omega (arith, h.count_is, h.opened_is, after, size);
+      updates = omega (arith, h.count_is, h.opened_is, after, size, all, same);
     }
 
 pub entries-rolled : (pasts after : List Past) (past : Past) (updates whole : List Entry) (date : ℤ) → after ≡ pasts ++ past ∷ [] → updates ≡ [] → chronicle_of pasts past.day.updates ≡ whole → past.next ≡ date

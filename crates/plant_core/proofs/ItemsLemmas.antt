@@ -1,4 +1,4 @@
--- Items, one after the other.
+-- Items, in order.
 use Rattle.std.proofs.Common.{◌≡◌, ℕ, zero, suc, ◌+◌, ◌<◌, ◌≤◌, ◌∷◌, [], List, length, get_or, take, drop, map, refl, sym, ap, ◌∙◌, arith, true, false, Bool, cond, Some, None, slice_get, replicate, ◌++◌}
 use Rattle.std.specs.List.{list_all, list_any}
 use Rattle.std.proofs.lemmas.List.{map_push, take_more, drop_more, length-map, get_or-map, take_all, length-drop}
@@ -93,7 +93,7 @@ no_long limit (c.Integers kind xs) never = short limit (integer_atom kind) (λ x
 no_long limit (c.Longs kind xs) never = short limit (long_atom kind) (λ x. elim kind as (λ b. is_long_symbol limit (long_atom b x) ≡ false) [ l.Long ↦ refl | l.Timestamp ↦ refl | l.Timespan ↦ refl ]) xs.items
 no_long limit (c.Symbols xs) never = absurd cc
 
--- a column that is no symbols has no long ones
+-- a column that isn't of symbols has no long ones
 pub none_long : (limit : ℕ) (column : Column) (v : Contents) → contents column ≡ v → are_symbols column ≡ false → false ≡ list_any (is_long_symbol limit) v.atoms
 none_long limit column v is never = sym (ap (λ (x : Contents). list_any (is_long_symbol limit) x.atoms) (sym is) ∙ no_long limit column never)
 
@@ -123,7 +123,7 @@ pub gathered-zeros : {X : Type 0} (n : ℕ) (x : X) → gathered (x ∷ []) (rep
 gathered-zeros zero x = refl
 gathered-zeros (suc n) x = ap (λ l. x ∷ l) (gathered-zeros n x)
 
--- one item more of a list that is mapped
+-- one more item of a list that is mapped
 pub spread_more : (f : Tree → Contents) (xs : List Value) (i : ℕ) (x : Value) → i < length xs → x ≡ get_or xs i x → map f (take (i + 1) (map tree xs)) ≡ map f (take i (map tree xs)) ++ f (tree x) ∷ []
 spread_more f xs i x i_in is =
     ap (map f) (take_more (map tree xs) i (tree x) (omega (arith, i_in, length-map xs tree)))

@@ -9,6 +9,7 @@ use Rattle.std.proofs.lemmas.Option.{get_or_from_slice_get, slice_get-map}
 use Rattle.std.proofs.lemmas.Bool.{eqb-true}
 use Rattle.std.proofs.lemmas.Bool.Decides.{nat_tests}
 use Rattle.q_values.specs.Contents.{Contents}
+use Rattle.q_values.specs.Kind.{type_number, kind_at, is}
 use Rattle.q_values.specs.Table.{rows_of}
 use Rattle.q_values.specs.Tree.{Tree, atom, vector, list, dict, table, keyed, identity, wrong}
 use Rattle.q_values.specs.declared.limits.Limits.{Limits}
@@ -18,7 +19,7 @@ use Rattle.q_values.specs.Atom.{kind_of}
 use Rattle.q_values.specs.declared.kind.Kind.{Kind}
 use Rattle.q_values.specs.declared.kind.Kind.TheVariants as k
 use Rattle.day_rows.specs.declared.schema.Shape.{Shape}
-use Rattle.plant_core.specs.Items.{timed, type_number, is_of_kind, vector_length, fits_beside, wrong_from, are_even, row_count, spread, columns_of, atoms_of}
+use Rattle.plant_core.specs.Items.{timed, is_of_kind, vector_length, fits_beside, wrong_from, have_matching_lengths, row_count, spread, columns_of, atoms_of}
 use Rattle.plant_core.specs.Items.{has_long_symbol}
 use Rattle.plant_core.specs.Limit.{is_beyond}
 use Rattle.plant_core.specs.Chronicle.{time_of_day}
@@ -28,7 +29,7 @@ use Rattle.plant_core.specs.declared.refusal.UpdRefusal.{UpdRefusal}
 use Rattle.plant_core.specs.declared.refusal.UpdRefusal.TheVariants as r
 use Rattle.plant_core.specs.Verdict.{table_from, is_past_next_day, is_next_day, items_judged, ruling, Verdict, accepts, refuses, kinds_judged, table_judged, roll_due}
 
--- the table at a place has the name, or the search goes on behind it
+-- the table with an index has the name, or the search goes on after it
 table_step : (schema : List Shape) (i : ℕ) (shape : Shape) (name : List ℕ) → i < length schema → slice_get schema i ≡ Some shape
     → table_from i name (drop i schema) ≡ cond (bytes_eq shape.table name) (Some (i, shape.kinds)) (table_from (i + 1) name (drop (suc i) schema))
 table_step schema i shape name i_in is = let one : i + 1 ≡ suc i = omega arith in rw (drop_more schema i shape i_in, get_or_from_slice_get schema i shape shape is, ← one) refl
@@ -41,31 +42,15 @@ pub table_more : (schema : List Shape) (i : ℕ) (shape : Shape) (name : List �
     → table_from 0 name schema ≡ table_from (i + 1) name (drop (i + 1) schema)
 table_more schema i shape name i_in is other before = let one : i + 1 ≡ suc i = omega arith in before ∙ table_step schema i shape name i_in is ∙ rw (other, one) refl
 
-of_number : ℕ → Kind
-of_number n =
-    cond (eqb n 1) k.Boolean (cond (eqb n 4) k.Byte (cond (eqb n 5) k.Short (cond (eqb n 6) k.Integer (cond (eqb n 7) k.Long (cond (eqb n 10) k.Character (cond (eqb n 11) k.Symbol
-    (cond (eqb n 12) k.Timestamp (cond (eqb n 13) k.Month (cond (eqb n 14) k.Date (cond (eqb n 16) k.Timespan (cond (eqb n 17) k.Minute (cond (eqb n 18) k.Second k.Time))))))))))))
-
-of_number-type_number : (kind : Kind) → of_number (type_number kind) ≡ kind
-unfolding of_number
-of_number-type_number k.Boolean = refl
-of_number-type_number k.Byte = refl
-of_number-type_number k.Short = refl
-of_number-type_number k.Integer = refl
-of_number-type_number k.Long = refl
-of_number-type_number k.Character = refl
-of_number-type_number k.Symbol = refl
-of_number-type_number k.Timestamp = refl
-of_number-type_number k.Month = refl
-of_number-type_number k.Date = refl
-of_number-type_number k.Timespan = refl
-of_number-type_number k.Minute = refl
-of_number-type_number k.Second = refl
-of_number-type_number k.Time = refl
+kind_at-type_number : (kind : Kind) → kind_at (type_number kind) ≡ Some kind
+kind_at-type_number k.Boolean = refl
+kind_at-type_number kind = refl
 
 -- kinds of one type number are one kind
-same_kind : (some other : Kind) → eqb (type_number some) (type_number other) ≡ true → some ≡ other
-same_kind some other h = sym (of_number-type_number some) ∙ ap of_number (eqb-true (type_number some) (type_number other) h) ∙ of_number-type_number other
+same_kind : (some other : Kind) → is some other ≡ true → some ≡ other
+same_kind some other h =
+    let same : Some some ≡ Some other = sym (kind_at-type_number some) ∙ ap kind_at (eqb-true (type_number some) (type_number other) h) ∙ kind_at-type_number other in
+    cc
 
 right_kind : (n : ℕ) (kind : Kind) (item : Tree) → is_of_kind kind item ≡ true → (spread n item).kind ≡ kind
 right_kind n kind (atom x) h = same_kind (kind_of x) kind h
@@ -140,12 +125,12 @@ fits-itself : (first : Option ℕ) → fits_beside first first ≡ true
 fits-itself None = refl
 fits-itself (Some n) = let same : eqb n n ≡ true = grind (arith, nat_tests) in same
 
--- what items give that are even and of their columns' kinds
+-- the columns of items that have matching lengths and are of their columns' kinds
 record AreSpread (kinds : List Kind) (items : List Tree) : Type 0 where
   columns : AreColumns kinds (columns_of items)
   rows : rows_of (columns_of items) ≡ row_count items
 
-spread_items : (kinds : List Kind) (first : Tree) (others : List Tree) → are_even (length kinds) (first ∷ others) ≡ true → wrong_from 0 kinds (first ∷ others) ≡ None → AreSpread kinds (first ∷ others)
+spread_items : (kinds : List Kind) (first : Tree) (others : List Tree) → have_matching_lengths (length kinds) (first ∷ others) ≡ true → wrong_from 0 kinds (first ∷ others) ≡ None → AreSpread kinds (first ∷ others)
 spread_items [] first others even right = let h : eqb (length others + 1) 0 ≡ true = (and_both _ _ even).0 in absurd (omega (arith, eqb-true (length others + 1) 0 h))
 spread_items (kind ∷ kinds) first others even right =
     let n = length (atoms_of first) in
@@ -159,7 +144,7 @@ spread_items (kind ∷ kinds) first others even right =
     record {
       columns = record {
         of_kinds = kinds-spread n 0 (kind ∷ kinds) (first ∷ others) right (omega arith);
-        even = subst (λ m. All (λ (c : Contents). length c.atoms ≡ m) (map (spread n) (first ∷ others))) (sym own) whole;
+        equal_lengths = subst (λ m. All (λ (c : Contents). length c.atoms ≡ m) (map (spread n) (first ∷ others))) (sym own) whole;
       };
       rows = own;
     }
@@ -176,7 +161,7 @@ all_well : (a b c : Bool) (w : Option ℕ) (x y z v : Verdict) → a ≡ true �
 all_well a b c w x y z v ea eb ec ew = rw (ea, ew, eb, ec) refl
 
 pub passes_items : (limits : Limits) (by : ℕ) (date : ℤ) (rows : ℕ) (now : ℤ) (at : ℕ) (kinds : List Kind) (first : Tree) (others : List Tree) (rolls : Bool) (left : ℕ) (columns : List Contents)
-    → are_even (length kinds) (first ∷ others) ≡ true → wrong_from 0 kinds (first ∷ others) ≡ None → is_past_next_day date now ≡ false → rolls ≡ is_next_day date now → left ≡ cond rolls 0 rows → is_beyond limits left (first ∷ others) ≡ false → columns ≡ columns_of (first ∷ others)
+    → have_matching_lengths (length kinds) (first ∷ others) ≡ true → wrong_from 0 kinds (first ∷ others) ≡ None → is_past_next_day date now ≡ false → rolls ≡ is_next_day date now → left ≡ cond rolls 0 rows → is_beyond limits left (first ∷ others) ≡ false → columns ≡ columns_of (first ∷ others)
     → (tables : List (List Kind)) → slice_get tables at ≡ Some kinds
     → Passes limits by date rows now tables (items_judged limits by date rows now (at, kinds) (first ∷ others)) (record { rolls = rolls; update = e.Upd by at columns })
 passes_items limits by date rows now at kinds first others rolls left columns even right near is left_is free made tables known =
@@ -185,7 +170,7 @@ passes_items limits by date rows now at kinds first others rolls left columns ev
     let few = under limits left (first ∷ others) free in
     record {
       accepted =
-          all_well (are_even (length kinds) (first ∷ others)) (is_past_next_day date now) (is_beyond limits (cond (is_next_day date now) 0 rows) (first ∷ others)) (wrong_from 0 kinds (first ∷ others)) (refuses r.Length) (refuses r.MoreThanOneDay) (refuses r.Limit)
+          all_well (have_matching_lengths (length kinds) (first ∷ others)) (is_past_next_day date now) (is_beyond limits (cond (is_next_day date now) 0 rows) (first ∷ others)) (wrong_from 0 kinds (first ∷ others)) (refuses r.Length) (refuses r.MoreThanOneDay) (refuses r.Limit)
           (accepts (roll_due (is_next_day date now) by date ++ e.Upd by at (columns_of (first ∷ others)) ∷ [])) even near free' right
           ∙ ap₂ (λ b cs. accepts (roll_due b by date ++ e.Upd by at cs ∷ [])) (sym is) (sym made);
       rolls_then = is;

@@ -51,7 +51,7 @@ dates-from first (e.Upd by table columns ∷ es) up = dates-from first es up
 dates-from first (e.Roll by next ∷ es) up = (inl refl, weaker (IsFrom next) (IsFrom first) (λ d from. inr (from-later first next d up.0 from)) (dates_of next es) (dates-from next es up.1))
 dates-from first (e.Fault by ∷ es) up = dates-from first es up
 
--- entries up to their first roll, and behind it
+-- entries up to their first roll, and after it
 record Cut (es : List Entry) : Type 0 where
   ended : List Entry
   by : ℕ
@@ -80,7 +80,7 @@ flat_map-same : {A B : Type 0} (f g : A → List B) (P : A → Type 0) → ((x :
 flat_map-same f g P same [] h = refl
 flat_map-same f g P same (x ∷ xs) h = ap₂ ◌++◌ (same x h.0) (flat_map-same f g P same xs h.1)
 
--- what the dates of a chronicle show, one after the other
+-- what the dates of a chronicle show, in order
 abbrev by_dates : ℤ → List Entry → ℕ → List Row
 by_dates first es t = flat_map (λ date. on_date date (view first es t)) (dates_of first es)
 
@@ -90,7 +90,7 @@ kept first t es keep =
     let own : on_date first (view first es t) ≡ view first es t = ap (on_date first) same ∙ on_date-all first (rows first es t) (rows-dated first 0 es t keep) ∙ sym same in
     sym (ap (flat_map (λ date. on_date date (view first es t))) (dates_of-kept first es keep) ∙ append-nil (on_date first (view first es t)) ∙ own)
 
--- the rows of an ended date, and behind them those of later dates, of which the law holds
+-- the rows of an ended date, followed by those of later dates, of which the law holds
 joined : (first next : ℤ) (some later : List Row) (dates : List ℤ) → int_cmp first next ≡ Less → AllByRecursion (λ (r : Row). r.date ≡ first) some → AllByRecursion (λ (r : Row). IsFrom next r.date) later → AllByRecursion (IsFrom next) dates
     → later ≡ flat_map (λ date. on_date date later) dates → some ++ later ≡ flat_map (λ date. on_date date (some ++ later)) (first ∷ dates)
 joined first next some later dates less own from dates_from holds =
@@ -102,8 +102,8 @@ joined first next some later dates less own from dates_from holds =
     filter-append (λ (r : Row). int_eq r.date date) some later ∙ ap (λ l. l ++ on_date date later) nothing in
     sym (ap₂ ◌++◌ here (flat_map-same (λ date. on_date date (some ++ later)) (λ date. on_date date later) (IsFrom next) there dates dates_from ∙ sym holds))
 
-behind_cut : (first : ℤ) (t : ℕ) (es : List Entry) (c : Cut es) → DatesAscend first es → ((up : DatesAscend c.next c.later) → view c.next c.later t ≡ by_dates c.next c.later t) → view first es t ≡ by_dates first es t
-behind_cut first t es c up holds =
+after_cut : (first : ℤ) (t : ℕ) (es : List Entry) (c : Cut es) → DatesAscend first es → ((up : DatesAscend c.next c.later) → view c.next c.later t ≡ by_dates c.next c.later t) → view first es t ≡ by_dates first es t
+after_cut first t es c up holds =
     let parts = ascend-parts first c.next c.by c.ended c.later c.keep (subst (DatesAscend first) c.whole up) in
     let some : List Row = in_order ended_cmp (rows first c.ended t) in
     let own = all-in_order ended_cmp (λ (r : Row). r.date ≡ first) (rows first c.ended t) (rows-dated first 0 c.ended t c.keep) in
@@ -120,7 +120,7 @@ law zero first t (x ∷ es) short up = absurd (omega arith)
 law (suc n) first t es short up =
     elim (cut es) [
       | inl keep ↦ kept first t es keep
-      | inr c ↦ behind_cut first t es c up (law n c.next t c.later (omega (arith, short, ap length c.whole, length-append c.ended (e.Roll c.by c.next ∷ c.later))))
+      | inr c ↦ after_cut first t es c up (law n c.next t c.later (omega (arith, short, ap length c.whole, length-append c.ended (e.Roll c.by c.next ∷ c.later))))
     ]
 
 pub view-by_dates : ViewIsItsDates

@@ -75,7 +75,7 @@ pub from-later : (date next other : ℤ) → int_cmp date next ≡ Less → IsFr
 from-later date next other less (inl same) = rw same less
 from-later date next other less (inr more) = int_cmp_total.trans date next other less more
 
--- the rows of the dates at a place: by symbol where the date has ended, and else by arrival
+-- the rows of the date with an index: by symbol where the date has ended, and else by arrival
 abbrev pub block : List Past → Day → ℕ → ℕ → List Row
 block [] current k t = arrived current t
 block (past ∷ pasts) current zero t = settled past.day t
@@ -134,7 +134,7 @@ rows_at-chronicle kinds first pasts current k t h k_in =
 pub length-dates : (kinds : List (List Kind)) (first : ℤ) (pasts : List Past) (current : Day) → Follow kinds first pasts current → length (dates_of first (chronicle_of pasts current.updates)) ≡ length pasts + 1
 length-dates kinds first pasts current h = ap length (dates_of-chronicle kinds first pasts current h) ∙ (let size : length (first ∷ nexts pasts) ≡ length pasts + 1 = omega (arith, length-map pasts (λ (p : Past). p.next)) in size)
 
--- an ended date at a place
+-- the ended date with an index
 pub record IsPast (kinds : List (List Kind)) (pasts : List Past) (current : Day) (k : ℕ) (past : Past) : Type 0 where
   pub kinds_are : past.day.kinds ≡ kinds
   pub lawful : IsDay past.day

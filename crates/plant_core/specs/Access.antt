@@ -1,4 +1,4 @@
--- What an access shows of the plant, and what its calls change.
+-- What an access (the way of one pass to the plant) shows, and what its calls change.
 use Rattle.std.specs.Prelude.{◌≡◌, ℕ, ℤ, ◌+◌, ◌<◌, ◌≤◌, ◌^◌, Bool, true, false, List, [], ◌∷◌, ◌++◌, length, min, drop, Option, Result, Ok, Err}
 use Rattle.q_values.specs.Tree.{Tree, trees}
 use Rattle.q_values.specs.declared.refusal.NoMemory.{NoMemory}
@@ -29,15 +29,16 @@ pub record AccessView : Type 0 where
   pub snapshots : ℕ
   pub ticks : ℕ
 
--- a count that rose once: it stands still at its type's end
+-- a count after one more; it saturates at the end of its type
 abbrev pub next_count : ℕ → ℕ
 next_count count = min (count + 1) 18446744073709551615
 
--- what the access saw more before its own step: nothing, where it is alone
+-- what the access saw of others' entries before its own step: none, where it is alone
 pub record SeesMore (old : AccessView) (more : List Entry) : Type 0 where
   pub alone : old.alone ≡ true → more ≡ []
 
--- an update was logged: the verdict's entries stand at the end, a roll, if there is one, at its place, and last the update
+-- an update was logged: the verdict's entries were appended; a roll, if there is one, has the index `rolled`, and the update
+-- the index `place`
 pub record Logs (old new : AccessView) (table : List ℕ) (items : List Tree) (now : ℤ) (rolled : Option ℕ) (place : ℕ) : Type 0 where
   pub others : List Entry
   pub saw : SeesMore old others
@@ -47,7 +48,7 @@ pub record Logs (old new : AccessView) (table : List ℕ) (items : List Tree) (n
   pub last : place + 1 ≡ length ((old.seen ++ others) ++ entries)
   pub after : new ≡ record old { seen = (old.seen ++ others) ++ entries; mine = old.mine ++ entries }
 
--- the access saw what the others made, up to this length, and made nothing; its update was refused
+-- an update was refused: the access saw what the others made, up to this length, and made nothing
 pub record Looks (old new : AccessView) (table : List ℕ) (items : List Tree) (now : ℤ) (length_now : ℕ) (why : UpdRefusal) : Type 0 where
   pub others : List Entry
   pub saw : SeesMore old others
@@ -60,7 +61,7 @@ abbrev pub Updates : AccessView → AccessView → UpdRequest → ℤ → UpdTur
 Updates old new request now (Logged rolled place) = Logs old new request.table (trees request.items) now rolled place
 Updates old new request now (Refused length why) = Looks old new request.table (trees request.items) now length why
 
--- the date of the moment isn't the one behind the open date: nothing was made
+-- the moment's date isn't the one after the open date: nothing was made
 pub record Waits (old new : AccessView) (now : ℤ) (length_now : ℕ) : Type 0 where
   pub others : List Entry
   pub saw : SeesMore old others
@@ -68,7 +69,7 @@ pub record Waits (old new : AccessView) (now : ℤ) (length_now : ℕ) : Type 0 
   pub length : length_now ≡ length (old.seen ++ others)
   pub after : new ≡ record old { seen = old.seen ++ others; ticks = next_count old.ticks }
 
--- the date of the moment is the one behind the open date: a roll to it was made, at this place
+-- the moment's date is the one after the open date: a roll to it was made, with this index
 pub record Rolls (old new : AccessView) (now : ℤ) (place : ℕ) : Type 0 where
   pub others : List Entry
   pub saw : SeesMore old others
@@ -80,7 +81,7 @@ pub record Rolls (old new : AccessView) (now : ℤ) (place : ℕ) : Type 0 where
     ticks = next_count old.ticks;
   }
 
--- a roll was due, and memory was wanting: nothing was made
+-- a roll was due, and the access was out of memory: nothing was made
 pub record Wants (old new : AccessView) (now : ℤ) : Type 0 where
   pub others : List Entry
   pub saw : SeesMore old others
@@ -104,7 +105,7 @@ abbrev pub Snaps : AccessView → AccessView → Result SnapshotView NoMemory �
 Snaps old new (Ok snapshot) = Asks old new × (snapshot ≡ record { frame = old.frame; entries = new.seen })
 Snaps old new (Err _) = Asks old new
 
--- what a plant shows to the one pass that holds it since it had so many entries
+-- what a plant shows to the one pass that holds it, which began when the plant had `began` entries
 abbrev pub access_of : PlantView → ℕ → ℕ → ℕ → ℕ → AccessView
 access_of plant by began snapshots ticks = record {
   by = by;
@@ -116,7 +117,7 @@ access_of plant by began snapshots ticks = record {
   ticks = ticks;
 }
 
--- the pass has a number of its own, and the plant had so many entries when it began
+-- the pass has a number of its own, and began when the plant had no more entries than now
 pub record IsSolo (plant : PlantView) (by began : ℕ) : Type 0 where
   pub few : by + 1 < 2 ^ 64
   pub within : began ≤ length plant.entries

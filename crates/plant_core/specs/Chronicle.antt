@@ -1,38 +1,35 @@
--- What is read off a chronicle: its dates, its open date's entries, the numbers of its passes.
-use Rattle.std.specs.Prelude.{ℕ, ℤ, pos, ◌+◌, List, [], ◌∷◌, drop, max, filter, slice_index_or}
+-- What a chronicle shows: its dates, the entries of its open date, the numbers of its passes.
+use Rattle.std.specs.Prelude.{ℕ, ℤ, ◌+◌, List, [], ◌∷◌, drop, max, filter, slice_index_or}
 use Rattle.std.specs.Int.{int_div_euclid, int_rem_euclid}
 use Rattle.std.specs.Ordering.{int_eq}
+use Rattle.q_values.specs.Time.{day_nanoseconds}
 use Rattle.day_rows.specs.Chronicle.{view}
 use Rattle.day_rows.specs.Rows.{Row}
 use Rattle.day_rows.specs.declared.entry.Entry.{Entry}
 use Rattle.day_rows.specs.declared.entry.Entry.TheVariants as e
 
--- the nanoseconds of a day
-abbrev pub day_nanoseconds : ℤ
-day_nanoseconds = pos 86400000000000
-
 -- the date of a moment: the days since 2000.01.01, rounded down
 abbrev pub moment_date : ℤ → ℤ
 moment_date now = int_div_euclid now day_nanoseconds
 
--- the nanoseconds since that date began
+-- the time of day of a moment, in nanoseconds
 abbrev pub time_of_day : ℤ → ℤ
 time_of_day now = int_rem_euclid now day_nanoseconds
 
--- the place behind the last roll of entries that begin at a place, or the place found so far
-abbrev pub behind_roll_from : ℕ → ℕ → List Entry → ℕ
-behind_roll_from place found [] = found
-behind_roll_from place found (e.Upd by table columns ∷ entries) = behind_roll_from (place + 1) found entries
-behind_roll_from place found (e.Roll by date ∷ entries) = behind_roll_from (place + 1) (place + 1) entries
-behind_roll_from place found (e.Fault by ∷ entries) = behind_roll_from (place + 1) found entries
+-- the index after the last roll, where the first of the entries has the index `i`; or the index found so far
+abbrev pub after_roll_from : ℕ → ℕ → List Entry → ℕ
+after_roll_from i found [] = found
+after_roll_from i found (e.Upd by table columns ∷ entries) = after_roll_from (i + 1) found entries
+after_roll_from i found (e.Roll by date ∷ entries) = after_roll_from (i + 1) (i + 1) entries
+after_roll_from i found (e.Fault by ∷ entries) = after_roll_from (i + 1) found entries
 
--- the place behind the last roll, or 0 where there is none
-abbrev pub place_behind_roll : List Entry → ℕ
-place_behind_roll = behind_roll_from 0 0
+-- the index of the first entry after the last roll, or 0 where there is no roll
+abbrev pub index_after_roll : List Entry → ℕ
+index_after_roll = after_roll_from 0 0
 
--- the entries behind the last roll: those of the open date
+-- the entries after the last roll: those of the open date
 abbrev pub today : List Entry → List Entry
-today entries = drop (place_behind_roll entries) entries
+today entries = drop (index_after_roll entries) entries
 
 -- the number of the pass that made an entry
 abbrev pub by_of : Entry → ℕ
@@ -63,10 +60,10 @@ update_count (e.Fault by ∷ entries) = update_count entries
 abbrev pub on_date : ℤ → List Row → List Row
 on_date date = filter (λ row. int_eq row.date date)
 
--- the date at a place
+-- the date with this index
 abbrev pub date_at : ℤ → List Entry → ℕ → ℤ
 date_at first entries k = slice_index_or (dates_of first entries) k first
 
--- the rows of a table on the date at a place, in the documented order
+-- the rows of a table on the date with the index `k`, in the documented order
 abbrev pub rows_at : ℤ → List Entry → ℕ → ℕ → List Row
 rows_at first entries k table = on_date (date_at first entries k) (view first entries table)

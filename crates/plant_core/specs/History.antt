@@ -1,4 +1,4 @@
--- The dates of a plant, one after the other.
+-- The dates of a plant, in order, and the chronicle that they hold.
 use Rattle.std.specs.Prelude.{◌≡◌, ◌<◌, ◌+◌, ◌^◌, ℕ, ℤ, List, [], ◌∷◌, ◌++◌, length, Some, slice_get}
 use Rattle.std.specs.Ordering.{int_cmp}
 use Rattle.std.specs.declared.cmp.Ordering.TheVariants.{Less}
@@ -6,9 +6,9 @@ use Rattle.q_values.specs.declared.kind.Kind.{Kind}
 use Rattle.day_rows.specs.Day.{Day, Opened, IsDay, total_rows}
 use Rattle.day_rows.specs.declared.entry.Entry.{Entry}
 use Rattle.day_rows.specs.declared.entry.Entry.TheVariants as e
-use Rattle.plant_core.specs.Chronicle.{place_behind_roll, top_by}
+use Rattle.plant_core.specs.Chronicle.{index_after_roll, top_by}
 
--- a date that has ended, who ended it, and the date that was opened then
+-- a date that has ended, the pass that ended it, and the date that was opened then
 pub record Past : Type 0 where
   pub day : Day
   pub by : ℕ
@@ -19,7 +19,8 @@ abbrev pub chronicle_of : List Past → List Entry → List Entry
 chronicle_of [] current = current
 chronicle_of (past ∷ pasts) current = past.day.updates ++ e.Roll past.by past.next ∷ chronicle_of pasts current
 
--- what dates stand for: the first date, the kinds of each table's columns, the chronicle, the update that room was made for
+-- what the dates stand for: the first date, the kinds of each table's columns, the chronicle, and the update that room was
+-- made for
 pub record HistoryView : Type 0 where
   pub first : ℤ
   pub kinds : List (List Kind)
@@ -32,18 +33,19 @@ history_of first pasts opened = record { first = first; kinds = opened.day.kinds
 -- each date is the one that was opened, of the same tables, and each roll opens a later one
 abbrev pub Follow : List (List Kind) → ℤ → List Past → Day → Type 0
 Follow kinds date [] current = (current.date ≡ date) × (current.kinds ≡ kinds) × IsDay current
-Follow kinds date (past ∷ pasts) current = (past.day.date ≡ date) × (past.day.kinds ≡ kinds) × IsDay past.day × (int_cmp date past.next ≡ Less) × Follow kinds past.next pasts current
+Follow kinds date (past ∷ pasts) current =
+    (past.day.date ≡ date) × (past.day.kinds ≡ kinds) × IsDay past.day × (int_cmp date past.next ≡ Less) × Follow kinds past.next pasts current
 
 -- the dates follow each other, and the counts are those of the chronicle
 pub record IsHistory (first : ℤ) (pasts : List Past) (current : Day) (count opened_at rows top : ℕ) : Type 0 where
   pub follow : Follow current.kinds first pasts current
   pub count_is : count ≡ length (chronicle_of pasts current.updates)
-  pub opened_is : opened_at ≡ place_behind_roll (chronicle_of pasts current.updates)
+  pub opened_is : opened_at ≡ index_after_roll (chronicle_of pasts current.updates)
   pub rows_is : rows ≡ total_rows current.updates
   pub top_is : top ≡ top_by (chronicle_of pasts current.updates)
   pub few : top + 1 < 2 ^ 64
 
--- a table has a column of this number, and this kind
+-- a table has a column with this index, of this kind
 pub record IsColumn (tables : List (List Kind)) (table column : ℕ) (kind : Kind) : Type 0 where
   pub kinds : List Kind
   pub table_is : slice_get tables table ≡ Some kinds

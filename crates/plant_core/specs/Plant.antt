@@ -1,4 +1,4 @@
--- What a plant shows, and what its calls make.
+-- What a plant shows, and what its calls change.
 use Rattle.std.specs.Prelude.{◌≡◌, ◌<◌, ◌+◌, ◌^◌, ◌+ℤ◌, ◌<ℤ◌, ℕ, ℤ, pos, Bool, true, if◌then◌else◌, List, [], ◌∷◌, ◌++◌, length, map, Option, Some, None}
 use Rattle.q_values.specs.Limits.{AreLimits}
 use Rattle.q_values.specs.Tree.{Tree}
@@ -14,14 +14,14 @@ use Rattle.plant_core.specs.Frame.{Frame}
 use Rattle.plant_core.specs.History.{HistoryView, IsColumn}
 use Rattle.plant_core.specs.Verdict.{accepts, roll_due, verdict}
 
--- a plant: what stays, the chronicle, and the update that room was made for
+-- a plant: what no call changes, the chronicle, and the update that room was made for
 pub record PlantView : Type 0 where
   pub frame : Frame
   pub entries : List Entry
   pub room : List Entry
 
--- an update that is prepared: the plant's frame and chronicle at its making, whether a roll is due before it, by whom, and
--- its entry
+-- a prepared update: the plant's frame and chronicle when it was prepared, whether a roll is due before it, the pass that
+-- asked for it, and its entry
 pub record PreparedView : Type 0 where
   pub frame : Frame
   pub entries : List Entry
@@ -29,7 +29,7 @@ pub record PreparedView : Type 0 where
   pub by : ℕ
   pub entry : Entry
 
--- a roll that is prepared
+-- a prepared roll: the plant's frame and chronicle when it was prepared, and the pass that asked for it
 pub record PreparedRollView : Type 0 where
   pub frame : Frame
   pub entries : List Entry
@@ -48,11 +48,11 @@ kinds_of schema = map (λ shape. shape.kinds) schema
 abbrev pub due : PreparedView → List Entry
 due update = roll_due update.rolls update.by (date_of update.frame.first update.entries)
 
--- the roll of a pass behind a chronicle: to the next date
+-- the roll that a pass adds at the end of a chronicle: to the next date
 abbrev pub next_roll : ℤ → List Entry → ℕ → Entry
 next_roll first entries by = e.Roll by (date_of first entries +ℤ pos 1)
 
--- the update of a request is prepared: the verdict's entries are a roll, where one is due, and this update
+-- a request's update is prepared: the verdict accepts a roll, where one is due, followed by this update
 pub record Prepares (old new : PlantView) (by : ℕ) (table : List ℕ) (items : List Tree) (now : ℤ) (update : PreparedView) : Type 0 where
   pub accepted : verdict old.frame by old.entries table items now ≡ accepts (due update ++ update.entry ∷ [])
   pub frame : update.frame ≡ old.frame
@@ -61,21 +61,21 @@ pub record Prepares (old new : PlantView) (by : ℕ) (table : List ℕ) (items :
   pub early : update.rolls ≡ true → date_of old.frame.first old.entries <ℤ pos 106751
   pub after : new ≡ record old { room = if update.rolls then old.room else update.entry ∷ [] }
 
--- where the roll stands, if the entries from a place on begin with one
+-- the index of the roll, if the entries, the first of which has the index `place`, begin with one
 abbrev pub roll_place : ℕ → List Entry → Option ℕ
 roll_place place [] = None
 roll_place place (e.Upd by table columns ∷ entries) = None
 roll_place place (e.Roll by date ∷ entries) = Some place
 roll_place place (e.Fault by ∷ entries) = None
 
--- entries were added, a roll, if they begin with one, at its place, and the last of them at the other
+-- entries were added; a roll, if they begin with one, has the index `rolled`, and the last of them the index `place`
 pub record Adds (old new : PlantView) (entries : List Entry) (rolled : Option ℕ) (place : ℕ) : Type 0 where
   pub frame : new.frame ≡ old.frame
   pub whole : new.entries ≡ old.entries ++ entries
   pub rolled_is : rolled ≡ roll_place (length old.entries) entries
   pub last : place + 1 ≡ length (old.entries ++ entries)
 
--- a plant over its dates
+-- a plant, seen from its dates
 abbrev pub frame_of : List Shape → Limits → HistoryView → Frame
 frame_of schema limits history = record { schema = schema; first = history.first; limits = limits }
 
@@ -93,14 +93,21 @@ pub record IsPrepared (of : PlantView) (by : ℕ) (entry : Entry) (fresh : Optio
   pub own : by_of entry ≡ by
   pub by_few : by + 1 < 2 ^ 64
   pub update : IsUpdate (kinds_of of.frame.schema) entry
-  pub fresh_is : (opened : Opened) → fresh ≡ Some opened → opened ≡ opened_of (date_of of.frame.first of.entries +ℤ pos 1) (kinds_of of.frame.schema) [] (entry ∷ [])
+  pub fresh_is :
+      (opened : Opened) → fresh ≡ Some opened
+      → opened ≡ opened_of (date_of of.frame.first of.entries +ℤ pos 1) (kinds_of of.frame.schema) [] (entry ∷ [])
 
--- what a prepared roll holds: the dates behind it
+-- what a prepared roll holds: the dates as they are after it
 pub record IsPreparedRoll (of : PlantView) (by : ℕ) (next : HistoryView) : Type 0 where
   pub few : length of.entries < 2 ^ 63
-  pub next_is : next ≡ record { first = of.frame.first; kinds = kinds_of of.frame.schema; entries = of.entries ++ next_roll of.frame.first of.entries by ∷ []; room = [] }
+  pub next_is : next ≡ record {
+    first = of.frame.first;
+    kinds = kinds_of of.frame.schema;
+    entries = of.entries ++ next_roll of.frame.first of.entries by ∷ [];
+    room = [];
+  }
 
--- a table of the schema has a column of this number, and this kind
+-- a table of the schema has a column with this index, of this kind
 abbrev pub HasColumn : List Shape → ℕ → ℕ → Kind → Type 0
 HasColumn schema = IsColumn (kinds_of schema)
 

@@ -1,4 +1,4 @@
--- What the judging of an update gives.
+-- What the code that judges updates gives.
 use Rattle.std.specs.Prelude.{◌≡◌, ◌+◌, ◌≤◌, ℕ, ℤ, if◌then◌else◌, List, [], ◌∷◌, ◌++◌, map, Result, Ok, Err, Option, Some, None, slice_get}
 use Rattle.q_values.specs.Tree.{Tree}
 use Rattle.q_values.specs.declared.kind.Kind.{Kind}
@@ -11,7 +11,7 @@ use Rattle.plant_core.specs.declared.judge.Judged.{Judged}
 use Rattle.plant_core.specs.declared.refusal.UpdRefusal.{UpdRefusal}
 use Rattle.plant_core.specs.declared.refusal.UpdRefusal.TheVariants as r
 
--- the refusal is the verdict's; want of memory is free
+-- the refusal is the verdict's; `NoMemory` may come at any verdict
 abbrev pub IsRefusal : Verdict → UpdRefusal → Type 0
 IsRefusal v (r.NoTable name) = v ≡ refuses (r.NoTable name)
 IsRefusal v r.Length = v ≡ refuses r.Length
@@ -20,8 +20,8 @@ IsRefusal v r.MoreThanOneDay = v ≡ refuses r.MoreThanOneDay
 IsRefusal v r.Limit = v ≡ refuses r.Limit
 IsRefusal v r.NoMemory = Unit {0}
 
--- an update that a pass makes may be logged: the verdict says so, it is one of the tables' with these columns' kinds, and
--- its date has room for it
+-- a pass's update may be logged: the verdict accepts it, it is an update of one of the tables, and its date may have as many
+-- rows
 pub record Passes (limits : Limits) (by : ℕ) (date : ℤ) (rows : ℕ) (now : ℤ) (tables : List (List Kind)) (verdict : Verdict) (judged : Judged) : Type 0 where
   pub accepted : verdict ≡ accepts (roll_due judged.rolls by date ++ judged.update ∷ [])
   pub rolls_then : judged.rolls ≡ is_next_day date now
@@ -29,19 +29,20 @@ pub record Passes (limits : Limits) (by : ℕ) (date : ℤ) (rows : ℕ) (now : 
   pub update : IsUpdate tables judged.update
   pub bounded : (if judged.rolls then 0 else rows) + entry_rows judged.update ≤ limits.day_rows
 
--- the ruling's update, or its refusal
+-- the update that is ruled on, or its refusal
 abbrev pub Rules : List Shape → Limits → ℕ → ℤ → ℕ → List ℕ → List Tree → ℤ → Result Judged UpdRefusal → Type 0
 Rules schema limits by date rows name items now (Ok judged) =
     Passes limits by date rows now (map (λ shape. shape.kinds) schema) (ruling schema limits by date rows name items now) judged
 Rules schema limits by date rows name items now (Err why) = IsRefusal (ruling schema limits by date rows name items now) why
 
--- the same of items that are judged for a table, with their time
+-- the same for items, with their time, that are judged for a table
 abbrev pub RulesItems : Limits → ℕ → ℤ → ℕ → ℤ → ℕ → List Kind → List Tree → Result Judged UpdRefusal → Type 0
 RulesItems limits by date rows now table kinds items (Ok judged) =
-    (tables : List (List Kind)) → slice_get tables table ≡ Some kinds → Passes limits by date rows now tables (items_judged limits by date rows now (table, kinds) items) judged
+    (tables : List (List Kind)) → slice_get tables table ≡ Some kinds
+    → Passes limits by date rows now tables (items_judged limits by date rows now (table, kinds) items) judged
 RulesItems limits by date rows now table kinds items (Err why) = IsRefusal (items_judged limits by date rows now (table, kinds) items) why
 
--- a table of the name stands at a place, or none has the name
+-- the index of the first table with this name, or that none has it
 abbrev pub FindsTable : List Shape → List ℕ → Option ℕ → Type 0
 FindsTable schema name None = table_from 0 name schema ≡ None
-FindsTable schema name (Some place) = (shape : Shape) × (slice_get schema place ≡ Some shape) × (table_from 0 name schema ≡ Some (place, shape.kinds))
+FindsTable schema name (Some i) = (shape : Shape) × (slice_get schema i ≡ Some shape) × (table_from 0 name schema ≡ Some (i, shape.kinds))

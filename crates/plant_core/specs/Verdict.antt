@@ -1,4 +1,4 @@
--- What becomes of an update.
+-- What becomes of an update: the first refusal that holds, in this order, or the entries that it adds.
 use Rattle.std.specs.Prelude.{ℕ, ℤ, pos, ◌+◌, ◌+ℤ◌, Bool, true, false, if◌then◌else◌, List, [], ◌∷◌, ◌++◌, length, Option, Some, None, int_lt}
 use Rattle.std.specs.Ordering.{int_eq}
 use Rattle.std.specs.Str.{bytes_eq}
@@ -12,7 +12,7 @@ use Rattle.day_rows.specs.declared.entry.Entry.TheVariants as e
 use Rattle.day_rows.specs.declared.schema.Shape.{Shape}
 use Rattle.plant_core.specs.Chronicle.{moment_date, time_of_day, today}
 use Rattle.plant_core.specs.Frame.{Frame}
-use Rattle.plant_core.specs.Items.{timed, are_even, wrong_from, columns_of}
+use Rattle.plant_core.specs.Items.{timed, have_matching_lengths, wrong_from, columns_of}
 use Rattle.plant_core.specs.Limit.{is_beyond}
 use Rattle.plant_core.specs.declared.refusal.UpdRefusal.{UpdRefusal}
 use Rattle.plant_core.specs.declared.refusal.UpdRefusal.TheVariants as r
@@ -22,7 +22,7 @@ pub data Verdict : Type 0 where
   accepts : List Entry → Verdict
   refuses : UpdRefusal → Verdict
 
--- the date of a moment is the day behind this date
+-- the moment's date is the day after this date
 abbrev pub is_next_day : ℤ → ℤ → Bool
 is_next_day date now = int_eq (moment_date now) (date +ℤ pos 1)
 
@@ -35,12 +35,12 @@ abbrev pub roll_due : Bool → ℕ → ℤ → List Entry
 roll_due true by date = e.Roll by (date +ℤ pos 1) ∷ []
 roll_due false by date = []
 
--- the place of a table, counted from a place on, and the kinds of its columns
+-- the index of the table with this name, and the kinds of its columns; the first of the tables has the index `i`
 abbrev pub table_from : ℕ → List ℕ → List Shape → Option (ℕ × List Kind)
-table_from place name [] = None
-table_from place name (shape ∷ shapes) = if bytes_eq shape.table name then Some (place, shape.kinds) else table_from (place + 1) name shapes
+table_from i name [] = None
+table_from i name (shape ∷ shapes) = if bytes_eq shape.table name then Some (i, shape.kinds) else table_from (i + 1) name shapes
 
--- the date and the limits are judged last; so many rows stand in the open date
+-- the date and the limits are judged last; `rows` is the number of rows of the open date
 abbrev pub dated : Limits → ℕ → ℤ → ℕ → ℤ → ℕ → List Tree → Verdict
 dated limits by date rows now table items =
     let rolls = is_next_day date now in
@@ -56,13 +56,14 @@ kinds_judged None rest = rest
 -- the items, with their time, are judged for a table
 abbrev pub items_judged : Limits → ℕ → ℤ → ℕ → ℤ → ℕ × List Kind → List Tree → Verdict
 items_judged limits by date rows now table items =
-    if are_even (length table.1) items then kinds_judged (wrong_from 0 table.1 items) (dated limits by date rows now table.0 items) else refuses r.Length
+    if have_matching_lengths (length table.1) items then kinds_judged (wrong_from 0 table.1 items) (dated limits by date rows now table.0 items)
+    else refuses r.Length
 
 abbrev pub table_judged : List ℕ → Option (ℕ × List Kind) → (ℕ × List Kind → Verdict) → Verdict
 table_judged name None judged = refuses (r.NoTable name)
 table_judged name (Some table) judged = judged table
 
--- what becomes of an update, where this date is open and has so many rows
+-- what becomes of an update, where this date is open and has `rows` rows
 abbrev pub ruling : List Shape → Limits → ℕ → ℤ → ℕ → List ℕ → List Tree → ℤ → Verdict
 ruling schema limits by date rows name items now =
     table_judged name (table_from 0 name schema) (λ table. items_judged limits by date rows now table (timed (time_of_day now) items))

@@ -1,4 +1,4 @@
-//! How a session reaches the plant.
+//! How a session reaches the plant: the trait [`Access`] and what its calls answer.
 ghost use Rattle.std.specs.Prelude.{◌≡◌};
 
 use crate::refusal::UpdRefusal;
@@ -12,47 +12,63 @@ use std::sync::Wait;
 /// What became of an update.
 #[derive(Drop)]
 pub enum UpdTurn {
-    /// It was logged at this place; behind the roll at the other, where one was due.
-    Logged { rolled: Option<u64>, place: u64 },
-    /// It was refused, the chronicle having this length.
-    Refused { length: u64, why: UpdRefusal },
+    /// It was logged.
+    Logged {
+        /// The index of the roll that was made before it, where one was due.
+        rolled: Option<u64>,
+        /// The index of its own entry in the chronicle.
+        place: u64,
+    },
+    /// It was refused, and nothing was logged.
+    Refused {
+        /// The length of the chronicle.
+        length: u64,
+        /// The first reason that holds.
+        why: UpdRefusal,
+    },
 }
 
 /// What became of a look at the clock.
 #[derive(Clone, Copy, Debug, PartialEq, Eq)]
 pub enum TickTurn {
-    /// No roll was due, the chronicle having this length.
-    Quiet { length: u64 },
-    /// A roll was due, and stands at this place.
-    Rolled { place: u64 },
-    /// A roll was due, and memory was wanting.
+    /// No roll was due.
+    Quiet {
+        /// The length of the chronicle.
+        length: u64,
+    },
+    /// A roll was due, and was made.
+    Rolled {
+        /// The index of its entry in the chronicle.
+        place: u64,
+    },
+    /// A roll was due, and there was no memory for it; nothing was made.
     NoMemory,
 }
 
-/// The way of one pass to the plant.
+/// The way of one pass (one session, say) to the plant.
 pub trait Access {
     ghost use Rattle.plant_core.specs.Access.{AccessView, Updates, Ticks, Snaps};
 
-    /// What it shows: its number, the frame, what it has seen and made, and how often it asked.
+    /// What contracts see of it: its number, the frame, what it has seen and made, and how often it asked.
     ghost shown: { Self → AccessView };
 
-    /// The number of its pass.
+    /// The number of its pass, which its entries carry.
     fn by(&self) -> u64
         ensures { result ≡ (shown self.now).by };
 
-    /// The tables.
+    /// The tables of the plant.
     fn schema(&self) -> &Schema
         ensures { result.now ≡ (shown self.now).frame.schema };
 
-    /// Logs the update, behind a roll where one is due, or refuses it. `now` is in nanoseconds since 2000.01.01.
+    /// Logs the update, after a roll where one is due, or refuses it. `now` is in nanoseconds since 2000.01.01.
     fn upd<R: Wait>(&mut self, rt: &R, alloc: Global, request: &UpdRequest, now: i64) -> UpdTurn
         ensures { Updates (shown self.old) (shown self.new) request.now now result };
 
-    /// Ends the open date, where the moment lies in the next one.
+    /// Ends the open date, where the moment `now` lies in the next one. `now` is in nanoseconds since 2000.01.01.
     fn tick<R: Wait>(&mut self, rt: &R, alloc: Global, now: i64) -> TickTurn
         ensures { Ticks (shown self.old) (shown self.new) now result };
 
-    /// A snapshot of the whole chronicle.
+    /// A snapshot of the whole chronicle. The error is that it is out of memory.
     fn snapshot<R: Wait>(&mut self, rt: &R, alloc: Global) -> Result<Snapshot, NoMemory>
         ensures { Snaps (shown self.old) (shown self.new) result };
 }

@@ -1,11 +1,12 @@
 //! The dates of a plant: those that have ended, which snapshots share, and the open one.
-ghost use Rattle.std.specs.Prelude.{◌≡◌, ◌<◌, ◌≤◌, ◌+◌, ◌-◌, ◌^◌, ◌<ℤ◌, ◌+ℤ◌, pos, [], ◌∷◌, ◌++◌, length, map, take, drop, IfOk, OnOk, OnErr, Some, slice_get, slice_index_or};
+ghost use Rattle.std.specs.Prelude.{◌≡◌, ◌<◌, ◌≤◌, ◌+◌, ◌-◌, ◌^◌, ◌<ℤ◌, ◌+ℤ◌, pos, [], ◌∷◌, ◌++◌, length, map, take, drop};
+ghost use Rattle.std.specs.Prelude.{IfOk, OnOk, OnErr, Some, slice_get, slice_index_or};
 ghost use Rattle.std.specs.List.{AllByRecursion};
 ghost use Rattle.q_values.specs.declared.kind.Kind.{Kind};
 ghost use Rattle.day_rows.specs.Chronicle.{date_of, DatesAscend};
 ghost use Rattle.day_rows.specs.Day.{IsUpdate, HasColumn, entry_rows, total_rows, settled};
 ghost use Rattle.day_rows.specs.Rows.{column_of};
-ghost use Rattle.plant_core.specs.Chronicle.{by_of, place_behind_roll, today, top_by, dates_of, date_at, rows_at, update_count};
+ghost use Rattle.plant_core.specs.Chronicle.{by_of, index_after_roll, today, top_by, dates_of, date_at, rows_at, update_count};
 ghost use Rattle.plant_core.specs.History.{IsColumn};
 
 use day_rows::{ClosedDay, Entries, Entry, OpenDay, Schema};
@@ -17,8 +18,11 @@ use std::sync::Arc;
 /// A date that has ended, and its end.
 #[derive(Drop)]
 pub struct Ended {
+    // the date's updates and columns, shared with snapshots
     day: Arc<ClosedDay>,
+    // the number of the pass that ended it
     by: u64,
+    // the later date that was opened then, in days since 2000.01.01
     next: i32,
 }
 
@@ -31,32 +35,14 @@ impl Model for Ended {
 }
 
 impl Ended {
-    // The number of rows of a table.
-    fn rows(&self, table: u32) -> u32
-        requires { table < length self.now.day.kinds }
-        ensures { result ≡ length (settled self.now.day table) }
+    // The date's updates and columns.
+    fn day(&self) -> &ClosedDay
+        ensures { result.now ≡ self.now.day }
     {
-        self.day.rows(table)
+        &self.day
     }
 
-    // A part of a table's column, in the documented order.
-    fn column(
-        &self,
-        alloc: Global,
-        table: u32,
-        column: u32,
-        from: u32,
-        n: u32,
-    ) -> Result<Vector, NoMemory>
-        requires exists { (kind : Kind) × HasColumn self.now.day table column kind }
-        requires within { from + n ≤ length (settled self.now.day table) }
-        ensures { IfOk result (λ part. (kind : Kind) → HasColumn self.now.day table column kind
-            → part ≡ record { kind = kind; atoms = take n (drop from (column_of kind column (settled self.now.day table)).atoms) }) }
-    {
-        self.day.column(alloc, table, column, from, n)
-    }
-
-    // The same date, shared.
+    // The same date, whose content is shared and not copied.
     fn share(&self) -> Result<Ended, NoMemory>
         ensures { IfOk result (λ shared. shared ≡ self.now) }
     {
@@ -71,12 +57,19 @@ impl Ended {
 /// The dates of a plant, in order. Contracts see the chronicle that they hold.
 #[derive(Drop)]
 pub struct History {
+    // the first date, in days since 2000.01.01
     first: i32,
+    // the dates that have ended, in order; each opened the one after it
     ended: Vec<Ended>,
+    // the open date
     current: OpenDay,
+    // the number of entries of the chronicle, rolls included
     length: u64,
+    // the index of the first entry after the last roll, or 0 where there is no roll
     opened_at: u64,
+    // the number of rows of the open date, in all tables
     rows: u64,
+    // the greatest pass number of the chronicle, 0 where it is empty; it and its successor fit 64 bits
     top_by: u64,
 }
 
@@ -107,12 +100,12 @@ fn rows_of(entry: &Entry) -> usize
     }
 }
 
-/// The date behind this one.
-pub fn next_date(date: &i32) -> i32
-    requires { date.now <ℤ pos 106751 }
-    ensures { result ≡ date.now +ℤ pos 1 }
+/// The date after this one, in days since 2000.01.01.
+pub fn next_date(date: i32) -> i32
+    requires { date <ℤ pos 106751 }
+    ensures { result ≡ date +ℤ pos 1 }
 {
-    *date + 1
+    date + 1
 }
 
 // The ended form of an open day, whose content is copied.
@@ -125,7 +118,7 @@ fn closed(alloc: Global, opened: &OpenDay) -> Result<Arc<ClosedDay>, NoMemory>
     Ok(Arc::new(alloc, day)?)
 }
 
-// The same dates, shared, with room for more.
+// The same dates, whose contents are shared, with room for `more` of them.
 fn shared(alloc: Global, ended: &[Ended], more: usize) -> Result<Vec<Ended>, NoMemory>
     requires { length ended.now + more < 2 ^ 64 }
     ensures items { IfOk result (λ dates. dates.items ≡ ended.now) }
@@ -137,7 +130,7 @@ fn shared(alloc: Global, ended: &[Ended], more: usize) -> Result<Vec<Ended>, NoM
     Ok(dates)
 }
 
-// The same dates, shared, and one more.
+// The same dates, whose contents are shared, and one more.
 fn shared_with(alloc: Global, ended: &[Ended], last: Ended) -> Result<Vec<Ended>, NoMemory>
     requires { length ended.now + 1 < 2 ^ 64 }
     ensures { IfOk result (λ dates. dates.items ≡ ended.now ++ last ∷ []) }
@@ -148,7 +141,7 @@ fn shared_with(alloc: Global, ended: &[Ended], last: Ended) -> Result<Vec<Ended>
 }
 
 impl History {
-    /// No updates yet, on this date.
+    /// A history without updates, open at this date, in days since 2000.01.01.
     pub fn new(alloc: Global, schema: &Schema, date: i32) -> Result<History, NoMemory>
         ensures { IfOk result (λ begun. begun ≡ record {
           first = date;
@@ -169,14 +162,14 @@ impl History {
         })
     }
 
-    /// The first date.
+    /// The first date, in days since 2000.01.01.
     pub fn first(&self) -> i32
         ensures { result ≡ self.now.first }
     {
         self.first
     }
 
-    /// The open date.
+    /// The open date, in days since 2000.01.01.
     pub fn date(&self) -> i32
         ensures { result ≡ date_of self.now.first self.now.entries }
     {
@@ -190,21 +183,21 @@ impl History {
         self.length
     }
 
-    /// The place behind the last roll, or 0 where there is none.
+    /// The index of the first entry after the last roll, or 0 where there is no roll.
     pub fn opened_at(&self) -> u64
-        ensures { result ≡ place_behind_roll self.now.entries }
+        ensures { result ≡ index_after_roll self.now.entries }
     {
         self.opened_at
     }
 
-    /// The rows of the open date.
+    /// The number of rows of the open date, in all tables.
     pub fn rows(&self) -> u64
         ensures { result ≡ total_rows (today self.now.entries) }
     {
         self.rows
     }
 
-    /// The greatest pass number.
+    /// The greatest pass number, 0 where there are no entries.
     pub fn top_by(&self) -> u64
         ensures value { result ≡ top_by self.now.entries }
         ensures few { result + 1 < 2 ^ 64 }
@@ -212,7 +205,7 @@ impl History {
         self.top_by
     }
 
-    /// Makes room for these entries in the open date.
+    /// Makes room for these entries in the open date, which replaces any former room. An error changes nothing.
     pub fn reserve(&mut self, entries: &Entries) -> Result<(), NoMemory>
         requires updates { AllByRecursion (IsUpdate self.old.kinds) entries.now }
         requires bounded { total_rows (today self.old.entries) + total_rows entries.now ≤ 4294967295 }
@@ -222,7 +215,7 @@ impl History {
         self.current.reserve(entries)
     }
 
-    /// Puts an entry at the end: the next of those that room was made for. It takes no memory.
+    /// Appends an entry: the next of those that room was made for. It takes no memory.
     pub fn push(&mut self, entry: Entry)
         requires room { take 1 self.old.room ≡ entry ∷ [] }
         requires few { length self.old.entries + 1 < 2 ^ 64 }
@@ -235,14 +228,14 @@ impl History {
         let by = by_of(&entry);
         let rows = rows_of(&entry) as u64;
         self.current.push(entry);
-        // Its call tells that the day has no more rows than can be numbered.
+        // The contract of this call says that the day's rows fit 32 bits.
         let _date = self.current.date();
         self.length += 1;
         self.rows += rows;
         self.top_by = self.top_by.max(by);
     }
 
-    /// The dates as they are once this pass has ended the open one. The ended dates are shared.
+    /// The dates as they will be once this pass has ended the open one. The contents of ended dates are shared.
     pub fn rolled(&self, alloc: Global, schema: &Schema, by: u64) -> Result<History, NoMemory>
         requires schema { self.now.kinds ≡ map (λ shape. shape.kinds) schema.now }
         requires date { date_of self.now.first self.now.entries <ℤ pos 106751 }
@@ -253,7 +246,7 @@ impl History {
           room = [];
         }) }
     {
-        let next = next_date(&self.date());
+        let next = next_date(self.date());
         let day = closed(alloc, &self.current)?;
         let ended = shared_with(alloc, &self.ended, Ended { day, by, next })?;
         let current = OpenDay::new(alloc, schema, next)?;
@@ -268,7 +261,7 @@ impl History {
         })
     }
 
-    /// Puts another day in place of the open one. Both are of one date, and without updates. It takes no memory.
+    /// Replaces the open day. Both days are of one date, and without updates. It takes no memory.
     pub fn replace(&mut self, fresh: OpenDay)
         requires date { fresh.day.date ≡ date_of self.old.first self.old.entries }
         requires kinds { fresh.day.kinds ≡ self.old.kinds }
@@ -280,7 +273,7 @@ impl History {
         self.current = fresh;
     }
 
-    /// Equal dates, without room. The ended ones are shared.
+    /// Equal dates, without room. The contents of ended dates are shared.
     pub fn copy(&self, alloc: Global) -> Result<History, NoMemory>
         ensures { IfOk result (λ copied. copied ≡ record self.now { room = [] }) }
     {
@@ -305,7 +298,7 @@ impl History {
         self.ended.len() + 1
     }
 
-    /// The date at a place.
+    /// The date with the index `k`, in days since 2000.01.01.
     pub fn date_at(&self, k: usize) -> i32
         requires { k < length (dates_of self.now.first self.now.entries) }
         ensures { result ≡ date_at self.now.first self.now.entries k }
@@ -316,26 +309,26 @@ impl History {
         self.ended[k - 1].next
     }
 
-    /// The number of a table's rows on the date at a place.
+    /// The number of a table's rows on the date with the index `k`.
     pub fn rows_at(&self, k: usize, table: u32) -> u32
         requires date { k < length (dates_of self.now.first self.now.entries) }
         requires table { table < length self.now.kinds }
         ensures { result ≡ length (rows_at self.now.first self.now.entries k table) }
     {
         if k < self.ended.len() {
-            return self.ended[k].rows(table);
+            return self.ended[k].day().rows(table);
         }
         self.current.rows(table)
     }
 
-    /// The updates of the open date.
+    /// The number of updates of the open date.
     pub fn updates_today(&self) -> u64
         ensures { result ≡ update_count (today self.now.entries) }
     {
         self.length - self.opened_at
     }
 
-    /// The `n` atoms from the place `from` on of a table's column on the date at a place, in the documented order.
+    /// The `n` atoms of a table's column from the row `from` on, on the date with the index `k`, in the documented order.
     pub fn column(
         &self,
         alloc: Global,
@@ -352,7 +345,7 @@ impl History {
             → part ≡ record { kind = kind; atoms = take n (drop from (column_of kind column (rows_at self.now.first self.now.entries k table)).atoms) }) }
     {
         if k < self.ended.len() {
-            return self.ended[k].column(alloc, table, column, from, n);
+            return self.ended[k].day().column(alloc, table, column, from, n);
         }
         self.current.column(alloc, table, column, from, n)
     }

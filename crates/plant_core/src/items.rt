@@ -4,39 +4,19 @@ ghost use Rattle.std.specs.List.{list_any, list_all};
 ghost use Rattle.q_values.specs.Atom.{kind_of};
 ghost use Rattle.q_values.specs.Tree.{tree};
 ghost use Rattle.q_values.specs.Column.{contents};
-ghost use Rattle.plant_core.specs.Items.{type_number, is_of_kind, vector_length, time_beside, fits_beside, are_even, wrong_from, is_long_symbol, atoms_of, has_long_symbol, spread};
+ghost use Rattle.plant_core.specs.Items.{is_of_kind, vector_length, time_beside, fits_beside, have_matching_lengths, wrong_from};
+ghost use Rattle.plant_core.specs.Items.{is_long_symbol, atoms_of, has_long_symbol, spread};
 
 use q_values::{Atom, Column, Columns, Kind, LongKind, NoMemory, Sym, Symbols, Value, Vector};
 use std::alloc::Global;
-
-fn type_number(kind: Kind) -> u8
-    ensures { result ≡ type_number kind }
-{
-    match kind {
-        Kind::Boolean => 1,
-        Kind::Byte => 4,
-        Kind::Short => 5,
-        Kind::Integer => 6,
-        Kind::Long => 7,
-        Kind::Character => 10,
-        Kind::Symbol => 11,
-        Kind::Timestamp => 12,
-        Kind::Month => 13,
-        Kind::Date => 14,
-        Kind::Timespan => 16,
-        Kind::Minute => 17,
-        Kind::Second => 18,
-        Kind::Time => 19,
-    }
-}
 
 /// Whether the item is an atom or a vector of the kind.
 pub fn is_of_kind(item: &Value, kind: Kind) -> bool
     ensures { result ≡ is_of_kind kind (tree item.now) }
 {
     match item {
-        Value::Atom(atom) => type_number(atom.kind()) == type_number(kind),
-        Value::Vector(vector) => type_number(vector.kind()) == type_number(kind),
+        Value::Atom(atom) => atom.kind() == kind,
+        Value::Vector(vector) => vector.kind() == kind,
         Value::List(_)
         | Value::Dict(_)
         | Value::Table(_)
@@ -46,7 +26,7 @@ pub fn is_of_kind(item: &Value, kind: Kind) -> bool
     }
 }
 
-/// The length of an item that is a vector.
+/// The number of atoms of an item that is a vector; `None` for any other.
 pub fn vector_length(item: &Value) -> Option<usize>
     ensures { result ≡ vector_length (tree item.now) }
 {
@@ -62,7 +42,7 @@ pub fn vector_length(item: &Value) -> Option<usize>
     }
 }
 
-// A time, so many times.
+// A vector of `n` equal times.
 fn repeated(alloc: Global, time: i64, n: usize) -> Result<Vector, NoMemory>
     ensures { IfOk result (λ v. v ≡ record { kind = Kind.Timespan; atoms = replicate n (Atom.Timespan time) }) }
 {
@@ -70,7 +50,7 @@ fn repeated(alloc: Global, time: i64, n: usize) -> Result<Vector, NoMemory>
     Ok(Vector::from_column(Column::Longs(LongKind::Timespan, times)))
 }
 
-/// A time as an item beside a first one of this length, if it is a vector.
+/// A time as an item: an atom, or a vector of `n` equal times where the item beside it is a vector of length `n`.
 pub fn time_beside(alloc: Global, time: i64, beside: Option<usize>) -> Result<Value, NoMemory>
     ensures { IfOk result (λ item. tree item ≡ time_beside time beside) }
 {
@@ -80,6 +60,7 @@ pub fn time_beside(alloc: Global, time: i64, beside: Option<usize>) -> Result<Va
     }
 }
 
+// Whether an item of the length `other`, if it is a vector, fits a first one.
 fn fits_beside(first: Option<usize>, other: Option<usize>) -> bool
     ensures { result ≡ fits_beside first other }
 {
@@ -90,7 +71,7 @@ fn fits_beside(first: Option<usize>, other: Option<usize>) -> bool
     }
 }
 
-// Whether each of the items may stand beside a first one.
+// Whether each of the items fits the first.
 fn all_fit(first: Option<usize>, items: &[Value]) -> bool
     ensures { result ≡ list_all (λ item. fits_beside first (vector_length item)) (map tree items.now) }
 {
@@ -102,10 +83,10 @@ fn all_fit(first: Option<usize>, items: &[Value]) -> bool
     true
 }
 
-/// Whether the items are as many as the columns, and each may stand beside the first.
-pub fn are_even(columns: usize, first: &Value, others: &[Value]) -> bool
+/// Whether there are as many items as columns, and each is an atom or a vector of the first one's length.
+pub fn have_matching_lengths(columns: usize, first: &Value, others: &[Value]) -> bool
     requires { columns ≤ 48 }
-    ensures { result ≡ are_even columns (tree first.now ∷ map tree others.now) }
+    ensures { result ≡ have_matching_lengths columns (tree first.now ∷ map tree others.now) }
 {
     if columns == 0 || others.len() != columns - 1 {
         return false;
@@ -113,17 +94,17 @@ pub fn are_even(columns: usize, first: &Value, others: &[Value]) -> bool
     all_fit(vector_length(first), others)
 }
 
-/// The first of the items that isn't of its column's kind, counted from this place on.
-pub fn wrong_from(place: usize, kinds: &[Kind], items: &[Value]) -> Option<usize>
+/// The index of the first item that isn't of its column's kind. The first of the items has the index `from`.
+pub fn wrong_from(from: usize, kinds: &[Kind], items: &[Value]) -> Option<usize>
     requires as_many { length kinds.now ≡ length items.now }
-    requires few { place + length kinds.now ≤ 48 }
-    ensures value { result ≡ wrong_from place kinds.now (map tree items.now) }
+    requires few { from + length kinds.now ≤ 48 }
+    ensures value { result ≡ wrong_from from kinds.now (map tree items.now) }
     ensures within { IfSome result (λ column. column < 48) }
 {
     for i in 0..items.len() {
         let kind = &kinds[i];
         if !is_of_kind(&items[i], *kind) {
-            return Some(place + i);
+            return Some(from + i);
         }
     }
     None
@@ -213,7 +194,7 @@ pub fn count_atoms(item: &Value) -> usize
     }
 }
 
-/// The first of the items that isn't of its column's kind.
+/// The index of the first item that isn't of its column's kind.
 pub fn wrong_column(kinds: &[Kind], first: &Value, others: &[Value]) -> Option<usize>
     requires as_many { length kinds.now ≡ length others.now + 1 }
     requires few { length kinds.now ≤ 48 }
@@ -247,6 +228,7 @@ fn copy_atom(alloc: Global, atom: &Atom) -> Result<Atom, NoMemory>
     }
 }
 
+// A column of one atom.
 fn single(alloc: Global, atom: &Atom) -> Result<Vector, NoMemory>
     ensures { IfOk result (λ v. v ≡ record { kind = kind_of atom.now; atoms = atom.now ∷ [] }) }
 {
@@ -257,7 +239,7 @@ fn single(alloc: Global, atom: &Atom) -> Result<Vector, NoMemory>
     Ok(vector)
 }
 
-// An atom, so many times.
+// A column of `n` equal atoms.
 fn spread_atom(alloc: Global, atom: &Atom, n: usize) -> Result<Vector, NoMemory>
     ensures { IfOk result (λ v. v ≡ record { kind = kind_of atom.now; atoms = replicate n atom.now }) }
 {
@@ -265,11 +247,12 @@ fn spread_atom(alloc: Global, atom: &Atom, n: usize) -> Result<Vector, NoMemory>
     if n == 1 {
         return Ok(one);
     }
-    let places = vec![in alloc; 0usize; n]?;
-    let spread = one.gather(alloc, &places)?;
+    let indices = vec![in alloc; 0usize; n]?;
+    let spread = one.gather(alloc, &indices)?;
     Ok(spread)
 }
 
+// An item as a column of `n` rows.
 fn spread(alloc: Global, item: &Value, n: usize) -> Result<Vector, NoMemory>
     ensures { IfOk result (λ v. v ≡ spread n (tree item.now)) }
 {
@@ -285,7 +268,7 @@ fn spread(alloc: Global, item: &Value, n: usize) -> Result<Vector, NoMemory>
     }
 }
 
-/// The items as columns of so many rows.
+/// The items as columns of `n` rows.
 pub fn spread_all(
     alloc: Global,
     n: usize,

@@ -1,4 +1,4 @@
-//! What becomes of an update.
+//! Judges updates: the first refusal that holds, or the update as it may be logged.
 ghost use Rattle.std.specs.Prelude.{◌≡◌, ◌<◌, ◌≤◌, ◌+◌, ℕ, [], ◌∷◌, length, map, Some, None, slice_get, MatchOption, IfOk};
 ghost use Rattle.q_values.specs.Tree.{tree, trees};
 ghost use Rattle.q_values.specs.Limits.{AreLimits};
@@ -12,26 +12,23 @@ ghost use Rattle.plant_core.specs.Turns.{IsRefusal, Rules, RulesItems, FindsTabl
 ghost use Rattle.plant_core.specs.Verdict.{is_next_day, is_past_next_day, table_from, refuses};
 
 use crate::items::{
-    are_even, count_atoms, has_long_symbol, is_of_kind, spread_all, time_beside, vector_length,
-    wrong_column,
+    count_atoms, has_long_symbol, have_matching_lengths, is_of_kind, spread_all, time_beside,
+    vector_length, wrong_column,
 };
 use crate::refusal::UpdRefusal;
 use crate::request::UpdRequest;
 use day_rows::{Entry, Kinds, Schema};
-use q_values::{Kind, Limits, Sym, Value};
+use q_values::{Kind, Limits, NANOSECONDS_PER_DAY, Sym, Value};
 use std::alloc::Global;
 
-/// The nanoseconds of a day.
-const DAY: i64 = 86_400_000_000_000;
-
-/// What an update is judged by beside what it says.
+/// What an update is judged by, besides the request itself.
 #[derive(Clone, Copy)]
 pub struct Standing {
     /// The number of the pass that asks.
     pub by: u64,
     /// The open date.
     pub date: i32,
-    /// The rows of the open date.
+    /// The number of rows of the open date.
     pub rows: u64,
     /// The moment, in nanoseconds since 2000.01.01.
     pub moment: i64,
@@ -40,23 +37,23 @@ pub struct Standing {
 /// An update that may be logged.
 #[derive(Drop)]
 pub struct Judged {
-    /// Whether the next date begins with it.
+    /// Whether it is the first of the next date, so that a roll is due before it.
     pub rolls: bool,
-    /// Its entry.
+    /// Its entry, an `Upd`.
     pub update: Entry,
 }
 
-/// Whether the moment lies in the day behind the date.
-pub fn is_next_day(date: &i32, now: &i64) -> bool
-    ensures { result ≡ is_next_day date.now now.now }
+/// Whether the moment lies in the day after the date. `now` is in nanoseconds since 2000.01.01.
+pub fn is_next_day(date: i32, now: i64) -> bool
+    ensures { result ≡ is_next_day date now }
 {
-    now.div_euclid(DAY) == i64::from(*date) + 1
+    now.div_euclid(NANOSECONDS_PER_DAY) == i64::from(date) + 1
 }
 
-fn is_past_next_day(date: &i32, now: &i64) -> bool
-    ensures { result ≡ is_past_next_day date.now now.now }
+fn is_past_next_day(date: i32, now: i64) -> bool
+    ensures { result ≡ is_past_next_day date now }
 {
-    now.div_euclid(DAY) > i64::from(*date) + 1
+    now.div_euclid(NANOSECONDS_PER_DAY) > i64::from(date) + 1
 }
 
 fn is_beyond(limits: &Limits, rows: u64, first: &Value, others: &[Value]) -> bool
@@ -70,7 +67,7 @@ fn is_beyond(limits: &Limits, rows: u64, first: &Value, others: &[Value]) -> boo
     rows > limits.day_rows || more > limits.day_rows - rows
 }
 
-// The update that items make, which begin with the time; or the first refusal.
+// The update that the items make, or the first refusal. The first item is the time.
 fn judge_items(
     alloc: Global,
     limits: &Limits,
@@ -85,7 +82,7 @@ fn judge_items(
     ensures { RulesItems limits.now standing.now.by standing.now.date standing.now.rows standing.now.moment
         table kinds.now (tree first.now ∷ map tree others.now) result }
 {
-    if !are_even(kinds.len(), first, others) {
+    if !have_matching_lengths(kinds.len(), first, others) {
         return Err(UpdRefusal::Length);
     }
     if let Some(column) = wrong_column(kinds, first, others) {
@@ -93,10 +90,10 @@ fn judge_items(
             column: column as u32,
         });
     }
-    if is_past_next_day(&standing.date, &standing.moment) {
+    if is_past_next_day(standing.date, standing.moment) {
         return Err(UpdRefusal::MoreThanOneDay);
     }
-    let rolls = is_next_day(&standing.date, &standing.moment);
+    let rolls = is_next_day(standing.date, standing.moment);
     let rows = if rolls { 0 } else { standing.rows };
     if is_beyond(limits, rows, first, others) {
         return Err(UpdRefusal::Limit);
@@ -112,7 +109,7 @@ fn judge_items(
     })
 }
 
-// The update that items make, which may want the time; or the first refusal.
+// The update that the items make, or the first refusal. The time is prepended where the first item is no timespan.
 fn judge_timed(
     alloc: Global,
     limits: &Limits,
@@ -132,7 +129,7 @@ fn judge_timed(
             if is_of_kind(first, Kind::Timespan) {
                 return judge_items(alloc, limits, standing, table, kinds, first, others);
             }
-            let time = standing.moment.rem_euclid(DAY);
+            let time = standing.moment.rem_euclid(NANOSECONDS_PER_DAY);
             let time = time_beside(alloc, time, vector_length(first))?;
             judge_items(alloc, limits, standing, table, kinds, &time, items)
         }
@@ -145,18 +142,19 @@ fn has_name(name: &Sym, other: &Sym) -> bool
     name.bytes() == other.bytes()
 }
 
-// The place of the table of this name.
+// The index of the table with this name.
 fn table_of(schema: &Schema, name: &Sym) -> Option<usize>
     ensures { FindsTable schema.now name.now result }
 {
-    for place in 0..schema.len() {
-        if has_name(&schema.at(place).table, name) {
-            return Some(place);
+    for i in 0..schema.len() {
+        if has_name(&schema.at(i).table, name) {
+            return Some(i);
         }
     }
     None
 }
 
+// The refusal that names the missing table, or `NoMemory` where its name can't be copied.
 fn no_table(alloc: Global, name: &Sym) -> UpdRefusal
     ensures { IsRefusal (refuses (UpdRefusal.NoTable name.now)) result }
 {
@@ -166,7 +164,7 @@ fn no_table(alloc: Global, name: &Sym) -> UpdRefusal
     }
 }
 
-/// The update that is asked for, as it may be logged; or the first refusal.
+/// The requested update, as it may be logged, or the first refusal.
 pub fn judge(
     alloc: Global,
     schema: &Schema,
@@ -178,10 +176,10 @@ pub fn judge(
     ensures { Rules schema.now limits.now standing.now.by standing.now.date standing.now.rows
         request.now.table (trees request.now.items) standing.now.moment result }
 {
-    let Some(place) = table_of(schema, &request.table) else {
+    let Some(table) = table_of(schema, &request.table) else {
         return Err(no_table(alloc, &request.table));
     };
-    let kinds = schema.at(place).kinds.as_slice();
+    let kinds = schema.at(table).kinds.as_slice();
     let items = request.items.as_slice();
-    judge_timed(alloc, limits, standing, place as u32, kinds, items)
+    judge_timed(alloc, limits, standing, table as u32, kinds, items)
 }

@@ -1,7 +1,7 @@
 //! What holds of every chronicle.
 ghost use Rattle.plant_core.specs.Laws.{ViewIsItsDates};
 
-/// What a snapshot shows date by date is, in the order of its dates, the whole view of a table.
+/// What a snapshot shows of a table, date by date in the order of its dates, is the whole view of the table.
 pub fn view_is_its_dates()
     ensures { ViewIsItsDates }
 {}

@@ -1,11 +1,12 @@
-//! A plant: one list of updates and rolls, which grows at its end alone.
-ghost use Rattle.std.specs.Prelude.{◌≡◌, ◌<◌, ◌≤◌, ◌+◌, ◌^◌, ◌<ℤ◌, ◌≤ℤ◌, ◌+ℤ◌, pos, negsuc, true, false, if◌then◌else◌, [], ◌∷◌, ◌++◌, length, IfOk, IfErr, OnOk, OnErr};
+//! A plant: one list of updates and rolls, to which entries are only ever appended.
+ghost use Rattle.std.specs.Prelude.{◌≡◌, ◌<◌, ◌≤◌, ◌+◌, ◌^◌, ◌<ℤ◌, ◌≤ℤ◌, ◌+ℤ◌, pos, negsuc, true, false, if◌then◌else◌};
+ghost use Rattle.std.specs.Prelude.{[], ◌∷◌, ◌++◌, length, IfOk, IfErr, OnOk, OnErr};
 ghost use Rattle.std.specs.List.{AllByRecursion};
 ghost use Rattle.q_values.specs.Limits.{AreLimits};
 ghost use Rattle.q_values.specs.Tree.{trees};
 ghost use Rattle.day_rows.specs.Chronicle.{date_of};
 ghost use Rattle.day_rows.specs.Day.{IsUpdate, opened_of, entry_rows, total_rows};
-ghost use Rattle.plant_core.specs.Chronicle.{by_of, today, top_by, place_behind_roll};
+ghost use Rattle.plant_core.specs.Chronicle.{by_of, today, top_by, index_after_roll};
 ghost use Rattle.plant_core.specs.Plant.{Adds, Prepares, due, kinds_of, next_roll};
 ghost use Rattle.plant_core.specs.Turns.{IsRefusal};
 ghost use Rattle.plant_core.specs.Verdict.{verdict};
@@ -15,20 +16,23 @@ use crate::judge::{Judged, Standing, judge};
 use crate::prepared::{Prepared, PreparedRoll, entry_of, sole};
 use crate::refusal::UpdRefusal;
 use crate::request::UpdRequest;
+use crate::snapshot::Snapshot;
 use day_rows::{Entries, OpenDay, Schema};
 use q_values::{Limits, NoMemory};
 use std::alloc::Global;
 use std::marker::Model;
-use std::snapshot::Snapshot;
 
-/// The length of a chronicle from which on nothing more is prepared. No run meets it.
-const MOST: u64 = 9_223_372_036_854_775_808;
+/// The number of entries from which on nothing more is prepared. No run reaches it.
+const LONGEST_CHRONICLE: u64 = 9_223_372_036_854_775_808;
 
 /// A plant in memory (KX, tick.q and r.q). Contracts see its frame, which no call changes, and its chronicle.
 #[derive(Drop)]
 pub struct Plant {
+    /// The tables.
     pub(crate) schema: Schema,
+    /// The limits that updates are judged by.
     pub(crate) limits: Limits,
+    /// The chronicle, kept date by date; its columns are of the schema's kinds.
     pub(crate) history: History,
 }
 
@@ -88,9 +92,9 @@ impl Plant {
         self.history.length()
     }
 
-    /// The place behind the last roll, or 0 where there is none.
+    /// The index of the first entry after the last roll, or 0 where there is no roll.
     pub fn opened_at(&self) -> u64
-        ensures { result ≡ place_behind_roll self.now.entries }
+        ensures { result ≡ index_after_roll self.now.entries }
     {
         self.history.opened_at()
     }
@@ -110,7 +114,7 @@ impl Plant {
         self.limits
     }
 
-    // The date behind the open one, with room for the entries.
+    // The date after the open one, with room for the entries.
     fn begun(&self, alloc: Global, entries: &Entries) -> Result<OpenDay, NoMemory>
         requires date { date_of self.now.frame.first self.now.entries <ℤ pos 106751 }
         requires updates { AllByRecursion (IsUpdate (kinds_of self.now.frame.schema)) entries.now }
@@ -118,12 +122,12 @@ impl Plant {
         ensures { IfOk result (λ fresh. fresh ≡ opened_of (date_of self.now.frame.first self.now.entries +ℤ pos 1)
             (kinds_of self.now.frame.schema) [] entries.now) }
     {
-        let mut fresh = OpenDay::new(alloc, &self.schema, next_date(&self.history.date()))?;
+        let mut fresh = OpenDay::new(alloc, &self.schema, next_date(self.history.date()))?;
         fresh.reserve(entries)?;
         Ok(fresh)
     }
 
-    // Room for an update that may be logged.
+    // Makes room for an update that may be logged: in the open date, or in a next one where a roll is due.
     fn make_room(&mut self, alloc: Global, by: u64, judged: Judged) -> Result<Prepared, NoMemory>
         requires few { length self.old.entries < 2 ^ 63 }
         requires by { by + 1 < 2 ^ 64 }
@@ -141,7 +145,7 @@ impl Plant {
         ensures after { OnOk result (self.new ≡ record self.old { room = if judged.rolls then self.old.room else judged.update ∷ [] }) }
         ensures err { OnErr result (self.new ≡ self.old) }
     {
-        let of = Snapshot::of(&*self);
+        let of = std::snapshot::Snapshot::of(&*self);
         let Judged { rolls, update } = judged;
         let entries = sole(alloc, update)?;
         let mut fresh = None;
@@ -159,7 +163,8 @@ impl Plant {
         })
     }
 
-    /// Judges an update, and makes room for it. The chronicle is as before. `now` is in nanoseconds since 2000.01.01.
+    /// Judges an update of the pass `by`, and makes room for it. The chronicle stays as it is; an error changes nothing.
+    /// `now` is in nanoseconds since 2000.01.01.
     pub fn prepare(
         &mut self,
         alloc: Global,
@@ -173,7 +178,7 @@ impl Plant {
             IsRefusal (verdict self.old.frame by self.old.entries request.now.table (trees request.now.items) now) why) }
         ensures err { OnErr result (self.new ≡ self.old) }
     {
-        if self.history.length() >= MOST {
+        if self.history.length() >= LONGEST_CHRONICLE {
             return Err(UpdRefusal::NoMemory);
         }
         let standing = Standing {
@@ -182,34 +187,29 @@ impl Plant {
             rows: self.history.rows(),
             moment: now,
         };
-        match judge(alloc, &self.schema, &self.limits, &standing, request) {
-            Ok(judged) => match self.make_room(alloc, by, judged) {
-                Ok(update) => Ok(update),
-                Err(_) => Err(UpdRefusal::NoMemory),
-            },
-            Err(why) => Err(why),
-        }
+        let judged = judge(alloc, &self.schema, &self.limits, &standing, request)?;
+        Ok(self.make_room(alloc, by, judged)?)
     }
 
-    /// Makes ready the end of the open date. The chronicle is as before.
+    /// Prepares the end of the open date by the pass `by`. The chronicle stays as it is.
     pub fn prepare_roll(&mut self, alloc: Global, by: u64) -> Result<PreparedRoll, NoMemory>
         requires by { by + 1 < 2 ^ 64 }
         requires date { date_of self.old.frame.first self.old.entries <ℤ pos 106751 }
         ensures ok { IfOk result (λ roll. roll ≡ record { frame = self.old.frame; entries = self.old.entries; by = by }) }
         ensures unchanged { self.new ≡ self.old }
     {
-        if self.history.length() >= MOST {
+        if self.history.length() >= LONGEST_CHRONICLE {
             return Err(NoMemory);
         }
         let next = self.history.rolled(alloc, &self.schema, by)?;
         Ok(PreparedRoll {
-            of: Snapshot::of(&*self),
+            of: std::snapshot::Snapshot::of(&*self),
             by,
             next,
         })
     }
 
-    /// Ends the open date, and answers the place of the roll. The chronicle has gained nothing since the roll was
+    /// Ends the open date, and returns the index of the roll's entry. The chronicle has gained nothing since the roll was
     /// prepared. It takes no memory.
     pub fn commit_roll(&mut self, roll: PreparedRoll) -> u64
         requires frame { roll.frame ≡ self.old.frame }
@@ -226,11 +226,11 @@ impl Plant {
         place
     }
 
-    /// Logs an update, and answers its place. Since it was prepared no other was, and the chronicle has gained just the
-    /// roll that was due, or nothing where none was. It takes no memory.
+    /// Logs an update, and returns the index of its entry. Since it was prepared, no other update was, and the chronicle has
+    /// gained exactly the roll that was due, or nothing where none was. It takes no memory.
     pub fn commit(&mut self, update: Prepared) -> u64
         requires frame { update.frame ≡ self.old.frame }
-        requires behind { self.old.entries ≡ update.entries ++ due update }
+        requires follows { self.old.entries ≡ update.entries ++ due update }
         requires room { update.rolls ≡ false → self.old.room ≡ update.entry ∷ [] }
         ensures place { result ≡ length self.old.entries }
         ensures after { self.new ≡ record self.old {
@@ -250,7 +250,7 @@ impl Plant {
         place
     }
 
-    // Logs an update for which there is room: the places of its roll, where one is due, and of its entry.
+    // Logs a prepared update, after the roll where one is due, and returns the indices of the roll and of the update.
     pub(crate) fn log(
         &mut self,
         alloc: Global,
@@ -274,11 +274,11 @@ impl Plant {
     }
 
     /// The whole chronicle as it is now. It shares the dates that have ended: no row of them is copied.
-    pub fn snapshot(&self, alloc: Global) -> Result<crate::snapshot::Snapshot, NoMemory>
+    pub fn snapshot(&self, alloc: Global) -> Result<Snapshot, NoMemory>
         ensures { IfOk result (λ s. s ≡ record { frame = self.now.frame; entries = self.now.entries }) }
     {
-        Ok(crate::snapshot::Snapshot {
-            schema: Snapshot::of(&self.schema),
+        Ok(Snapshot {
+            schema: std::snapshot::Snapshot::of(&self.schema),
             limits: self.limits,
             history: self.history.copy(alloc)?,
         })

@@ -1,4 +1,4 @@
-//! What is made ready before a plant changes, so that the change itself takes no memory and can't fail.
+//! What is prepared before a plant changes, so that the change itself takes no memory and can't fail.
 ghost use Rattle.std.specs.Prelude.{◌≡◌, ◌+◌, ◌<◌, [], ◌∷◌, length, IfOk};
 
 use crate::history::History;
@@ -12,9 +12,13 @@ use std::snapshot::Snapshot;
 /// An update that may be logged, and the room for it.
 #[derive(Drop)]
 pub struct Prepared {
+    /// The plant as it was when the update was prepared; takes no memory.
     pub(crate) of: Snapshot<Plant>,
+    /// The number of the pass that asked for the update.
     pub(crate) by: u64,
+    /// The entry to log.
     pub(crate) entry: Entry,
+    /// Where a roll is due before the update: the next date, with room for the entry.
     pub(crate) fresh: Option<OpenDay>,
 }
 
@@ -30,7 +34,7 @@ impl Model for Prepared {
 }
 
 impl Prepared {
-    /// Whether the open date ends before the update: the moment lies in the next one.
+    /// Whether the open date ends before the update, since the update's moment lies in the next one.
     pub fn rolls(&self) -> bool
         ensures { result ≡ self.now.rolls }
     {
@@ -38,11 +42,14 @@ impl Prepared {
     }
 }
 
-/// The end of the open date, and the dates as they are behind it.
+/// The end of the open date, and the dates as they are after it.
 #[derive(Drop)]
 pub struct PreparedRoll {
+    /// The plant as it was when the roll was prepared; takes no memory.
     pub(crate) of: Snapshot<Plant>,
+    /// The number of the pass that asked for the roll.
     pub(crate) by: u64,
+    /// The dates after the roll.
     pub(crate) next: History,
 }
 

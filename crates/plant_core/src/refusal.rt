@@ -6,15 +6,18 @@ use q_values::{NoMemory, Sym};
 pub enum UpdRefusal {
     /// The schema has no table of this name.
     NoTable(Sym),
-    /// The items are not as many as the table's columns, or not of one length.
+    /// There are more or fewer items than the table has columns, or their lengths differ.
     Length,
-    /// The item of this column has another kind, or is neither atom nor vector. The column of the time counts.
-    WrongType { column: u32 },
-    /// The date of the moment is two or more days behind the open date.
+    /// An item has another kind than its column, or is neither an atom nor a vector.
+    WrongType {
+        /// The index of the column; that of the time counts.
+        column: u32,
+    },
+    /// The moment's date is two or more days after the open date.
     MoreThanOneDay,
     /// A symbol is longer than the limit, or the date would have more rows than the limit.
     Limit,
-    /// Memory was wanting.
+    /// Out of memory.
     NoMemory,
 }
 

@@ -1,11 +1,12 @@
-//! What an update asks for.
+//! What a client asks to log.
 use q_values::{Sym, Values};
 
-/// An update that is asked for: a table's name, and an item for each of its columns, but that the time may be left out.
+/// A request to log rows: a table's name, and an item for each of its columns. The time, which is the first, may be left
+/// out.
 #[derive(Drop)]
 pub struct UpdRequest {
     /// The table's name.
     pub table: Sym,
-    /// Atoms, and vectors of one length.
+    /// The items: atoms, and vectors that must all have one length.
     pub items: Values,
 }

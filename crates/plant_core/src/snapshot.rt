@@ -1,4 +1,4 @@
-//! Snapshots of a plant.
+//! Snapshots of a plant, which queries read.
 ghost use Rattle.std.specs.Prelude.{◌≡◌, ◌<◌, ◌≤◌, ◌+◌, length, take, drop, IfOk};
 ghost use Rattle.q_values.specs.declared.kind.Kind.{Kind};
 ghost use Rattle.day_rows.specs.Rows.{column_of};
@@ -15,8 +15,11 @@ use std::marker::Model;
 /// The whole chronicle of a plant, as it was at one moment. It shares the dates that had ended.
 #[derive(Drop)]
 pub struct Snapshot {
+    /// The plant's schema, for contracts alone; takes no memory.
     pub(crate) schema: std::snapshot::Snapshot<Schema>,
+    /// The plant's limits.
     pub(crate) limits: Limits,
+    /// The dates; the ended ones are shared with the plant, the open one is a copy.
     pub(crate) history: History,
 }
 
@@ -46,7 +49,7 @@ impl Snapshot {
         self.history.dates()
     }
 
-    /// The date at a place, in days since 2000.01.01.
+    /// The date with the index `k`, in days since 2000.01.01.
     pub fn date_at(&self, k: usize) -> i32
         requires { k < length (dates_of self.now.frame.first self.now.entries) }
         ensures { result ≡ date_at self.now.frame.first self.now.entries k }
@@ -54,7 +57,7 @@ impl Snapshot {
         self.history.date_at(k)
     }
 
-    /// The number of a table's rows on the date at a place.
+    /// The number of a table's rows on the date with the index `k`.
     pub fn rows_at(&self, k: usize, table: u32) -> u32
         requires date { k < length (dates_of self.now.frame.first self.now.entries) }
         requires table { table < length self.now.frame.schema }
@@ -70,7 +73,7 @@ impl Snapshot {
         self.history.updates_today()
     }
 
-    /// The `n` atoms from the place `from` on of a table's column on the date at the place `k`, in the documented order
+    /// The `n` atoms of a table's column from the row `from` on, on the date with the index `k`, in the documented order
     /// (KX, partitioned tables).
     pub fn column(
         &self,

@@ -17,10 +17,15 @@ use std::sync::Wait;
 /// A plant, and the one pass that makes its entries.
 #[derive(Drop)]
 pub struct Solo {
+    // the plant, to which nobody else has access
     plant: Plant,
+    // the number of the pass; it and its successor fit 64 bits
     by: u64,
+    // the number of entries that the plant had when the pass began
     began: u64,
+    // how often a snapshot was asked for; saturates
     snapshots: u64,
+    // how often `tick` was called; saturates
     ticks: u64,
 }
 
@@ -35,7 +40,7 @@ impl Model for Solo {
 }
 
 impl Solo {
-    /// The pass with the plant's next number, which has seen its chronicle.
+    /// The pass with the plant's next number. It has seen the plant's whole chronicle, and takes no memory.
     pub fn new(plant: Plant) -> Solo
         requires { top_by plant.entries + 2 < 2 ^ 64 }
         ensures { result ≡ record {
@@ -86,7 +91,7 @@ impl Access for Solo {
 
     fn tick<R: Wait>(&mut self, _rt: &R, alloc: Global, now: i64) -> TickTurn {
         self.ticks = self.ticks.saturating_add(1);
-        if !is_next_day(&self.plant.date(), &now) {
+        if !is_next_day(self.plant.date(), now) {
             return TickTurn::Quiet {
                 length: self.plant.length(),
             };

@@ -1,3 +1,4 @@
+pub mod KindNames
 pub mod Recursion
 pub mod Shapes
 pub mod Words

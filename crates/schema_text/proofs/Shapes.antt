@@ -16,7 +16,7 @@ use Rattle.day_rows.specs.declared.schema.Shape.{Shape}
 use Rattle.day_rows.proofs.DayLemmas.{all-append}
 use Rattle.day_rows.proofs.Sorting.{all_weaker, all-inserted, rises-inserted, IsPermutation-inserted}
 use Rattle.schema_text.specs.Growing.{IsGrowing}
-use Rattle.schema_text.specs.Places.{below_count}
+use Rattle.schema_text.specs.Positions.{below_count}
 use Rattle.schema_text.specs.Reading.{is_first_names, is_first_kinds}
 use Rattle.schema_text.proofs.Words.{apart-from_list_any, list_any-mapped}
 

@@ -1,10 +1,11 @@
--- A table whose columns have been read so far.
+-- A table of which some columns have been read.
 use Rattle.std.specs.Prelude.{◌≡◌, ◌≢◌, ◌≤◌, length}
 use Rattle.std.specs.List.{AllByRecursion}
 use Rattle.q_values.specs.declared.kind.Kind.TheVariants as k
 use Rattle.day_rows.specs.Schema.{IsName, AreDistinct}
 use Rattle.day_rows.specs.declared.schema.Shape.{Shape}
 
+-- all that holds of a table, but that its first columns are `time` and `sym`
 pub record IsGrowing (shape : Shape) : Type 0 where
   pub table : IsName shape.table
   pub names : AllByRecursion IsName shape.names

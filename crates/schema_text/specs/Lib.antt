@@ -1,4 +1,4 @@
 pub mod Growing
-pub mod Places
+pub mod Positions
 pub mod Reading
 pub mod Tokens

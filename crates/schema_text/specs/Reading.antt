@@ -1,10 +1,12 @@
 -- Reading a schema text from left to right, with the first refusal that is met.
-use Rattle.std.specs.Prelude.{◌≡◌, ℕ, zero, suc, ◌+◌, ◌||◌, ◌&&◌, Bool, true, false, nat_le, nat_lt, if◌then◌else◌, List, [], ◌∷◌, ◌++◌, length, map, Option, Some, None, Result, Ok, Err, slice_get, codes}
+use Rattle.std.specs.Prelude.{◌≡◌, ℕ, zero, suc, ◌+◌, ◌||◌, ◌&&◌, Bool, true, false, nat_le, nat_lt, if◌then◌else◌, List, [], ◌∷◌, ◌++◌, length, map}
+use Rattle.std.specs.Prelude.{Option, Some, None, Result, Ok, Err, slice_get, codes}
 use Rattle.std.specs.List.{list_any}
 use Rattle.std.specs.Str.{bytes_eq}
 use Rattle.q_values.specs.declared.kind.Kind.{Kind}
 use Rattle.q_values.specs.declared.kind.Kind.TheVariants as k
-use Rattle.day_rows.specs.Schema.{is_reserved, by_name, clause_words, dyad_words, monad_words}
+use Rattle.q_words.specs.Words.{is_reserved}
+use Rattle.day_rows.specs.Schema.{by_name}
 use Rattle.day_rows.specs.Sorted.{inserted}
 use Rattle.day_rows.specs.declared.schema.Shape.{Shape}
 use Rattle.schema_text.specs.Tokens.{part, first_part, sign_at, word_at, is_sign, is_end}
@@ -16,7 +18,7 @@ abbrev pub ◌>>=◌ : {A B : Type 0} → Result A SchemaRefusal → (A → Resu
 (Ok x) >>= f = f x
 (Err e) >>= f = Err e
 
--- a refusal is the one that reading gives, unless memory ran out
+-- a refusal is the one that reading gives, unless it is out of memory
 abbrev pub Refuses : {Y : Type 0} → SchemaRefusal → Result Y SchemaRefusal → Type 0
 Refuses (r.Parse at) read = read ≡ Err (r.Parse at)
 Refuses (r.BadKind at) read = read ≡ Err (r.BadKind at)
@@ -26,83 +28,63 @@ Refuses (r.Reserved name) read = read ≡ Err (r.Reserved name)
 Refuses r.Limit read = read ≡ Err r.Limit
 Refuses r.NoMemory read = Unit {0}
 
--- what a function returned, seen by view, is what reading gives, unless memory ran out
+-- what a function returned, seen by `view`, is what reading gives, unless it is out of memory
 abbrev pub Gives : {X Y : Type 0} → (X → Y) → Result X SchemaRefusal → Result Y SchemaRefusal → Type 0
 Gives view (Ok x) read = read ≡ Ok (view x)
 Gives view (Err e) read = Refuses e read
 
--- the words of the query language
-abbrev pub is_clause_word : List ℕ → Bool
-is_clause_word name = list_any (bytes_eq name) clause_words
-
-abbrev pub is_dyad_word : List ℕ → Bool
-is_dyad_word name = list_any (bytes_eq name) dyad_words
-
-abbrev pub is_monad_word : List ℕ → Bool
-is_monad_word name = list_any (bytes_eq name) monad_words
-
--- a new name, where it is known or so many names are: not known, not reserved, and within the limits
+-- a new name, where `known` says whether there is one like it already, and `count` how many there are
 abbrev pub judged_by : Bool → ℕ → ℕ → List ℕ → Result (List ℕ) SchemaRefusal
 judged_by known count most name =
-    if known then Err (r.Twice name) else (if is_reserved name then Err (r.Reserved name) else (if nat_le most count || nat_lt 64 (length name) then Err r.Limit else Ok name))
+    if known then Err (r.Twice name)
+    else (if is_reserved name then Err (r.Reserved name)
+    else (if nat_le most count || nat_lt 64 (length name) then Err r.Limit
+    else Ok name))
 
--- a new name, which is to differ from earlier ones
+-- a new name, which must differ from earlier ones
 abbrev pub judged : List (List ℕ) → ℕ → List ℕ → Result (List ℕ) SchemaRefusal
 judged earlier most name = judged_by (list_any (bytes_eq name) earlier) (length earlier) most name
 
--- a new name and the place behind it
+-- a new name, and the offset after it
 unfoldable pub name_at : List (List ℕ) → ℕ → List ℕ → ℕ → Result (List ℕ × ℕ) SchemaRefusal
 name_at earlier most text at = do
   word ← word_at text at
   name ← judged earlier most word.0
   Ok (name, word.2)
 
--- the kinds that a column may have
-abbrev pub whole_kind : List ℕ → Option Kind
-whole_kind name =
-    if bytes_eq name (codes "boolean") then Some k.Boolean
-    else (if bytes_eq name (codes "byte") then Some k.Byte
-    else (if bytes_eq name (codes "short") then Some k.Short
-    else (if bytes_eq name (codes "int") then Some k.Integer
-    else (if bytes_eq name (codes "long") then Some k.Long
-    else (if bytes_eq name (codes "symbol") then Some k.Symbol
-    else None)))))
+-- the kinds that a column may have, each with its name (KX, Datatypes reference)
+abbrev pub kind_names : List (List ℕ × Kind)
+kind_names =
+    (codes "boolean", k.Boolean) ∷ (codes "byte", k.Byte) ∷ (codes "short", k.Short) ∷ (codes "int", k.Integer) ∷ (codes "long", k.Long)
+    ∷ (codes "symbol", k.Symbol) ∷ (codes "timestamp", k.Timestamp) ∷ (codes "month", k.Month) ∷ (codes "date", k.Date)
+    ∷ (codes "timespan", k.Timespan) ∷ (codes "minute", k.Minute) ∷ (codes "second", k.Second) ∷ (codes "time", k.Time) ∷ []
 
-abbrev pub temporal_kind : List ℕ → Option Kind
-temporal_kind name =
-    if bytes_eq name (codes "timestamp") then Some k.Timestamp
-    else (if bytes_eq name (codes "month") then Some k.Month
-    else (if bytes_eq name (codes "date") then Some k.Date
-    else (if bytes_eq name (codes "timespan") then Some k.Timespan
-    else (if bytes_eq name (codes "minute") then Some k.Minute
-    else (if bytes_eq name (codes "second") then Some k.Second
-    else (if bytes_eq name (codes "time") then Some k.Time
-    else None))))))
+-- the first kind of a list with this name
+abbrev pub kind_in : List (List ℕ × Kind) → List ℕ → Option Kind
+kind_in [] name = None
+kind_in (entry ∷ entries) name = if bytes_eq name entry.0 then Some entry.1 else kind_in entries name
 
-abbrev pub either_kind : Option Kind → Option Kind → Option Kind
-either_kind (Some kind) other = Some kind
-either_kind None other = other
-
-abbrev pub kind_named : List ℕ → Option Kind
-kind_named name = either_kind (whole_kind name) (temporal_kind name)
+-- the kind with this name
+unfoldable pub kind_named : List ℕ → Option Kind
+kind_named name = kind_in kind_names name
 
 abbrev pub kind_or : Option Kind → ℕ → ℕ → Result (Kind × ℕ) SchemaRefusal
-kind_or None place end = Err (r.BadKind place)
-kind_or (Some kind) place end = Ok (kind, end)
+kind_or None start end = Err (r.BadKind start)
+kind_or (Some kind) start end = Ok (kind, end)
 
--- a kind and the place behind its name
+-- a kind, and the offset after its name
 unfoldable pub kind_at : List ℕ → ℕ → Result (Kind × ℕ) SchemaRefusal
 kind_at text at = do
   word ← word_at text at
   kind_or (kind_named word.0) word.1 word.2
 
--- the place behind the attribute `g#, where it is the next part
-abbrev pub behind_attribute : List ℕ → ℕ → ℕ
-behind_attribute text at =
+-- the offset after the attribute `g#, where it comes next; else the offset itself
+abbrev pub past_attribute : List ℕ → ℕ → ℕ
+past_attribute text at =
     if is_sign 96 (slice_get text (part text at)) && (is_sign 103 (slice_get text (part text at + 1)) && is_sign 35 (slice_get text (part text at + 2)))
     then part text at + 3 else at
 
--- a kind with what stands around it: "`" kind "$" "(" ")"
+-- an empty list of a kind: "`" kind "$" "(" ")"
 unfoldable pub typed_at : List ℕ → ℕ → Result (Kind × ℕ) SchemaRefusal
 typed_at text at = do
   tick ← sign_at 96 text at
@@ -112,21 +94,21 @@ typed_at text at = do
   right ← sign_at 41 text left
   Ok (kind.0, right)
 
--- a column more: its name, ":", and its kind
+-- one more column: its name, ":", and its kind
 unfoldable pub column_at : Shape → List ℕ → ℕ → Result (Shape × ℕ) SchemaRefusal
 column_at shape text at = do
   name ← name_at shape.names 48 text at
   colon ← sign_at 58 text name.1
-  kind ← typed_at text (behind_attribute text colon)
+  kind ← typed_at text (past_attribute text colon)
   Ok (record shape { names = shape.names ++ name.0 ∷ []; kinds = shape.kinds ++ kind.0 ∷ [] }, kind.1)
 
--- columns, where the closing bracket is the next part
+-- the columns, where the closing parenthesis must be the next token
 unfoldable pub closed_at : Shape → List ℕ → ℕ → Result (Shape × ℕ) SchemaRefusal
 closed_at shape text at = do
   end ← sign_at 41 text at
   Ok (shape, end)
 
--- columns with ";" between them, and the place behind the closing bracket; at most so many
+-- columns separated by ";", and the offset after the closing parenthesis; at the column after the last `left` the limit is met
 unfoldable pub columns_at : ℕ → Shape → List ℕ → ℕ → Result (Shape × ℕ) SchemaRefusal
 columns_at zero shape text at = Err r.Limit
 columns_at (suc left) shape text at = do
@@ -142,11 +124,11 @@ abbrev pub is_first_names : List (List ℕ) → Bool
 is_first_names (first ∷ (second ∷ names)) = bytes_eq first (codes "time") && bytes_eq second (codes "sym")
 is_first_names names = false
 
--- the place behind a ";", where it is the next part
-abbrev pub behind_semicolon : List ℕ → ℕ → ℕ
-behind_semicolon text at = if is_sign 59 (slice_get text (part text at)) then part text at + 1 else at
+-- the offset after a ";", where it comes next; else the offset itself
+abbrev pub past_semicolon : List ℕ → ℕ → ℕ
+past_semicolon text at = if is_sign 59 (slice_get text (part text at)) then part text at + 1 else at
 
--- what stands before a table's columns: its name and ":" "(" "[" "]"
+-- what precedes a table's columns: its name and ":" "(" "[" "]"
 unfoldable pub head_at : List (List ℕ) → List ℕ → ℕ → Result (List ℕ × ℕ) SchemaRefusal
 head_at earlier text at = do
   name ← name_at earlier 64 text at
@@ -156,24 +138,24 @@ head_at earlier text at = do
   closing ← sign_at 93 text opening
   Ok (name.0, closing)
 
--- a table and the place behind it
+-- a table, and the offset after it
 unfoldable pub table_at : List Shape → List ℕ → ℕ → Result (Shape × ℕ) SchemaRefusal
 table_at tables text at = do
   head ← head_at (map (λ (table : Shape). table.table) tables) text at
   columns ← columns_at 49 (record { table = head.0; names = []; kinds = [] }) text head.1
-  if is_first_names columns.0.names && is_first_kinds columns.0.kinds then Ok (columns.0, behind_semicolon text columns.1) else Err (r.TimeSym head.0)
+  if is_first_names columns.0.names && is_first_kinds columns.0.kinds then Ok (columns.0, past_semicolon text columns.1) else Err (r.TimeSym head.0)
 
 abbrev pub some_tables : List Shape → List ℕ → Result (List Shape) SchemaRefusal
 some_tables [] text = Err (r.Parse (length text))
 some_tables (table ∷ tables) text = Ok (table ∷ tables)
 
--- the tables to the end of the text, put in order of their names; at most so many
+-- the tables up to the end of the text, sorted by name; at the table after the last `left` the limit is met
 unfoldable pub tables_at : ℕ → List Shape → List ℕ → ℕ → Result (List Shape) SchemaRefusal
 tables_at zero tables text at = Err r.Limit
 tables_at (suc left) tables text at =
     if is_end (slice_get text (part text at)) then some_tables tables text
     else (table_at tables text at >>= (λ table. tables_at left (inserted by_name table.0 tables) text table.1))
 
--- the schema that a text spells
+-- the schema that a text describes
 unfoldable pub schema_of : List ℕ → Result (List Shape) SchemaRefusal
 schema_of text = tables_at 65 [] text (first_part text)

@@ -1,34 +1,37 @@
--- The parts of a schema text: blanks and remarks, signs, words.
-use Rattle.std.specs.Prelude.{ℕ, suc, ◌+◌, ◌==◌, ◌||◌, Bool, true, false, if◌then◌else◌, List, [], ◌∷◌, take, drop, Option, Some, None, Result, Ok, Err, slice_get}
+-- The tokens of a schema text: signs and words, with blanks and remarks between them.
+use Rattle.std.specs.Prelude.{ℕ, suc, ◌+◌, ◌==◌, ◌||◌, Bool, true, false, if◌then◌else◌, List, [], ◌∷◌, take, drop}
+use Rattle.std.specs.Prelude.{Option, Some, None, Result, Ok, Err, slice_get}
 use Rattle.day_rows.specs.Schema.{is_letter, is_word}
 use Rattle.schema_text.specs.declared.tokens.Mode.{Mode}
 use Rattle.schema_text.specs.declared.tokens.Mode.TheVariants.{LineStart, Inside, Remark}
 use Rattle.schema_text.specs.declared.refusal.SchemaRefusal.{SchemaRefusal}
 use Rattle.schema_text.specs.declared.refusal.SchemaRefusal.TheVariants.{Parse}
 
--- behind a newline, and behind another blank
-abbrev pub behind_blank : ℕ → Option Mode
-behind_blank b = if b == 10 then Some LineStart else (if b == 32 || (b == 9 || b == 13) then Some Inside else None)
+-- where in a line the byte after this blank is, or None where the byte is no blank
+abbrev pub after_blank : ℕ → Option Mode
+after_blank b = if b == 10 then Some LineStart else (if b == 32 || (b == 9 || b == 13) then Some Inside else None)
 
--- how the text goes on behind a byte that is passed over: a line that begins with `/` is, to its end, and so is a blank
-abbrev pub behind : Mode → ℕ → Option Mode
-behind LineStart b = if b == 47 then Some Remark else behind_blank b
-behind Inside b = behind_blank b
-behind Remark b = if b == 10 then Some LineStart else Some Remark
+-- where in a line the byte after this one is, or None where this one belongs to a token; blanks are skipped, and so is a
+-- line that begins with `/`
+abbrev pub after_byte : Mode → ℕ → Option Mode
+after_byte LineStart b = if b == 47 then Some Remark else after_blank b
+after_byte Inside b = after_blank b
+after_byte Remark b = if b == 10 then Some LineStart else Some Remark
 
 abbrev pub counted : Option Mode → (Mode → ℕ) → ℕ
 counted None more = 0
 counted (Some mode) more = suc (more mode)
 
--- the number of bytes that are passed over before a part
+-- the number of bytes that are skipped before a token
 abbrev pub passed : Mode → List ℕ → ℕ
 passed mode [] = 0
-passed mode (b ∷ bs) = counted (behind mode b) (λ next. passed next bs)
+passed mode (b ∷ bs) = counted (after_byte mode b) (λ next. passed next bs)
 
--- where the first part stands, and the next part behind a place within a line
+-- the offset of the first token
 abbrev pub first_part : List ℕ → ℕ
 first_part text = passed LineStart text
 
+-- the offset of the next token at or after an offset that isn't a line's start
 abbrev pub part : List ℕ → ℕ → ℕ
 part text at = at + passed Inside (drop at text)
 
@@ -36,12 +39,12 @@ abbrev pub is_sign : ℕ → Option ℕ → Bool
 is_sign sign None = false
 is_sign sign (Some b) = b == sign
 
--- whether the text has ended there
+-- whether the text has ended
 abbrev pub is_end : Option ℕ → Bool
 is_end None = true
 is_end (Some b) = false
 
--- the place behind the sign, which is the next part
+-- the offset after the sign, which must be the next token
 abbrev pub sign_at : ℕ → List ℕ → ℕ → Result ℕ SchemaRefusal
 sign_at sign text at = if is_sign sign (slice_get text (part text at)) then Ok (part text at + 1) else Err (Parse (part text at))
 
@@ -53,7 +56,7 @@ abbrev pub word_length : List ℕ → ℕ
 word_length [] = 0
 word_length (b ∷ bs) = if is_word b then suc (word_length bs) else 0
 
--- the word that is the next part, its place and the place behind it
+-- the word that must be the next token, its offset and the offset after it
 abbrev pub word_at : List ℕ → ℕ → Result (List ℕ × ℕ × ℕ) SchemaRefusal
 word_at text at =
     if begins_word (slice_get text (part text at))

@@ -1,14 +1,30 @@
-//! Schema texts: the tables of a plant as q writes empty tables.
+//! Schema texts: the tables of a plant, written as q writes empty tables.
+//!
+//! [`read_schema`] reads a text from left to right and returns a `Schema` of `day_rows`, its tables sorted by name, or a
+//! [`SchemaRefusal`]: the first reason, in the text's order, why the text is not a schema. [`BUILT_IN`] is the text of
+//! the schema that a plant has unless another is given.
+//!
+//! ```text
+//! / a remark: a line that begins with a slash
+//! trade:([]time:`timespan$();sym:`g#`symbol$();price:`long$();size:`long$())
+//! quote:([]time:`timespan$();sym:`symbol$();bid:`long$();ask:`long$());
+//! ```
+//!
+//! reads as the tables `quote` and `trade`. With `price:`float$()` the answer is `BadKind` with the offset of `float`,
+//! since columns of floats aren't built; with a column `date` it is `Reserved`, since queries use that name.
+//!
+//! The files follow the text from the inside out: `tokens` finds signs and words, `names` judges names and kinds,
+//! `columns` reads the columns of a table, and `reading` reads tables up to the end. The grammar is in
+//! `specs/Tokens.antt` and `specs/Reading.antt`, with a function of the same shape for each of these steps.
+//!
+//! It doesn't read values (each list in a schema is empty), doesn't keep the attribute `g#` (rows are sorted when a date
+//! ends), and doesn't write schemas.
 #![tactic(auto)]
 
 mod columns;
-#[cfg(test)]
-mod day_tests;
 mod names;
 mod reading;
 mod refusal;
-#[cfg(test)]
-mod tests;
 mod tokens;
 
 pub use reading::{BUILT_IN, read_schema};

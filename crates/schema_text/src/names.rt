@@ -1,71 +1,24 @@
-//! Names and kinds in a schema text.
+//! The names of tables, columns and kinds in a schema text.
 ghost use Rattle.std.specs.Prelude.{◌≡◌, ◌≢◌, ◌<◌, ◌≤◌, length, map, IfOk, IfErr, IfSome, true, false};
 ghost use Rattle.std.specs.List.{list_any};
 ghost use Rattle.std.specs.Str.{bytes_eq};
 ghost use Rattle.q_values.specs.declared.kind.Kind.TheVariants as k;
-ghost use Rattle.day_rows.specs.Schema.{is_reserved, IsName, IsWord};
-ghost use Rattle.schema_text.specs.Reading.{Gives, judged_by, kind_named, name_at};
+ghost use Rattle.day_rows.specs.Schema.{IsName, IsWord};
+ghost use Rattle.schema_text.specs.Reading.{Gives, judged_by, kind_in, kind_named, name_at};
 ghost use Rattle.schema_text.specs.declared.refusal.SchemaRefusal.TheVariants as r;
 
 use crate::refusal::SchemaRefusal;
-use crate::tokens::word_behind;
+use crate::tokens::read_word;
 use day_rows::Shape;
 use q_values::{Kind, Sym};
+use q_words::is_reserved_name;
 use std::alloc::Global;
 
+/// Whether the texts are equal, byte by byte.
 pub fn is_same(some: &[u8], other: &[u8]) -> bool
     ensures { result ≡ bytes_eq some.now other.now }
 {
     some == other
-}
-
-fn is_clause_word(name: &[u8]) -> bool
-    ensures { result ≡ Rattle.schema_text.specs.Reading.is_clause_word name.now }
-{
-    is_same(name, b"select")
-        || is_same(name, b"exec")
-        || is_same(name, b"by")
-        || is_same(name, b"from")
-        || is_same(name, b"where")
-        || is_same(name, b"aj")
-}
-
-fn is_dyad_word(name: &[u8]) -> bool
-    ensures { result ≡ Rattle.schema_text.specs.Reading.is_dyad_word name.now }
-{
-    is_same(name, b"div")
-        || is_same(name, b"mod")
-        || is_same(name, b"xbar")
-        || is_same(name, b"within")
-        || is_same(name, b"in")
-        || is_same(name, b"like")
-        || is_same(name, b"and")
-        || is_same(name, b"or")
-}
-
-fn is_monad_word(name: &[u8]) -> bool
-    ensures { result ≡ Rattle.schema_text.specs.Reading.is_monad_word name.now }
-{
-    is_same(name, b"not")
-        || is_same(name, b"neg")
-        || is_same(name, b"count")
-        || is_same(name, b"sum")
-        || is_same(name, b"min")
-        || is_same(name, b"max")
-        || is_same(name, b"first")
-        || is_same(name, b"last")
-        || is_same(name, b"distinct")
-}
-
-/// Whether no table and no column may have this name.
-pub fn is_reserved_name(name: &[u8]) -> bool
-    ensures { result ≡ is_reserved name.now }
-{
-    is_clause_word(name)
-        || is_dyad_word(name)
-        || is_monad_word(name)
-        || is_same(name, b"date")
-        || is_same(name, b"i")
 }
 
 fn has_name(names: &[Sym], name: &[u8]) -> bool
@@ -112,7 +65,8 @@ fn sym_of(alloc: Global, bytes: &[u8]) -> Result<Sym, SchemaRefusal>
     }
 }
 
-// A new name, where it is known or so many names are.
+// A new name. `known` says whether there is one like it already, `count` how many names there are, and `most` how many
+// there may be. The errors are, in this order, `Twice`, `Reserved` and `Limit`.
 #[tactic(auto, unfolding(crate::specs::Reading::name_at))]
 fn judge(
     alloc: Global,
@@ -140,7 +94,7 @@ fn judge(
     Ok(name)
 }
 
-/// A new name of a column, and the place behind it.
+/// The name of a column, which must differ from the earlier ones, and the offset after it.
 #[tactic(auto, unfolding(crate::specs::Reading::name_at))]
 pub fn column_name(
     alloc: Global,
@@ -155,13 +109,13 @@ pub fn column_name(
     ensures fresh { IfOk result (λ name. list_any (bytes_eq name.0) names.now ≡ false) }
     ensures few { IfOk result (λ _. length names.now < 48) }
 {
-    let word = word_behind(text, at)?;
+    let word = read_word(text, at)?;
     let known = has_name(names, word.bytes);
     let name = judge(alloc, known, names.len(), 48, word.bytes)?;
     Ok((name, word.end))
 }
 
-/// A new name of a table, and the place behind it.
+/// The name of a table, which must differ from the earlier ones, and the offset after it.
 #[tactic(auto, unfolding(crate::specs::Reading::name_at))]
 pub fn table_name(
     alloc: Global,
@@ -176,61 +130,46 @@ pub fn table_name(
     ensures fresh { IfOk result (λ name. list_any (bytes_eq name.0) (map (λ table. table.table) tables.now) ≡ false) }
     ensures few { IfOk result (λ _. length tables.now < 64) }
 {
-    let word = word_behind(text, at)?;
+    let word = read_word(text, at)?;
     let known = has_table(tables, word.bytes);
     let name = judge(alloc, known, tables.len(), 64, word.bytes)?;
     Ok((name, word.end))
 }
 
-fn whole_kind(name: &[u8]) -> Option<Kind>
-    ensures { result ≡ Rattle.schema_text.specs.Reading.whole_kind name.now }
+// The kinds that a column may have, each with its name.
+const KIND_NAMES: [(&[u8], Kind); 13] = [
+    (b"boolean", Kind::Boolean),
+    (b"byte", Kind::Byte),
+    (b"short", Kind::Short),
+    (b"int", Kind::Integer),
+    (b"long", Kind::Long),
+    (b"symbol", Kind::Symbol),
+    (b"timestamp", Kind::Timestamp),
+    (b"month", Kind::Month),
+    (b"date", Kind::Date),
+    (b"timespan", Kind::Timespan),
+    (b"minute", Kind::Minute),
+    (b"second", Kind::Second),
+    (b"time", Kind::Time),
+];
+
+fn find_kind(mut table: &[(&[u8], Kind)], name: &[u8]) -> Option<Kind>
+    ensures { result ≡ kind_in (map (λ entry. (entry.0.now, entry.1)) table.entry.now) name.now }
 {
-    if is_same(name, b"boolean") {
-        Some(Kind::Boolean)
-    } else if is_same(name, b"byte") {
-        Some(Kind::Byte)
-    } else if is_same(name, b"short") {
-        Some(Kind::Short)
-    } else if is_same(name, b"int") {
-        Some(Kind::Integer)
-    } else if is_same(name, b"long") {
-        Some(Kind::Long)
-    } else if is_same(name, b"symbol") {
-        Some(Kind::Symbol)
-    } else {
-        None
+    while let [entry, rest @ ..] = table {
+        if is_same(name, entry.0) {
+            return Some(entry.1);
+        }
+        table = rest;
     }
+    None
 }
 
-fn temporal_kind(name: &[u8]) -> Option<Kind>
-    ensures { result ≡ Rattle.schema_text.specs.Reading.temporal_kind name.now }
-{
-    if is_same(name, b"timestamp") {
-        Some(Kind::Timestamp)
-    } else if is_same(name, b"month") {
-        Some(Kind::Month)
-    } else if is_same(name, b"date") {
-        Some(Kind::Date)
-    } else if is_same(name, b"timespan") {
-        Some(Kind::Timespan)
-    } else if is_same(name, b"minute") {
-        Some(Kind::Minute)
-    } else if is_same(name, b"second") {
-        Some(Kind::Second)
-    } else if is_same(name, b"time") {
-        Some(Kind::Time)
-    } else {
-        None
-    }
-}
-
-/// The kind of this name.
+/// The kind with this name, or `None` where no column may have such a kind.
+#[tactic(auto, unfolding(crate::specs::Reading::kind_named))]
 pub fn kind_of_name(name: &[u8]) -> Option<Kind>
     ensures value { result ≡ kind_named name.now }
     ensures lawful { IfSome result (λ kind. kind ≢ k.Character) }
 {
-    match whole_kind(name) {
-        Some(kind) => Some(kind),
-        None => temporal_kind(name),
-    }
+    find_kind(&KIND_NAMES, name)
 }

@@ -1,31 +1,33 @@
-//! Reading schema texts.
+//! Reads the tables of a schema text. Each function returns what it read, and the offset after it.
 ghost use Rattle.std.specs.Prelude.{◌≡◌, ◌<◌, ◌≤◌, ◌+◌, ◌++◌, ◌∷◌, ◌&&◌, [], false, length, map, IfOk, OnOk, OnErr, slice_get, drop};
 ghost use Rattle.std.specs.List.{AllByRecursion, list_any};
 ghost use Rattle.std.specs.Str.{bytes_eq};
 ghost use Rattle.std.specs.Ordering.{is_gt, nat_cmp};
 ghost use Rattle.std.specs.Cmp.Lexicographic.{slice_cmp};
-ghost use Rattle.schema_text.specs.Places.{below_count};
+ghost use Rattle.schema_text.specs.Positions.{below_count};
 ghost use Rattle.day_rows.specs.Schema.{IsName, IsShape, IsSchema, by_name};
 ghost use Rattle.day_rows.specs.Sorted.{inserted};
 ghost use Rattle.schema_text.specs.Growing.{IsGrowing};
-ghost use Rattle.schema_text.specs.Reading.{Gives, head_at, table_at, tables_at, schema_of, is_first_names, is_first_kinds, behind_semicolon, some_tables};
+ghost use Rattle.schema_text.specs.Reading.{Gives, head_at, table_at, tables_at, schema_of, is_first_names, is_first_kinds, past_semicolon, some_tables};
 
-use crate::columns::columns_behind;
+use crate::columns::read_columns;
 use crate::names::{is_same, table_name};
 use crate::refusal::SchemaRefusal;
-use crate::tokens::{ends_before, first_part_of, has_sign, part_behind, sign_behind};
+use crate::tokens::{ends_before, expect_sign, first_part_of, has_sign, next_part};
 use day_rows::{Kinds, Schema, Shape};
-use q_values::{Kind, Names, Sym};
-use std::alloc::{AllocFailed, Global};
+use q_values::{Kind, Names, NoMemory, Sym};
+use std::alloc::Global;
 use std::cmp::Ordering;
 
-/// The schema that a plant has unless another is given: quotes and trades, in whole numbers.
+/// The text of the schema that a plant has unless another is given: `trade` and `quote`, with whole numbers for prices
+/// and sizes.
 pub const BUILT_IN: &[u8] =
-    b"trade:([]time:`timespan$();sym:`g#`symbol$();price:`long$();size:`long$())\nquote:([]time:`timespan$();sym:`g#`symbol$();bid:`long$();ask:`long$();bsize:`long$();asize:`long$())\n";
+    b"trade:([]time:`timespan$();sym:`g#`symbol$();price:`long$();size:`long$())\n\
+quote:([]time:`timespan$();sym:`g#`symbol$();bid:`long$();ask:`long$();bsize:`long$();asize:`long$())\n";
 
-// What stands before a table's columns, and the place behind it.
+// The name of a table and the signs before its first column, and the offset after them.
 #[tactic(auto, unfolding(crate::specs::Reading::head_at))]
-fn head_behind(
+fn read_head(
     alloc: Global,
     tables: &[Shape],
     text: &[u8],
@@ -39,10 +41,10 @@ fn head_behind(
     ensures few { IfOk result (λ _. length tables.now < 64) }
 {
     let (name, end) = table_name(alloc, tables, text, at)?;
-    let colon = sign_behind(text, end, b':')?;
-    let left = sign_behind(text, colon, b'(')?;
-    let opening = sign_behind(text, left, b'[')?;
-    let closing = sign_behind(text, opening, b']')?;
+    let colon = expect_sign(text, end, b':')?;
+    let left = expect_sign(text, colon, b'(')?;
+    let opening = expect_sign(text, left, b'[')?;
+    let closing = expect_sign(text, opening, b']')?;
     Ok((name, closing))
 }
 
@@ -64,15 +66,15 @@ fn has_first_kinds(kinds: &[Kind]) -> bool
     }
 }
 
-// The place behind a semicolon, where it is the next part.
-fn semicolon_behind(text: &[u8], at: usize) -> usize
+// The offset after a semicolon, where one comes next; else `at`.
+fn skip_semicolon(text: &[u8], at: usize) -> usize
     requires { at ≤ length text.now }
-    ensures value { result ≡ behind_semicolon text.now at }
+    ensures value { result ≡ past_semicolon text.now at }
     ensures within { result ≤ length text.now }
 {
-    let place = part_behind(text, at);
-    if has_sign(text, place, b';') {
-        place + 1
+    let start = next_part(text, at);
+    if has_sign(text, start, b';') {
+        start + 1
     } else {
         at
     }
@@ -84,9 +86,9 @@ fn begins_time_sym(shape: &Shape) -> bool
     has_first_names(shape.names.as_slice()) && has_first_kinds(shape.kinds.as_slice())
 }
 
-// A new table and the place behind it.
+// A table whose name differs from the earlier ones, and the offset after it.
 #[tactic(auto, unfolding(crate::specs::Reading::table_at))]
-fn table_behind(
+fn read_table(
     alloc: Global,
     tables: &[Shape],
     text: &[u8],
@@ -99,21 +101,21 @@ fn table_behind(
     ensures fresh { IfOk result (λ table. list_any (bytes_eq table.0.table) (map (λ other. other.table) tables.now) ≡ false) }
     ensures few { IfOk result (λ _. length tables.now < 64) }
 {
-    let (name, head) = head_behind(alloc, tables, text, at)?;
+    let (name, head) = read_head(alloc, tables, text, at)?;
     let empty = Shape {
         table: name,
         names: Names::new(alloc),
         kinds: Kinds::new(alloc),
     };
-    let (shape, end) = columns_behind(alloc, 49, empty, text, head)?;
+    let (shape, end) = read_columns(alloc, 49, empty, text, head)?;
     if begins_time_sym(&shape) {
-        Ok((shape, semicolon_behind(text, end)))
+        Ok((shape, skip_semicolon(text, end)))
     } else {
         Err(SchemaRefusal::TimeSym(shape.table))
     }
 }
 
-// Whether the name is above the table's.
+// Whether the name sorts after the table's.
 fn is_above(name: &[u8], shape: &Shape) -> bool
     ensures { result ≡ is_gt (slice_cmp nat_cmp name.now shape.now.table) }
 {
@@ -123,28 +125,28 @@ fn is_above(name: &[u8], shape: &Shape) -> bool
     }
 }
 
-// The number of tables at the front that the name is above.
-fn place_of(tables: &[Shape], name: &[u8]) -> usize
+// The number of tables at the front whose names sort before this one.
+fn count_below(tables: &[Shape], name: &[u8]) -> usize
     ensures value { result ≡ below_count name.now tables.now }
     ensures within { result ≤ length tables.now }
 {
-    let mut place = 0;
-    while place < tables.len() && is_above(name, &tables[place]) {
-        place += 1;
+    let mut count = 0;
+    while count < tables.len() && is_above(name, &tables[count]) {
+        count += 1;
     }
-    place
+    count
 }
 
-// Puts a table in the order of names.
-fn insert_table(tables: &mut Vec<Shape>, shape: Shape) -> Result<(), AllocFailed<Shape>>
+// Inserts a table into tables that are sorted by name.
+fn insert_table(tables: &mut Vec<Shape>, shape: Shape) -> Result<(), NoMemory>
     ensures ok { OnOk result (tables.new.items ≡ inserted by_name shape tables.old.items) }
 {
-    let place = place_of(tables, shape.table.bytes());
-    tables.insert(place, shape)?;
+    let index = count_below(tables, shape.table.bytes());
+    tables.insert(index, shape)?;
     Ok(())
 }
 
-// The tables of a text that ends, which are some.
+// The tables of a text that has ended; the error is `Parse` where there are none.
 fn some_tables_of(tables: Vec<Shape>, text: &[u8]) -> Result<Vec<Shape>, SchemaRefusal>
     ensures value { Gives (λ found. found.items) result (some_tables tables.items text.now) }
     ensures same { IfOk result (λ found. found.items ≡ tables.items) }
@@ -155,15 +157,15 @@ fn some_tables_of(tables: Vec<Shape>, text: &[u8]) -> Result<Vec<Shape>, SchemaR
     }
 }
 
-// The tables to the end of the text, at most so many, in the order of their names.
-fn tables_behind(
+// The tables up to the end of the text, sorted by name. At the table after the last `left` the error is `Limit`.
+fn read_tables(
     alloc: Global,
     left: usize,
     tables: Vec<Shape>,
     text: &[u8],
     at: usize,
 ) -> Result<Vec<Shape>, SchemaRefusal>
-    requires place { at ≤ length text.now }
+    requires offset { at ≤ length text.now }
     requires lawful { IsSchema tables.items }
     ensures value { Gives (λ found. found.items) result (tables_at left tables.items text.now at) }
     ensures lawful { IfOk result (λ found. IsSchema found.items) }
@@ -171,23 +173,23 @@ fn tables_behind(
     if left == 0 {
         return Err(SchemaRefusal::Limit);
     }
-    if ends_before(text, part_behind(text, at)) {
+    if ends_before(text, next_part(text, at)) {
         return some_tables_of(tables, text);
     }
     let mut tables = tables;
-    let (table, end) = table_behind(alloc, &tables, text, at)?;
+    let (table, end) = read_table(alloc, &tables, text, at)?;
     insert_table(&mut tables, table)?;
-    tables_behind(alloc, left - 1, tables, text, end)
+    read_tables(alloc, left - 1, tables, text, end)
 }
 
-/// The schema that a text spells, its tables in ascending order of their names (KX, tick.q, "schema").
+/// The schema that a text describes, its tables sorted by name (KX, tick.q, "schema").
 ///
-/// A text has tables as `trade:([]time:`timespan$();sym:`g#`symbol$();price:`long$())`, with blanks or newlines between
-/// them. A line that begins with `/` is passed over. The refusal is the first in the text's order.
+/// A text has tables such as `trade:([]time:`timespan$();sym:`g#`symbol$();price:`long$())`, separated by blanks or
+/// newlines. A line that begins with `/` is a remark. The error is the first in the text's order, from left to right.
 #[tactic(auto, unfolding(crate::specs::Reading::schema_of))]
 pub fn read_schema(alloc: Global, text: &[u8]) -> Result<Schema, SchemaRefusal>
     ensures { Gives (λ schema. schema) result (schema_of text.now) }
 {
-    let tables = tables_behind(alloc, 65, Vec::new(alloc), text, first_part_of(text))?;
+    let tables = read_tables(alloc, 65, Vec::new(alloc), text, first_part_of(text))?;
     Ok(Schema::from_vec(tables))
 }

@@ -1,32 +1,36 @@
-//! The parts of a schema text.
+//! The tokens of a schema text: signs and words. Offsets are in bytes from 0.
 ghost use Rattle.std.specs.Prelude.{◌≡◌, ◌<◌, ◌≤◌, ◌+◌, length, take, drop, slice_get, IfOk, true};
 ghost use Rattle.day_rows.specs.Schema.{is_letter, is_digit, is_word, IsWord};
-ghost use Rattle.schema_text.specs.Tokens.{behind, passed, part, first_part, sign_at, word_at, word_length, is_sign, is_end, begins_word};
+ghost use Rattle.schema_text.specs.Tokens.{after_byte, passed, part, first_part, sign_at, word_at, word_length, is_sign, is_end, begins_word};
 ghost use Rattle.schema_text.specs.Reading.{Gives};
 
 use crate::refusal::SchemaRefusal;
 
-/// Where in a line a byte stands.
+/// Where in a line a byte is.
 #[derive(Clone, Copy)]
 pub enum Mode {
-    /// At its beginning.
+    /// The line's first byte.
     LineStart,
-    /// Behind its first byte.
+    /// A later byte.
     Inside,
-    /// In a remark.
+    /// A byte of a remark, which ends with the line.
     Remark,
 }
 
-/// A word: its bytes, its place, and the place behind it.
+/// A word of a text.
 #[derive(Clone, Copy)]
 pub struct Word<'a> {
+    /// Its bytes: a letter, then letters, digits and underscores.
     pub bytes: &'a [u8],
-    pub place: usize,
+    /// The offset of its first byte.
+    pub start: usize,
+    /// The offset after its last byte.
     pub end: usize,
 }
 
-fn behind_blank(b: u8) -> Option<Mode>
-    ensures { result ≡ Rattle.schema_text.specs.Tokens.behind_blank b }
+// Where in a line the byte after this blank is, or `None` where the byte is no blank.
+fn after_blank(b: u8) -> Option<Mode>
+    ensures { result ≡ Rattle.schema_text.specs.Tokens.after_blank b }
 {
     match b {
         b'\n' => Some(Mode::LineStart),
@@ -35,36 +39,37 @@ fn behind_blank(b: u8) -> Option<Mode>
     }
 }
 
-// How the text goes on behind a byte, where it is passed over.
-fn mode_behind(mode: Mode, b: u8) -> Option<Mode>
-    ensures { result ≡ behind mode b }
+// Where in a line the byte after this one is, or `None` where this one belongs to a token.
+fn mode_after(mode: Mode, b: u8) -> Option<Mode>
+    ensures { result ≡ after_byte mode b }
 {
     match mode {
         Mode::LineStart if b == b'/' => Some(Mode::Remark),
         Mode::Remark if b != b'\n' => Some(Mode::Remark),
         Mode::Remark => Some(Mode::LineStart),
-        _ => behind_blank(b),
+        _ => after_blank(b),
     }
 }
 
+// The offset of the next token from `at` on, or the text's end. `start` says where in a line `at` is.
 fn pass(text: &[u8], at: usize, start: Mode) -> usize
     requires { at ≤ length text.now }
     ensures value { result ≡ at + passed start (drop at text.now) }
     ensures within { result ≤ length text.now }
 {
     let mut mode = start;
-    let mut place = at;
-    while place < text.len() {
-        match mode_behind(mode, text[place]) {
+    let mut offset = at;
+    while offset < text.len() {
+        match mode_after(mode, text[offset]) {
             Some(next) => mode = next,
-            None => return place,
+            None => return offset,
         }
-        place += 1;
+        offset += 1;
     }
-    place
+    offset
 }
 
-/// The place of the text's first part.
+/// The offset of the text's first token, or its end.
 pub fn first_part_of(text: &[u8]) -> usize
     ensures value { result ≡ first_part text.now }
     ensures within { result ≤ length text.now }
@@ -72,8 +77,8 @@ pub fn first_part_of(text: &[u8]) -> usize
     pass(text, 0, Mode::LineStart)
 }
 
-/// The place of the next part behind a place within a line.
-pub fn part_behind(text: &[u8], at: usize) -> usize
+/// The offset of the next token from `at` on, or the text's end. `at` is not the start of a line.
+pub fn next_part(text: &[u8], at: usize) -> usize
     requires { at ≤ length text.now }
     ensures value { result ≡ part text.now at }
     ensures within { result ≤ length text.now }
@@ -81,32 +86,32 @@ pub fn part_behind(text: &[u8], at: usize) -> usize
     pass(text, at, Mode::Inside)
 }
 
-/// Whether this byte stands at a place.
-pub fn has_sign(text: &[u8], place: usize, sign: u8) -> bool
-    ensures value { result ≡ is_sign sign (slice_get text.now place) }
-    ensures within { result ≡ true → place < length text.now }
+/// Whether the byte at this offset is the sign.
+pub fn has_sign(text: &[u8], offset: usize, sign: u8) -> bool
+    ensures value { result ≡ is_sign sign (slice_get text.now offset) }
+    ensures within { result ≡ true → offset < length text.now }
 {
-    place < text.len() && text[place] == sign
+    offset < text.len() && text[offset] == sign
 }
 
-/// Whether the text has ended before a place.
-pub fn ends_before(text: &[u8], place: usize) -> bool
-    ensures { result ≡ is_end (slice_get text.now place) }
+/// Whether the text has no byte at this offset.
+pub fn ends_before(text: &[u8], offset: usize) -> bool
+    ensures { result ≡ is_end (slice_get text.now offset) }
 {
-    place >= text.len()
+    offset >= text.len()
 }
 
-/// The place behind the sign, which is to be the next part.
-pub fn sign_behind(text: &[u8], at: usize, sign: u8) -> Result<usize, SchemaRefusal>
+/// The offset after the sign, which must be the next token. The error is `Parse`.
+pub fn expect_sign(text: &[u8], at: usize, sign: u8) -> Result<usize, SchemaRefusal>
     requires { at ≤ length text.now }
     ensures value { Gives (λ end. end) result (sign_at sign text.now at) }
     ensures within { IfOk result (λ end. end ≤ length text.now) }
 {
-    let place = part_behind(text, at);
-    if has_sign(text, place, sign) {
-        Ok(place + 1)
+    let start = next_part(text, at);
+    if has_sign(text, start, sign) {
+        Ok(start + 1)
     } else {
-        Err(SchemaRefusal::Parse(place))
+        Err(SchemaRefusal::Parse(start))
     }
 }
 
@@ -122,7 +127,7 @@ fn is_word_byte(b: u8) -> bool
     is_letter_byte(b) || (b'0' <= b && b <= b'9') || b == b'_'
 }
 
-// The length of the word at the front.
+// The length of the longest word-like prefix.
 fn word_len(bytes: &[u8]) -> usize
     ensures value { result ≡ word_length bytes.now }
     ensures within { result ≤ length bytes.now }
@@ -134,30 +139,30 @@ fn word_len(bytes: &[u8]) -> usize
     len
 }
 
-fn begins_word_at(text: &[u8], place: usize) -> bool
-    ensures value { result ≡ begins_word (slice_get text.now place) }
-    ensures within { result ≡ true → place < length text.now }
+fn begins_word_at(text: &[u8], offset: usize) -> bool
+    ensures value { result ≡ begins_word (slice_get text.now offset) }
+    ensures within { result ≡ true → offset < length text.now }
 {
-    place < text.len() && is_letter_byte(text[place])
+    offset < text.len() && is_letter_byte(text[offset])
 }
 
-/// The word that is to be the next part.
-pub fn word_behind(text: &[u8], at: usize) -> Result<Word<'_>, SchemaRefusal>
+/// The word that must be the next token. The error is `Parse`.
+pub fn read_word(text: &[u8], at: usize) -> Result<Word<'_>, SchemaRefusal>
     requires { at ≤ length text.now }
-    ensures value { Gives (λ word. (word.bytes.now, word.place, word.end)) result (word_at text.now at) }
+    ensures value { Gives (λ word. (word.bytes.now, word.start, word.end)) result (word_at text.now at) }
     ensures within { IfOk result (λ word. word.end ≤ length text.now) }
     ensures lawful { IfOk result (λ word. IsWord word.bytes.now) }
 {
-    let place = part_behind(text, at);
-    if begins_word_at(text, place) {
-        let rest = &text[place..];
+    let start = next_part(text, at);
+    if begins_word_at(text, start) {
+        let rest = &text[start..];
         let len = word_len(rest);
         Ok(Word {
             bytes: &rest[..len],
-            place,
-            end: place + len,
+            start,
+            end: start + len,
         })
     } else {
-        Err(SchemaRefusal::Parse(place))
+        Err(SchemaRefusal::Parse(start))
     }
 }

@@ -7,7 +7,7 @@ use Rattle.day_rows.specs.declared.entry.Entry.{Entry}
 use Rattle.day_rows.specs.declared.entry.Entry.TheVariants as e
 use Rattle.plant_core.specs.Chronicle.{time_of_day, today}
 use Rattle.plant_core.specs.Frame.{Frame}
-use Rattle.plant_core.specs.Items.{timed, are_even, wrong_from, columns_of}
+use Rattle.plant_core.specs.Items.{timed, have_matching_lengths, wrong_from, columns_of}
 use Rattle.plant_core.specs.Limit.{is_beyond}
 use Rattle.plant_core.specs.Plant.{roll_place}
 use Rattle.plant_core.specs.Verdict.{Verdict, accepts, refuses, verdict, table_from, table_judged, items_judged, kinds_judged, dated, roll_due, is_next_day, is_past_next_day}
@@ -51,7 +51,7 @@ even_made false a rest entries f h = absurd cc
 
 items_made : (limits : Limits) (by : ℕ) (date : ℤ) (rows : ℕ) (now : ℤ) (table : ℕ × List Kind) (items : List Tree) (entries : List Entry) → items_judged limits by date rows now table items ≡ accepts entries → IsMade entries
 items_made limits by date rows now table items entries h =
-    even_made (are_even (length table.1) items) _ (kinds_judged (wrong_from 0 table.1 items) (dated limits by date rows now table.0 items)) entries
+    even_made (have_matching_lengths (length table.1) items) _ (kinds_judged (wrong_from 0 table.1 items) (dated limits by date rows now table.0 items)) entries
     (kinds_made (wrong_from 0 table.1 items) (dated limits by date rows now table.0 items) entries (dated_made limits by date rows now table.0 items entries)) h
 
 table_made : (name : List ℕ) (found : Option (ℕ × List Kind)) (judged : ℕ × List Kind → Verdict) (entries : List Entry) → ((t : ℕ × List Kind) → judged t ≡ accepts entries → IsMade entries) → table_judged name found judged ≡ accepts entries → IsMade entries

@@ -10,5 +10,5 @@ pub returns : goal.returns
 returns c =
     let same : to_z w64 (of_z w64 c.args.time) ≡ c.args.time = search rules in
     let items = c.in_ok-times.ensures.items_if_clones_equal (λ y e. e) in
-    c.of.ensures
+    c.from_column.ensures
     ∙ ap (λ (x : List Atom). record { kind = k.Timespan; atoms = x }) (ap (map (long_atom l.Timespan)) items ∙ map-replicate (long_atom l.Timespan) c.args.n _ ∙ ap (λ t. replicate c.args.n (long_atom l.Timespan t)) same)

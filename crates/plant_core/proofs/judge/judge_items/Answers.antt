@@ -1,4 +1,4 @@
-use Rattle.std.proofs.Common.{◌≡◌, cond, sym, ◌∙◌, ap, ◌∷◌, map}
+use Rattle.std.proofs.Common.{◌≡◌, cond, sym, ◌∙◌, ap, ◌∷◌, map, w32, w64, to_z, of_z, rules}
 use Rattle.q_values.specs.Tree.{tree}
 use Rattle.plant_core.specs.Items.{spread}
 use Rattle.plant_core.proofs.JudgeLemmas.{passes_items}
@@ -13,4 +13,8 @@ returns c =
       | else-rolls w ↦ w.rows-is ∙ ap (λ b. cond b 0 c.args.standing.now.rows) (sym w.if-rolls.false)
     ] in
     let made = c.in_ok-columns.ensures ∙ ap (λ n. map (spread n) (tree c.args.first.now ∷ map tree c.args.others.now)) c.count_atoms.ensures in
-    passes_items _ _ _ _ _ _ _ _ _ c.is_next_day-rolls.result c.if-rolls.rows _ (sym c.if-not-are_even.ensures) (sym c.in_default.ensures.value) (sym c.if-is_past_next_day.ensures) c.is_next_day-rolls.ensures left (sym c.if-is_beyond.ensures) made
+    let date : to_z w32 (of_z w32 c.args.standing.now.date) ≡ c.args.standing.now.date = search rules in
+    let moment : to_z w64 (of_z w64 c.args.standing.now.moment) ≡ c.args.standing.now.moment = search rules in
+    let near = rw (date, moment) at c.if-is_past_next_day.ensures in
+    let rolls = rw (date, moment) at c.is_next_day-rolls.ensures in
+    passes_items _ _ _ _ _ _ _ _ _ c.is_next_day-rolls.result c.if-rolls.rows _ (sym c.if-not-have_matching_lengths.ensures) (sym c.in_default.ensures.value) (sym near) rolls left (sym c.if-is_beyond.ensures) made

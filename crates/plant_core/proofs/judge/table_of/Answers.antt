@@ -4,10 +4,10 @@ use Rattle.plant_core.proofs.judge.table_of.Goals as goal
 
 pub returns-then-has_name : goal.returns-then-has_name
 returns-then-has_name c =
-    let inside : c.loop-place.place < length c.args.schema.now = omega (arith, c.len-place-end.ensures.value) in
-    table_found _ _ _ _ inside c.at.ensures.value (sym c.if-has_name.ensures) c.loop-place.invariant
+    let inside : c.loop-i.i < length c.args.schema.now = omega (arith, c.len-i-end.ensures.value) in
+    table_found _ _ _ _ inside c.at.ensures.value (sym c.if-has_name.ensures) c.loop-i.invariant
 
-pub loop-place-preserved : goal.loop-place-preserved
-loop-place-preserved c =
-    let inside : c.loop-place.place < length c.args.schema.now = omega (arith, c.len-place-end.ensures.value) in
-    table_more _ _ _ _ inside c.at.ensures.value (sym c.if-has_name.ensures) c.loop-place.invariant
+pub loop-i-preserved : goal.loop-i-preserved
+loop-i-preserved c =
+    let inside : c.loop-i.i < length c.args.schema.now = omega (arith, c.len-i-end.ensures.value) in
+    table_more _ _ _ _ inside c.at.ensures.value (sym c.if-has_name.ensures) c.loop-i.invariant

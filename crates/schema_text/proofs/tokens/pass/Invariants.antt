@@ -2,11 +2,11 @@ use Rattle.std.proofs.Common.{length, ◌-◌, ◌≡◌, ◌≤◌, ◌+◌, dr
 use Rattle.schema_text.specs.Tokens.{passed}
 use Rattle.schema_text.proofs.tokens.pass.Given as goal
 
-abbrev pub invariant-loop-place : goal.invariant-loop-place
-invariant-loop-place l = record {
-  value : l.place + passed l.mode (drop l.place l.text) ≡ l.at + passed l.fn.start (drop l.at l.text);
-  within : l.place ≤ length l.text;
+abbrev pub invariant-loop-offset : goal.invariant-loop-offset
+invariant-loop-offset l = record {
+  value : l.offset + passed l.mode (drop l.offset l.text) ≡ l.at + passed l.fn.start (drop l.at l.text);
+  within : l.offset ≤ length l.text;
 }
 
-abbrev pub decreases-loop-place : goal.decreases-loop-place
-decreases-loop-place l = length l.text - l.place
+abbrev pub decreases-loop-offset : goal.decreases-loop-offset
+decreases-loop-offset l = length l.text - l.offset

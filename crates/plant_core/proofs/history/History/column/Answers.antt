@@ -7,18 +7,18 @@ column-requires-clause-exists c =
     let inside : c.args.k < length c.self.inside.ended.items = omega (arith, c.if-k-len.true, c.len.ensures, c.self.inside.ended.ok) in
     let is = past_at _ _ _ _ _ _ c.self.invariant.follow inside c.index.ensures in
     let has = rw (← c.self.view_is) at c.requires.exists in
-    (has.0, column_in _ c.index.result.now.day _ _ _ is.kinds_are has.1)
+    rw c.day.ensures (has.0, column_in _ c.index.result.now.day _ _ _ is.kinds_are has.1)
 
 pub column-requires-clause-within : goal.column-requires-clause-within
 column-requires-clause-within c =
     let inside : c.args.k < length c.self.inside.ended.items = omega (arith, c.if-k-len.true, c.len.ensures, c.self.inside.ended.ok) in
-    rw (← rows-past _ _ _ _ _ c.args.table _ c.self.invariant.follow inside c.index.ensures) (rw (← c.self.view_is) at c.requires.within)
+    rw (c.day.ensures, ← rows-past _ _ _ _ _ c.args.table _ c.self.invariant.follow inside c.index.ensures) (rw (← c.self.view_is) at c.requires.within)
 
 pub returns-then-k-len : goal.returns-then-k-len
 returns-then-k-len c =
     let inside : c.args.k < length c.self.inside.ended.items = omega (arith, c.if-k-len.true, c.len.ensures, c.self.inside.ended.ok) in
     let is = past_at _ _ _ _ _ _ c.self.invariant.follow inside c.index.ensures in
-    rw (← c.self.view_is) (column_shown _ _ c.index.result.now.day _ _ _ _ _ _ is.kinds_are (rows-past _ _ _ _ _ c.args.table _ c.self.invariant.follow inside c.index.ensures) c.column.ensures)
+    rw (← c.self.view_is) (column_shown _ _ c.index.result.now.day _ _ _ _ _ _ is.kinds_are (rows-past _ _ _ _ _ c.args.table _ c.self.invariant.follow inside c.index.ensures) (rw c.day.ensures at c.column.ensures))
 
 pub column-requires-2-clause-within : goal.column-requires-2-clause-within
 column-requires-2-clause-within c =

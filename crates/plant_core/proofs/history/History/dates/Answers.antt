@@ -1,4 +1,4 @@
-use Rattle.std.proofs.Common.{arith, ◌≡◌, length}
+use Rattle.std.proofs.Common.{arith}
 use Rattle.plant_core.proofs.HistoryLemmas.{ascend-chronicle}
 use Rattle.plant_core.proofs.ShownLemmas.{length-dates}
 use Rattle.plant_core.proofs.history.History.dates.Goals as goal

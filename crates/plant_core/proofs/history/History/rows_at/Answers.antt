@@ -5,12 +5,12 @@ use Rattle.plant_core.proofs.history.History.rows_at.Goals as goal
 pub rows-requires : goal.rows-requires
 rows-requires c =
     let inside : c.args.k < length c.self.inside.ended.items = omega (arith, c.if-k-len.true, c.len.ensures, c.self.inside.ended.ok) in
-    rw (past_at _ _ _ _ _ _ c.self.invariant.follow inside c.index.ensures).kinds_are (rw (← c.self.view_is) at c.requires.table)
+    rw (c.day.ensures, (past_at _ _ _ _ _ _ c.self.invariant.follow inside c.index.ensures).kinds_are) (rw (← c.self.view_is) at c.requires.table)
 
 pub returns-then-k-len : goal.returns-then-k-len
 returns-then-k-len c =
     let inside : c.args.k < length c.self.inside.ended.items = omega (arith, c.if-k-len.true, c.len.ensures, c.self.inside.ended.ok) in
-    rw (← c.self.view_is) (c.rows.ensures ∙ ap length (sym (rows-past _ _ _ _ _ c.args.table _ c.self.invariant.follow inside c.index.ensures)))
+    rw (← c.self.view_is) ((rw c.day.ensures at c.rows.ensures) ∙ ap length (sym (rows-past _ _ _ _ _ c.args.table _ c.self.invariant.follow inside c.index.ensures)))
 
 pub returns : goal.returns
 returns c =
