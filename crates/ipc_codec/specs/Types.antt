@@ -30,11 +30,11 @@ code_of k.Minute = 17
 code_of k.Second = 18
 code_of k.Time = 19
 
--- whether vectors of this type are of kdb+ and outside the profile
+-- whether vectors of this type are known to kdb+ and not supported here
 abbrev pub is_unbuilt : ℕ → Bool
 is_unbuilt n = n == 2 || (n == 8 || (n == 9 || (n == 15 || (nat_le 20 n && nat_le n 97))))
 
--- what a type byte says that is neither a vector's nor an atom's
+-- the form of a type byte that is neither a vector's nor an atom's
 unfoldable pub other_form : ℕ → Form
 other_form b =
     if b == 0 then f.List else (if b == 98 then f.Table else (if b == 99 || b == 127 then f.Dictionary else (if b == 101 then f.Identity else
@@ -45,11 +45,11 @@ form_by (Some kind) negated b = f.Vector kind
 form_by None (Some kind) b = f.Atom kind
 form_by None None b = other_form b
 
--- what a type byte says
+-- the form of an object with this type byte
 unfoldable pub form_of : ℕ → Form
 form_of b = form_by (kind_at b) (kind_at (256 - b)) b
 
--- the number of bytes of an element; a symbol's varies
+-- the number of bytes of an element; 0 for a symbol, whose length varies
 abbrev pub width : Kind → ℕ
 width k.Boolean = 1
 width k.Byte = 1

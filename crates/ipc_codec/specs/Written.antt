@@ -1,4 +1,4 @@
--- The one spelling that is written: little-endian, with attributes 0, booleans 0 or 1, and 99 for each dictionary.
+-- The canonical encoding: little-endian, with attributes 0, booleans 0 or 1, and 99 for each dictionary.
 use Rattle.std.specs.Prelude.{◌≡◌, ◌≤◌, All, ℕ, zero, suc, ◌-◌, max, List, [], ◌∷◌, ◌++◌, length, if◌then◌else◌}
 use Rattle.std.specs.Int.{w16, w32, w64, cast_unsigned}
 use Rattle.std.specs.Int.RustNames.{FitsSigned}
@@ -35,7 +35,7 @@ element_bytes (a.Minute x) = little_bytes 4 (cast_unsigned w32 x)
 element_bytes (a.Second x) = little_bytes 4 (cast_unsigned w32 x)
 element_bytes (a.Time x) = little_bytes 4 (cast_unsigned w32 x)
 
--- a type byte, the attribute byte and a count
+-- a type byte, the attribute byte 0 and a count
 abbrev pub head : ℕ → ℕ → List ℕ
 head code n = code ∷ 0 ∷ little_bytes 4 n
 
@@ -62,7 +62,7 @@ unfoldable mutual
   written_items no_items = []
   written_items (item t items) = written t ++ written_items items
 
--- how many objects are open at the deepest place, the value's own included
+-- how many objects are open at the deepest point, the value's own included
 abbrev mutual
   pub depth : Tree → ℕ
   depth (atom x) = 1
@@ -78,7 +78,7 @@ abbrev mutual
   deepest no_items = zero
   deepest (item t items) = max (depth t) (deepest items)
 
--- a table whose counts have a spelling
+-- a table whose counts can be written
 pub record GridFits (grid : Grid) : Type 0 where
   pub shape : IsTable grid.names grid.columns
   pub columns : length grid.columns ≤ 2147483647
@@ -88,7 +88,7 @@ abbrev pub AreNotBothTables : Tree → Tree → Type 0
 AreNotBothTables (table x) (table y) = ⊥
 AreNotBothTables _ _ = Unit {0}
 
--- counts of at most 2147483647, tables in shape, dictionaries of two sides of one length, errors' texts without a 0
+-- counts of at most 2147483647, tables in shape, dictionaries of two sides of one length, texts of errors without a 0
 abbrev mutual
   pub Fits : Tree → Type 0
   Fits (atom x) = Unit {0}
@@ -104,7 +104,7 @@ abbrev mutual
   AllFit no_items = Unit {0}
   AllFit (item t items) = Fits t × AllFit items
 
--- a value that has a spelling
+-- a value that can be written
 pub record IsPlain (t : Tree) : Type 0 where
   pub nested : depth t ≤ 64
   pub fits : Fits t
@@ -134,7 +134,7 @@ pub record GridAtomsFit (grid : Grid) : Type 0 where
   pub names : All HasNoNul grid.names
   pub columns : All VectorFits grid.columns
 
--- a tree that a value can have, as far as its atoms go
+-- a tree whose atoms a value can hold
 abbrev mutual
   pub AtomsFit : Tree → Type 0
   AtomsFit (atom x) = AtomFits x

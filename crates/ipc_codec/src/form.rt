@@ -1,23 +1,33 @@
-// What the type byte of an object says.
+//! What the type byte of an object says.
 ghost use Rattle.std.specs.Prelude.{◌≡◌, ◌<◌};
 ghost use Rattle.ipc_codec.specs.Types.{kind_at, code_of, form_of, other_form, is_unbuilt, width};
 
 use q_values::Kind;
 
+/// How an object goes on after its type byte.
 #[derive(Clone, Copy, Debug, PartialEq, Eq)]
 pub enum Form {
+    /// An atom: one element of the kind.
     Atom(Kind),
+    /// A vector: an attribute byte, a count and elements of the kind.
     Vector(Kind),
+    /// A general list: an attribute byte, a count and objects.
     List,
+    /// A dictionary or keyed table: two objects.
     Dictionary,
+    /// A table: an attribute byte and a dictionary of names and columns.
     Table,
+    /// The generic null `(::)`: a 0.
     Identity,
+    /// An error: a text that ends with a 0.
     Wrong,
+    /// A type of kdb+ that is not supported.
     Unbuilt,
+    /// No type of kdb+.
     Unknown,
 }
 
-// The kind whose vectors have this type.
+/// The kind whose vectors have this type number.
 pub fn kind_of_type(code: u16) -> Option<Kind>
     ensures { result ≡ kind_at code }
 {
@@ -40,13 +50,14 @@ pub fn kind_of_type(code: u16) -> Option<Kind>
     }
 }
 
-// Whether a vector of this type is one of kdb+ that is outside the profile.
+// Whether vectors of this type number are known to kdb+ and not supported here.
 fn is_outside(code: u16) -> bool
     ensures { result ≡ is_unbuilt code }
 {
     code == 2 || code == 8 || code == 9 || code == 15 || (code >= 20 && code <= 97)
 }
 
+// The form of a type byte that is neither an atom's nor a vector's.
 #[tactic(auto, unfolding(crate::specs::Types::other_form))]
 fn other_form_of(byte: u8) -> Form
     ensures { result ≡ other_form byte }
@@ -69,6 +80,7 @@ fn other_form_of(byte: u8) -> Form
     }
 }
 
+/// The form of an object with this type byte.
 #[tactic(auto, unfolding(crate::specs::Types::form_of))]
 pub fn form_of_byte(byte: u8) -> Form
     ensures { result ≡ form_of byte }
@@ -83,7 +95,7 @@ pub fn form_of_byte(byte: u8) -> Form
     other_form_of(byte)
 }
 
-// The number of bytes of an element; a symbol's varies.
+/// The number of bytes of an element; 0 for a symbol, whose length varies.
 pub fn width_of(kind: Kind) -> usize
     ensures { result ≡ width kind }
 {
@@ -105,7 +117,7 @@ pub fn width_of(kind: Kind) -> usize
     }
 }
 
-// The type of a kind's vectors.
+/// The type number of a kind's vectors. The type byte of its atoms is the negated number.
 pub fn type_of_kind(kind: Kind) -> u8
     ensures value { result ≡ code_of kind }
     ensures small { result < 20 }

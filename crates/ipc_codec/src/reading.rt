@@ -1,10 +1,14 @@
-// The values of bytes.
+//! Reading values. Each reader takes the bytes from the current one on, and returns what it read and the bytes after it.
+//! `room` is the number of levels that may still be opened; `left` the number of bytes from the type byte of the
+//! current object on, which tells where a fault is.
 ghost use Rattle.std.specs.Prelude.{◌≡◌, ◌<◌, ◌^◌, ◌≤◌, ℕ, length, take, map, nat_eq, Ok, IfOk, IfErr};
 ghost use Rattle.q_values.specs.Bytes.{HasNoNul};
 ghost use Rattle.q_values.specs.Column.{contents};
 ghost use Rattle.q_values.specs.Table.{rows_of};
 ghost use Rattle.q_values.specs.Tree.{Tree, tree, trees, items_of, keyed, identity};
-ghost use Rattle.ipc_codec.specs.Reading.{Gives, Finds, list_at, shaped, checked, identity_at, texts_at, elements_at, vector_at, atom_at, column_at, columns_at, is_even, names_at, list_of_columns_at, grid_at, extent, joined, items_at, dictionary_at, object_by, object_at, object_of, RefusesObject};
+ghost use Rattle.ipc_codec.specs.Reading.{Gives, Finds, RefusesObject, texts_at, elements_at, vector_at, atom_at, column_at, columns_at};
+ghost use Rattle.ipc_codec.specs.Reading.{have_equal_lengths, names_at, list_of_columns_at, grid_at, shaped, extent, checked, joined, identity_at};
+ghost use Rattle.ipc_codec.specs.Reading.{items_at, list_at, dictionary_at, object_by, object_at, object_of};
 ghost use Rattle.ipc_codec.specs.Spells.{Spells};
 ghost use Rattle.ipc_codec.specs.Decoded.{Reads};
 ghost use Rattle.ipc_codec.specs.Written.{IsPlain, AtomsFit};
@@ -160,7 +164,7 @@ fn list_of_columns_of(
     columns_of(alloc, rest, order, room.saturating_sub(1), count)
 }
 
-// The number of rows of these columns: that of the first.
+// The number of rows of the first column, 0 without columns.
 fn rows_in(columns: &[Vector]) -> usize
     ensures { result ≡ rows_of columns.now }
 {
@@ -170,14 +174,14 @@ fn rows_in(columns: &[Vector]) -> usize
     }
 }
 
-// Whether columns all have this number of rows.
-fn are_even(columns: &[Vector], rows: usize) -> bool
-    ensures { result ≡ is_even rows columns.now }
+// Whether all columns have this number of rows.
+fn have_equal_lengths(columns: &[Vector], rows: usize) -> bool
+    ensures { result ≡ have_equal_lengths rows columns.now }
 {
     columns.iter().all(|column| column.len() == rows)
 }
 
-// A table behind its type byte, from which on this many bytes are left.
+// A table, after its type byte.
 #[tactic(auto, unfolding(crate::specs::Reading::grid_at))]
 fn table_of(
     alloc: Global,
@@ -201,12 +205,13 @@ fn table_of(
     }
 }
 
+// A table of these names and columns, where they have the same number and all columns the same length.
 fn table_from(names: Vec<Sym>, columns: Vec<Vector>, left: usize) -> Result<TableValue, Fault>
     ensures { Finds (λ x. record { names = x.names; columns = x.columns }) result
         (shaped left names.items columns.items) }
 {
     let rows = rows_in(&columns);
-    if columns.is_empty() || names.len() != columns.len() || !are_even(&columns, rows) {
+    if columns.is_empty() || names.len() != columns.len() || !have_equal_lengths(&columns, rows) {
         return Err(Fault::BadShape(left));
     }
     Ok(TableValue {
@@ -215,7 +220,7 @@ fn table_from(names: Vec<Sym>, columns: Vec<Vector>, left: usize) -> Result<Tabl
     })
 }
 
-// The number of items that a value counts as.
+// The number of items that a value has as one side of a dictionary: 1 for an atom, the rows of a table.
 fn extent_of(value: &Value) -> usize
     ensures { result ≡ extent (tree value.now) }
 {
@@ -231,6 +236,7 @@ fn extent_of(value: &Value) -> usize
     }
 }
 
+// A dictionary of two sides; a keyed table, where both are tables.
 fn dictionary_from(alloc: Global, keys: Value, values: Value, left: usize) -> Result<Value, Stop>
     ensures { Gives tree result (joined left (tree keys) (tree values)) }
 {
@@ -260,6 +266,7 @@ fn keyed_from(
     Ok(Value::Keyed(Box::new(alloc, KeyedValue { keys, values })?))
 }
 
+// The generic null, after its type byte.
 #[tactic(auto, unfolding(crate::specs::Reading::identity_at))]
 fn identity_of(bytes: &[u8], left: usize) -> Result<&[u8], Fault>
     ensures { Finds (λ x. (identity, x.now)) result (identity_at left bytes.now) }
@@ -317,7 +324,7 @@ fn dictionary_in(
     Ok((dictionary_from(alloc, keys, values, left)?, rest))
 }
 
-// An object behind its type byte, from which on this many bytes are left.
+// An object, after its type byte.
 #[cycle(objects)]
 #[tactic(auto, unfolding(crate::specs::Reading::object_by))]
 fn form_in(
@@ -349,7 +356,10 @@ fn form_in(
         Form::Identity => Ok((Value::Identity, identity_of(bytes, left)?)),
         Form::Wrong => {
             let (text, rest) = text_of(bytes)?;
-            Ok((Value::Wrong(Text::from_vec(Vec::from_slice(alloc, text)?)), rest))
+            Ok((
+                Value::Wrong(Text::from_vec(Vec::from_slice(alloc, text)?)),
+                rest,
+            ))
         }
         Form::Unbuilt => Err(Stop::At(Fault::NotBuilt(left))),
         Form::Unknown => Err(Stop::At(Fault::BadType(left))),
@@ -379,17 +389,17 @@ fn object_in(alloc: Global, bytes: &[u8], order: Order, room: u32) -> Result<(Va
     }
 }
 
-/// Reads the object at the front of the bytes, with the number of its bytes (KX, IPC reference). The first refusal from
-/// left to right comes, with its place.
+/// Reads the object at the front of the bytes; returns its value and its length in bytes (KX, IPC reference). Bytes after
+/// the object aren't read. Where the bytes don't begin with an object, the refusal is the first one from left to right.
 pub fn decode(alloc: Global, bytes: &[u8], order: Order) -> Result<(Value, usize), DecodeRefusal>
     ensures found { IfOk result (λ x. object_of order bytes.now ≡ Ok (tree x.0, x.1)) }
     ensures refused { IfErr result (RefusesObject (object_of order bytes.now)) }
-    // The bytes that were read spell the value.
+    // The bytes that were read are an encoding of the value.
     ensures spelled { IfOk result (λ x. Spells order (take x.1 bytes.now) (tree x.0)) }
     // A value that was read can be written.
     ensures plain { IfOk result (λ x. IsPlain (tree x.0)) }
     ensures fit { IfOk result (λ x. AtomsFit (tree x.0)) }
-    // What the bytes spell is read, unless memory runs out.
+    // Each encoding of a value at the front of the bytes is read as that value, unless memory runs out.
     ensures only { (t : Tree) (n : ℕ) → n ≤ length bytes.now → Spells order (take n bytes.now) t
         → Reads t n result }
 {

@@ -1,4 +1,4 @@
-// The bytes of a value.
+//! Writing values in their canonical encoding.
 ghost use Rattle.std.specs.Prelude.{◌≡◌, ◌++◌, ◌∷◌, ◌≤◌, ◌<◌, ◌^◌, [], length, map, if◌then◌else◌, OnOk, OnErr, All};
 ghost use Rattle.std.specs.Int.{w16, w32, w64, cast_unsigned};
 ghost use Rattle.std.specs.List.{flat_map};
@@ -12,7 +12,7 @@ use crate::form::type_of_kind;
 use byteorder::{ByteOrder, LittleEndian};
 use q_values::{Atom, Column, NoMemory, Sym, Symbols, TableValue, Value, Values, Vector};
 
-// A type byte, the attribute byte and a count.
+// A type byte, the attribute byte 0 and a count.
 fn put_head(out: &mut Vec<u8>, code: u8, count: usize) -> Result<(), NoMemory>
     requires { count ≤ 2147483647 }
     ensures ok { OnOk result (out.new.items ≡ out.old.items ++ head code count) }
@@ -23,16 +23,23 @@ fn put_head(out: &mut Vec<u8>, code: u8, count: usize) -> Result<(), NoMemory>
     Ok(())
 }
 
+// Appends numbers of `$width` bytes each. Once there is room, `$write` writes them all.
+macro_rules! put_numbers {
+    ($out:ident, $items:ident, $width:literal, $write:ident) => {{
+        let start = $out.len();
+        $out.resize(start + $width * $items.len(), 0)?;
+        LittleEndian::$write($items, &mut $out[start..]);
+        Ok(())
+    }};
+}
+
 fn put_shorts(out: &mut Vec<u8>, items: &[i16]) -> Result<(), NoMemory>
     requires { length items.now ≤ 2147483647 }
     ensures ok { OnOk result (out.new.items
         ≡ out.old.items ++ flat_map (λ x. little_bytes 2 (cast_unsigned w16 x)) items.now) }
     ensures err { OnErr result (out.new.items ≡ out.old.items) }
 {
-    let start = out.len();
-    out.resize(start + 2 * items.len(), 0)?;
-    LittleEndian::write_i16_into(items, &mut out[start..]);
-    Ok(())
+    put_numbers!(out, items, 2, write_i16_into)
 }
 
 fn put_integers(out: &mut Vec<u8>, items: &[i32]) -> Result<(), NoMemory>
@@ -41,10 +48,7 @@ fn put_integers(out: &mut Vec<u8>, items: &[i32]) -> Result<(), NoMemory>
         ≡ out.old.items ++ flat_map (λ x. little_bytes 4 (cast_unsigned w32 x)) items.now) }
     ensures err { OnErr result (out.new.items ≡ out.old.items) }
 {
-    let start = out.len();
-    out.resize(start + 4 * items.len(), 0)?;
-    LittleEndian::write_i32_into(items, &mut out[start..]);
-    Ok(())
+    put_numbers!(out, items, 4, write_i32_into)
 }
 
 fn put_longs(out: &mut Vec<u8>, items: &[i64]) -> Result<(), NoMemory>
@@ -53,10 +57,7 @@ fn put_longs(out: &mut Vec<u8>, items: &[i64]) -> Result<(), NoMemory>
         ≡ out.old.items ++ flat_map (λ x. little_bytes 8 (cast_unsigned w64 x)) items.now) }
     ensures err { OnErr result (out.new.items ≡ out.old.items) }
 {
-    let start = out.len();
-    out.resize(start + 8 * items.len(), 0)?;
-    LittleEndian::write_i64_into(items, &mut out[start..]);
-    Ok(())
+    put_numbers!(out, items, 8, write_i64_into)
 }
 
 // 1 for true, 0 for false.
@@ -77,7 +78,7 @@ fn put_booleans(out: &mut Vec<u8>, items: &[bool]) -> Result<(), NoMemory>
     Ok(())
 }
 
-// A text and the 0 that ends it.
+// A text, and the 0 that ends it.
 #[tactic(auto, using(crate::proofs::WritingLemmas::begins))]
 fn put_text(out: &mut Vec<u8>, text: &[u8]) -> Result<(), NoMemory>
     ensures ok { OnOk result (out.new.items ≡ out.old.items ++ text_bytes text.now) }
@@ -162,7 +163,7 @@ fn put_table(out: &mut Vec<u8>, table: &TableValue) -> Result<(), NoMemory>
     put_columns(out, table.columns.as_slice())
 }
 
-// The element of an atom.
+// An atom's element.
 #[tactic(auto, using(crate::proofs::WritingLemmas::begins))]
 fn put_element(out: &mut Vec<u8>, x: &Atom) -> Result<(), NoMemory>
     ensures ok { OnOk result (out.new.items ≡ out.old.items ++ element_bytes x.now) }
@@ -255,8 +256,8 @@ fn put_value(out: &mut Vec<u8>, value: &Value) -> Result<(), NoMemory>
     }
 }
 
-/// Appends the one written spelling of a value: little-endian, with attributes 0, booleans 0 or 1 and 99 for each
-/// dictionary (KX, IPC reference). A refused call changes nothing.
+/// Appends the canonical encoding of a value: little-endian, with attributes 0, booleans 0 or 1, and 99 for each
+/// dictionary (KX, IPC reference). Out of memory, `out` is left as it was.
 pub fn encode(out: &mut Vec<u8>, value: &Value) -> Result<(), NoMemory>
     requires { IsPlain (tree value.now) }
     ensures ok { OnOk result (out.new.items ≡ out.old.items ++ written (tree value.now)) }
