@@ -11,7 +11,7 @@ use Rattle.q_values.specs.declared.kind.IntegerKind.{IntegerKind}
 use Rattle.q_values.specs.declared.kind.IntegerKind.TheVariants as i
 use Rattle.q_values.specs.declared.kind.LongKind.{LongKind}
 use Rattle.q_values.specs.declared.kind.LongKind.TheVariants as l
-use Rattle.ipc_codec.specs.Types.{width}
+use Rattle.q_values.specs.Kind.{width}
 use Rattle.ipc_codec.specs.Numbers.{short_of, integer_of, long_of, boolean_of, element_by, cells}
 
 -- one more cell

@@ -12,11 +12,13 @@ use Rattle.q_values.specs.declared.atom.Atom.{Atom}
 use Rattle.q_values.specs.declared.atom.Atom.TheVariants as a
 use Rattle.q_values.specs.declared.kind.Kind.{Kind}
 use Rattle.q_values.specs.declared.kind.Kind.TheVariants as k
+use Rattle.q_values.specs.declared.kind.Storage.{Storage}
+use Rattle.q_values.specs.declared.kind.Storage.TheVariants as st
 use Rattle.ipc_codec.specs.declared.fault.Fault.TheVariants.{Truncated, BadShape}
 use Rattle.ipc_codec.specs.declared.order.Order.{Order}
 use Rattle.ipc_codec.specs.declared.order.Order.TheVariants as o
-use Rattle.ipc_codec.specs.Types.{code_of, width}
-use Rattle.ipc_codec.specs.Numbers.{number, element, cells}
+use Rattle.q_values.specs.Kind.{type_number, width, storage_of, storage_width}
+use Rattle.ipc_codec.specs.Numbers.{number, stored_element, element, cells}
 use Rattle.ipc_codec.specs.Reading.{◌>>=◌, count_at, text_at, texts_at, cells_at, symbols_at, is_symbol, elements_at, vector_at, atom_at}
 use Rattle.ipc_codec.specs.Spells.{InTurn, SpellsCount, SpellsText, SpellsElement, SpellsElementOf, SpellsVector}
 use Rattle.ipc_codec.proofs.StepLemmas.{Took, bind_ok, guard_ok, ok_is}
@@ -27,24 +29,18 @@ pub number-front : (order : Order) (n : ℕ) (xs ys : List ℕ) → n ≤ length
 number-front o.Little n xs ys h = little_from-append n xs ys h
 number-front o.Big n xs ys h = big_from-append n xs ys h
 
+stored_element-front : (order : Order) (storage : Storage) (xs ys : List ℕ) → storage_width storage ≤ length xs → stored_element (number order) storage (xs ++ ys) ≡ stored_element (number order) storage xs
+stored_element-front order st.Boolean [] ys h = absurd (omega (arith, h))
+stored_element-front order st.Boolean (x ∷ xs) ys h = refl
+stored_element-front order (st.Byte kind) [] ys h = absurd (omega (arith, h))
+stored_element-front order (st.Byte kind) (x ∷ xs) ys h = refl
+stored_element-front order st.Short xs ys h = rw (number-front order 2 xs ys h) refl
+stored_element-front order (st.Integer kind) xs ys h = rw (number-front order 4 xs ys h) refl
+stored_element-front order (st.Long kind) xs ys h = rw (number-front order 8 xs ys h) refl
+stored_element-front order st.Symbol xs ys h = refl
+
 pub element-front : (order : Order) (kind : Kind) (xs ys : List ℕ) → width kind ≤ length xs → element order kind (xs ++ ys) ≡ element order kind xs
-element-front order k.Boolean [] ys h = absurd (omega (arith, h))
-element-front order k.Boolean (x ∷ xs) ys h = refl
-element-front order k.Byte [] ys h = absurd (omega (arith, h))
-element-front order k.Byte (x ∷ xs) ys h = refl
-element-front order k.Short xs ys h = rw (number-front order 2 xs ys h) refl
-element-front order k.Integer xs ys h = rw (number-front order 4 xs ys h) refl
-element-front order k.Long xs ys h = rw (number-front order 8 xs ys h) refl
-element-front order k.Character [] ys h = absurd (omega (arith, h))
-element-front order k.Character (x ∷ xs) ys h = refl
-element-front order k.Symbol xs ys h = refl
-element-front order k.Timestamp xs ys h = rw (number-front order 8 xs ys h) refl
-element-front order k.Month xs ys h = rw (number-front order 4 xs ys h) refl
-element-front order k.Date xs ys h = rw (number-front order 4 xs ys h) refl
-element-front order k.Timespan xs ys h = rw (number-front order 8 xs ys h) refl
-element-front order k.Minute xs ys h = rw (number-front order 4 xs ys h) refl
-element-front order k.Second xs ys h = rw (number-front order 4 xs ys h) refl
-element-front order k.Time xs ys h = rw (number-front order 4 xs ys h) refl
+element-front order kind xs ys h = stored_element-front order (storage_of kind) xs ys h
 
 pub kind_of-element : (order : Order) (kind : Kind) (bytes : List ℕ) → kind_of (element order kind bytes) ≡ kind
 kind_of-element order k.Boolean bytes = refl
@@ -212,7 +208,7 @@ elements_took order kind n bytes x e = by_kind (is_symbol kind) refl e
     by_kind false s d = cells_took order kind n bytes x s d
 
 -- a vector, with its type byte
-pub vector_took : (order : Order) (kind : Kind) (bytes : List ℕ) (x : Contents × List ℕ) → vector_at order kind bytes ≡ Ok x → Took (λ b. SpellsVector order b x.0) (code_of kind ∷ bytes) x.1
+pub vector_took : (order : Order) (kind : Kind) (bytes : List ℕ) (x : Contents × List ℕ) → vector_at order kind bytes ≡ Ok x → Took (λ b. SpellsVector order b x.0) (type_number kind ∷ bytes) x.1
 unfolding vector_at
 vector_took order kind bytes x e =
     let one = bind_ok (count_at order bytes) (λ n. elements_at order kind n.0 n.1 >>= λ atoms. Ok (record { kind = kind; atoms = atoms.0 }, atoms.1)) x e in
@@ -220,9 +216,9 @@ vector_took order kind bytes x e =
     let counted = count_took order bytes one.0 one.1 in
     let took = elements_took order kind one.0.0 one.0.1 two.0 two.1 in
     let made : Contents × List ℕ = (record { kind = kind; atoms = two.0.0 }, two.0.1) in
-    subst (λ (y : Contents × List ℕ). Took (λ b. SpellsVector order b y.0) (code_of kind ∷ bytes) y.1) (ok_is made x two.2) (record {
-      front = code_of kind ∷ counted.attribute ∷ counted.count ++ took.0.front;
-      parts = ap (λ (r : List ℕ). code_of kind ∷ r) (counted.parts ∙ ap (λ (r : List ℕ). counted.attribute ∷ counted.count ++ r) took.0.parts ∙ ap (λ (r : List ℕ). counted.attribute ∷ r) (sym (append_assoc counted.count took.0.front two.0.1)));
+    subst (λ (y : Contents × List ℕ). Took (λ b. SpellsVector order b y.0) (type_number kind ∷ bytes) y.1) (ok_is made x two.2) (record {
+      front = type_number kind ∷ counted.attribute ∷ counted.count ++ took.0.front;
+      parts = ap (λ (r : List ℕ). type_number kind ∷ r) (counted.parts ∙ ap (λ (r : List ℕ). counted.attribute ∷ counted.count ++ r) took.0.parts ∙ ap (λ (r : List ℕ). counted.attribute ∷ r) (sym (append_assoc counted.count took.0.front two.0.1)));
       spelled = record {
         attribute = counted.attribute;
         count = counted.count;

@@ -16,7 +16,8 @@ use Rattle.ipc_codec.specs.declared.form.Form.TheVariants as f
 use Rattle.ipc_codec.specs.declared.order.Order.{Order}
 use Rattle.ipc_codec.specs.declared.reach.Outline.{Outline}
 use Rattle.ipc_codec.specs.declared.reach.Block.{Block}
-use Rattle.ipc_codec.specs.Types.{kind_at, form_of, width}
+use Rattle.q_values.specs.Kind.{kind_at, width}
+use Rattle.ipc_codec.specs.Types.{form_of}
 use Rattle.ipc_codec.specs.Numbers.{element, cells}
 use Rattle.ipc_codec.specs.Reading.{◌>>=◌, count_at, text_at, texts_at, cells_at, symbols_at, is_symbol, elements_at, vector_at, atom_at, part_at, column_by, column_at, columns_at, have_equal_lengths, is_grid, shaped, names_at, list_of_columns_at, grid_at, extent, number_of_items, checked, joined, identity_at, items_at, list_at, dictionary_at, object_by, object_at, placed, counted, object_of, measured}
 use Rattle.ipc_codec.specs.Extent.{outline, after_texts, after_elements, after_vector, after_atom, after_column_by, after_column, after_columns, after_block, after_list_of_columns, after_names, rows_in, after_grid, after_identity, after_items, after_list, paired, after_dictionary, plain, after_form, after_object}

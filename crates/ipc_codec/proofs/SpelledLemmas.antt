@@ -19,7 +19,8 @@ use Rattle.ipc_codec.specs.declared.fault.Fault.{Fault}
 use Rattle.ipc_codec.specs.declared.fault.Fault.TheVariants.{Truncated}
 use Rattle.ipc_codec.specs.declared.form.Form.TheVariants as f
 use Rattle.ipc_codec.specs.declared.order.Order.{Order}
-use Rattle.ipc_codec.specs.Types.{kind_at, other_form, form_of, code_of, width}
+use Rattle.q_values.specs.Kind.{kind_at, type_number, width}
+use Rattle.ipc_codec.specs.Types.{other_form, form_of}
 use Rattle.ipc_codec.specs.Numbers.{number, element, cells}
 use Rattle.ipc_codec.specs.Reading.{count_at, text_at, texts_at, cells_at, symbols_at, is_symbol, elements_at, vector_at, atom_at, part_at, column_at, columns_at, have_equal_lengths, is_grid, names_at, list_of_columns_at, grid_at, extent, number_of_items, checked, joined, identity_at, items_at, list_at, dictionary_at, object_by, object_at}
 use Rattle.ipc_codec.specs.Written.{depth, deepest, AreNotBothTables}
@@ -27,7 +28,7 @@ use Rattle.ipc_codec.specs.Spells.{InTurn, SpellsCount, SpellsText, SpellsElemen
 
 -- ---- types
 
-form_of-vector : (kind : Kind) → form_of (code_of kind) ≡ f.Vector kind
+form_of-vector : (kind : Kind) → form_of (type_number kind) ≡ f.Vector kind
 unfolding form_of
 form_of-vector k.Boolean = refl
 form_of-vector k.Byte = refl
@@ -44,7 +45,7 @@ form_of-vector k.Minute = refl
 form_of-vector k.Second = refl
 form_of-vector k.Time = refl
 
-form_of-atom : (kind : Kind) → form_of (256 - code_of kind) ≡ f.Atom kind
+form_of-atom : (kind : Kind) → form_of (256 - type_number kind) ≡ f.Atom kind
 unfolding form_of
 form_of-atom k.Boolean = refl
 form_of-atom k.Byte = refl
@@ -61,21 +62,21 @@ form_of-atom k.Minute = refl
 form_of-atom k.Second = refl
 form_of-atom k.Time = refl
 
-kind_at-code : (kind : Kind) → kind_at (code_of kind) ≡ Some kind
-kind_at-code k.Boolean = refl
-kind_at-code k.Byte = refl
-kind_at-code k.Short = refl
-kind_at-code k.Integer = refl
-kind_at-code k.Long = refl
-kind_at-code k.Character = refl
-kind_at-code k.Symbol = refl
-kind_at-code k.Timestamp = refl
-kind_at-code k.Month = refl
-kind_at-code k.Date = refl
-kind_at-code k.Timespan = refl
-kind_at-code k.Minute = refl
-kind_at-code k.Second = refl
-kind_at-code k.Time = refl
+kind_at-number : (kind : Kind) → kind_at (type_number kind) ≡ Some kind
+kind_at-number k.Boolean = refl
+kind_at-number k.Byte = refl
+kind_at-number k.Short = refl
+kind_at-number k.Integer = refl
+kind_at-number k.Long = refl
+kind_at-number k.Character = refl
+kind_at-number k.Symbol = refl
+kind_at-number k.Timestamp = refl
+kind_at-number k.Month = refl
+kind_at-number k.Date = refl
+kind_at-number k.Timespan = refl
+kind_at-number k.Minute = refl
+kind_at-number k.Second = refl
+kind_at-number k.Time = refl
 
 form_of-list : form_of 0 ≡ f.List
 unfolding form_of other_form
@@ -259,7 +260,7 @@ column_again : (room : ℕ) (order : Order) (bytes rest : List ℕ) (column : Co
 unfolding column_at
 column_again zero order bytes rest column open_here h = absurd (omega (arith, open_here))
 column_again (suc room) order bytes rest column open_here h =
-    ap (λ (r : List ℕ). column_at (suc room) order (r ++ rest)) h.parts ∙ rw (kind_at-code column.kind) (vector_again order h.attribute h.count h.body rest column h.counted h.elements)
+    ap (λ (r : List ℕ). column_at (suc room) order (r ++ rest)) h.parts ∙ rw (kind_at-number column.kind) (vector_again order h.attribute h.count h.body rest column h.counted h.elements)
 
 columns_again : (room : ℕ) (order : Order) (columns : List Contents) (bytes rest : List ℕ) → (0 < length columns → 1 ≤ room) → InTurn (SpellsVector order) bytes columns → columns_at room order (length columns) (bytes ++ rest) ≡ Ok (columns, rest)
 unfolding columns_at

@@ -12,7 +12,8 @@ use Rattle.ipc_codec.specs.declared.fault.Fault.TheVariants.{BadShape}
 use Rattle.ipc_codec.specs.declared.form.Form.{Form}
 use Rattle.ipc_codec.specs.declared.form.Form.TheVariants as f
 use Rattle.ipc_codec.specs.declared.order.Order.{Order}
-use Rattle.ipc_codec.specs.Types.{kind_at, form_of, code_of}
+use Rattle.q_values.specs.Kind.{kind_at, type_number}
+use Rattle.ipc_codec.specs.Types.{form_of}
 use Rattle.ipc_codec.specs.Reading.{◌>>=◌, count_at, text_at, texts_at, vector_at, atom_at, part_at, column_by, column_at, columns_at, have_equal_lengths, is_grid, shaped, names_at, list_of_columns_at, grid_at, extent, number_of_items, checked, joined, identity_at, items_at, list_at, dictionary_at, object_by, object_at}
 use Rattle.ipc_codec.specs.Written.{depth, deepest}
 use Rattle.ipc_codec.specs.Spells.{InTurn, SpellsCount, SpellsVector, IsDictionaryType, SpellsNames, SpellsColumns, SpellsGrid, SpellsTree, SpellsItems}
@@ -219,7 +220,7 @@ by_took order room object took b (f.Atom kind) c left bytes x e =
     subst (λ (y : Tree × List ℕ). Took (λ b. SpellsWithin order (suc room) b y.0) (b ∷ bytes) y.1) (ok_is made x one.2) (record {
       front = b ∷ first.front;
       parts = ap (λ (r : List ℕ). b ∷ r) first.parts;
-      spelled = ((first.front, ap (λ (t : ℕ). t ∷ first.front) (c ∙ ap (λ (own : Kind). 256 - code_of own) (sym first.spelled.of_kind)), first.spelled.spelled), omega arith);
+      spelled = ((first.front, ap (λ (t : ℕ). t ∷ first.front) (c ∙ ap (λ (own : Kind). 256 - type_number own) (sym first.spelled.of_kind)), first.spelled.spelled), omega arith);
     })
 by_took order room object took b (f.Vector kind) c left bytes x e =
     let one = bind_ok (vector_at order kind bytes) (λ x. Ok (vector x.0, x.1)) x e in

@@ -1,40 +1,31 @@
 -- What a type byte is, by the form that it was read as.
-use Rattle.std.proofs.Common.{nat_eq, ◌≡◌, ℕ, ◌-◌, ◌≤◌, Bool, true, false, cond, Option, Some, None, refl, arith, inl, inr}
+use Rattle.std.proofs.Common.{nat_eq, ◌≡◌, ℕ, ◌-◌, ◌≤◌, Bool, true, false, cond, List, [], ◌∷◌, Option, Some, None, refl, arith, inl, inr}
 use Rattle.std.specs.Prelude.{◌⊎◌, ◌&&◌, ◌||◌, nat_le}
 use Rattle.std.proofs.lemmas.Bool.{eqb-true}
 use Rattle.q_values.specs.declared.kind.Kind.{Kind}
 use Rattle.q_values.specs.declared.kind.Kind.TheVariants as k
 use Rattle.ipc_codec.specs.declared.form.Form.{Form}
 use Rattle.ipc_codec.specs.declared.form.Form.TheVariants as f
-use Rattle.ipc_codec.specs.Types.{kind_at, is_unbuilt, other_form, form_by, form_of, code_of}
+use Rattle.q_values.specs.Kind.{kinds, kind_among, kind_at, type_number}
+use Rattle.ipc_codec.specs.Types.{is_unbuilt, other_form, form_by, form_of}
 use Rattle.ipc_codec.specs.Spells.{IsDictionaryType}
 use Rattle.ipc_codec.proofs.StepLemmas.{cond-elim}
 
 abbrev pub KindCase : ℕ → Option Kind → Type 0
 KindCase b None = Unit {0}
-KindCase b (Some kind) = b ≡ code_of kind
+KindCase b (Some kind) = b ≡ type_number kind
 
 pub kind_is : (b : ℕ) → KindCase b (kind_at b)
-kind_is b =
-    cond-elim (KindCase b) (nat_eq b 1) _ _ (λ e. eqb-true b 1 e) (λ _.
-    cond-elim (KindCase b) (nat_eq b 4) _ _ (λ e. eqb-true b 4 e) (λ _.
-    cond-elim (KindCase b) (nat_eq b 5) _ _ (λ e. eqb-true b 5 e) (λ _.
-    cond-elim (KindCase b) (nat_eq b 6) _ _ (λ e. eqb-true b 6 e) (λ _.
-    cond-elim (KindCase b) (nat_eq b 7) _ _ (λ e. eqb-true b 7 e) (λ _.
-    cond-elim (KindCase b) (nat_eq b 10) _ _ (λ e. eqb-true b 10 e) (λ _.
-    cond-elim (KindCase b) (nat_eq b 11) _ _ (λ e. eqb-true b 11 e) (λ _.
-    cond-elim (KindCase b) (nat_eq b 12) _ _ (λ e. eqb-true b 12 e) (λ _.
-    cond-elim (KindCase b) (nat_eq b 13) _ _ (λ e. eqb-true b 13 e) (λ _.
-    cond-elim (KindCase b) (nat_eq b 14) _ _ (λ e. eqb-true b 14 e) (λ _.
-    cond-elim (KindCase b) (nat_eq b 16) _ _ (λ e. eqb-true b 16 e) (λ _.
-    cond-elim (KindCase b) (nat_eq b 17) _ _ (λ e. eqb-true b 17 e) (λ _.
-    cond-elim (KindCase b) (nat_eq b 18) _ _ (λ e. eqb-true b 18 e) (λ _.
-    cond-elim (KindCase b) (nat_eq b 19) _ _ (λ e. eqb-true b 19 e) (λ _. tt))))))))))))))
+kind_is b = among kinds
+  where
+    among : (some : List Kind) → KindCase b (kind_among some b)
+    among [] = tt
+    among (kind ∷ others) = cond-elim (KindCase b) (nat_eq b (type_number kind)) _ _ (λ e. eqb-true b (type_number kind) e) (λ _. among others)
 
 -- what a type byte is, by its form
 abbrev pub FormCase : ℕ → Form → Type 0
-FormCase b (f.Atom kind) = b ≡ 256 - code_of kind
-FormCase b (f.Vector kind) = b ≡ code_of kind
+FormCase b (f.Atom kind) = b ≡ 256 - type_number kind
+FormCase b (f.Vector kind) = b ≡ type_number kind
 FormCase b f.List = b ≡ 0
 FormCase b f.Dictionary = IsDictionaryType b
 FormCase b f.Table = b ≡ 98
@@ -65,21 +56,21 @@ other_is b =
     cond-elim (FormCase b) (nat_eq b 128) _ _ (λ e. eqb-true b 128 e) (λ _.
     outside b (is_unbuilt b || (is_unbuilt (256 - b) || (nat_le 100 b && nat_le b 112))))))))
 
-code-positive : (kind : Kind) → 1 ≤ code_of kind
-code-positive k.Boolean = omega arith
-code-positive k.Byte = omega arith
-code-positive k.Short = omega arith
-code-positive k.Integer = omega arith
-code-positive k.Long = omega arith
-code-positive k.Character = omega arith
-code-positive k.Symbol = omega arith
-code-positive k.Timestamp = omega arith
-code-positive k.Month = omega arith
-code-positive k.Date = omega arith
-code-positive k.Timespan = omega arith
-code-positive k.Minute = omega arith
-code-positive k.Second = omega arith
-code-positive k.Time = omega arith
+number-positive : (kind : Kind) → 1 ≤ type_number kind
+number-positive k.Boolean = omega arith
+number-positive k.Byte = omega arith
+number-positive k.Short = omega arith
+number-positive k.Integer = omega arith
+number-positive k.Long = omega arith
+number-positive k.Character = omega arith
+number-positive k.Symbol = omega arith
+number-positive k.Timestamp = omega arith
+number-positive k.Month = omega arith
+number-positive k.Date = omega arith
+number-positive k.Timespan = omega arith
+number-positive k.Minute = omega arith
+number-positive k.Second = omega arith
+number-positive k.Time = omega arith
 
 pub form_is : (b : ℕ) → FormCase b (form_of b)
 unfolding form_of
@@ -87,5 +78,5 @@ form_is b = by_kinds (kind_at b) (kind_at (256 - b)) (kind_is b) (kind_is (256 -
   where
     by_kinds : (p q : Option Kind) → KindCase b p → KindCase (256 - b) q → FormCase b (form_by p q b)
     by_kinds (Some kind) q g h = g
-    by_kinds None (Some kind) g h = omega (arith, h, code-positive kind)
+    by_kinds None (Some kind) g h = omega (arith, h, number-positive kind)
     by_kinds None None g h = other_is b

@@ -10,7 +10,8 @@ use Rattle.ipc_codec.specs.declared.form.Form.TheVariants as f
 use Rattle.ipc_codec.specs.declared.order.Order.{Order}
 use Rattle.ipc_codec.specs.declared.reach.Outline.{Outline}
 use Rattle.ipc_codec.specs.declared.reach.Block.{Block}
-use Rattle.ipc_codec.specs.Types.{kind_at, form_of, width}
+use Rattle.q_values.specs.Kind.{kind_at, width}
+use Rattle.ipc_codec.specs.Types.{form_of}
 use Rattle.ipc_codec.specs.Reading.{◌>>=◌, count_at, text_at, part_at, is_symbol, extent}
 
 -- what is kept of a value: whether it is a table, and its number of items as one side of a dictionary

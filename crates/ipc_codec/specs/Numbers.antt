@@ -5,7 +5,10 @@ use Rattle.byteorder.specs.Endian.{little_number, big_number}
 use Rattle.q_values.specs.declared.atom.Atom.{Atom}
 use Rattle.q_values.specs.declared.atom.Atom.TheVariants as a
 use Rattle.q_values.specs.declared.kind.Kind.{Kind}
-use Rattle.q_values.specs.declared.kind.Kind.TheVariants as k
+use Rattle.q_values.specs.declared.kind.Storage.{Storage}
+use Rattle.q_values.specs.declared.kind.Storage.TheVariants as st
+use Rattle.q_values.specs.Column.{byte_atom, integer_atom, long_atom}
+use Rattle.q_values.specs.Kind.{storage_of}
 use Rattle.ipc_codec.specs.declared.order.Order.{Order}
 use Rattle.ipc_codec.specs.declared.order.Order.TheVariants as o
 
@@ -28,22 +31,18 @@ long_of number bytes = cast_signed w64 (number 8 bytes)
 abbrev pub boolean_of : List ℕ → Bool
 boolean_of bytes = not (slice_index bytes 0 == 0)
 
--- the element at the front, of a kind of fixed width, where `number` reads the number in the first n bytes
+-- the element at the front, of what is stored so, where `number` reads the number in the first n bytes
+abbrev pub stored_element : (ℕ → List ℕ → ℕ) → Storage → List ℕ → Atom
+stored_element number st.Boolean bytes = a.Boolean (boolean_of bytes)
+stored_element number (st.Byte kind) bytes = byte_atom kind (slice_index bytes 0)
+stored_element number st.Short bytes = a.Short (short_of number bytes)
+stored_element number (st.Integer kind) bytes = integer_atom kind (integer_of number bytes)
+stored_element number (st.Long kind) bytes = long_atom kind (long_of number bytes)
+stored_element number st.Symbol bytes = a.Symbol []
+
+-- the element at the front, of a kind of fixed width
 abbrev pub element_by : (ℕ → List ℕ → ℕ) → Kind → List ℕ → Atom
-element_by number k.Boolean bytes = a.Boolean (boolean_of bytes)
-element_by number k.Byte bytes = a.Byte (slice_index bytes 0)
-element_by number k.Short bytes = a.Short (short_of number bytes)
-element_by number k.Integer bytes = a.Integer (integer_of number bytes)
-element_by number k.Long bytes = a.Long (long_of number bytes)
-element_by number k.Character bytes = a.Character (slice_index bytes 0)
-element_by number k.Symbol bytes = a.Symbol []
-element_by number k.Timestamp bytes = a.Timestamp (long_of number bytes)
-element_by number k.Month bytes = a.Month (integer_of number bytes)
-element_by number k.Date bytes = a.Date (integer_of number bytes)
-element_by number k.Timespan bytes = a.Timespan (long_of number bytes)
-element_by number k.Minute bytes = a.Minute (integer_of number bytes)
-element_by number k.Second bytes = a.Second (integer_of number bytes)
-element_by number k.Time bytes = a.Time (integer_of number bytes)
+element_by number kind = stored_element number (storage_of kind)
 
 -- the same in a byte order
 abbrev pub element : Order → Kind → List ℕ → Atom

@@ -19,7 +19,8 @@ use Rattle.ipc_codec.specs.declared.form.Form.TheVariants as f
 use Rattle.ipc_codec.specs.declared.order.Order.{Order}
 use Rattle.ipc_codec.specs.declared.refusal.DecodeRefusal.{DecodeRefusal}
 use Rattle.ipc_codec.specs.declared.refusal.DecodeRefusal.TheVariants as r
-use Rattle.ipc_codec.specs.Types.{kind_at, form_of, width}
+use Rattle.q_values.specs.Kind.{kind_at, width}
+use Rattle.ipc_codec.specs.Types.{form_of}
 use Rattle.ipc_codec.specs.Numbers.{number, element, cells}
 
 infixl 10 ◌>>=◌

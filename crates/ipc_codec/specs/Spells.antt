@@ -10,7 +10,7 @@ use Rattle.q_values.specs.declared.atom.Atom.{Atom}
 use Rattle.q_values.specs.declared.atom.Atom.TheVariants as a
 use Rattle.q_values.specs.declared.kind.Kind.{Kind}
 use Rattle.ipc_codec.specs.declared.order.Order.{Order}
-use Rattle.ipc_codec.specs.Types.{code_of, width}
+use Rattle.q_values.specs.Kind.{type_number, width}
 use Rattle.ipc_codec.specs.Numbers.{number, element}
 use Rattle.ipc_codec.specs.Reading.{extent, number_of_items}
 use Rattle.ipc_codec.specs.Written.{depth, AreNotBothTables}
@@ -46,7 +46,7 @@ pub record SpellsVector (order : Order) (bytes : List ℕ) (v : Contents) : Type
   pub attribute : ℕ
   pub count : List ℕ
   pub body : List ℕ
-  pub parts : bytes ≡ code_of v.kind ∷ attribute ∷ count ++ body
+  pub parts : bytes ≡ type_number v.kind ∷ attribute ∷ count ++ body
   pub counted : SpellsCount order count (length v.atoms)
   pub elements : InTurn (SpellsElementOf order v.kind) body v.atoms
 
@@ -86,7 +86,7 @@ pub record SpellsGrid (order : Order) (bytes : List ℕ) (grid : Grid) : Type 0 
 -- an object, however deep it nests
 abbrev mutual
   pub SpellsTree : Order → List ℕ → Tree → Type 0
-  SpellsTree order bytes (atom x) = (body : List ℕ) × (bytes ≡ (256 - code_of (kind_of x)) ∷ body) × SpellsElement order body x
+  SpellsTree order bytes (atom x) = (body : List ℕ) × (bytes ≡ (256 - type_number (kind_of x)) ∷ body) × SpellsElement order body x
   SpellsTree order bytes (vector v) = SpellsVector order bytes v
   SpellsTree order bytes (list items) =
       (attribute : ℕ) × (count : List ℕ) × (body : List ℕ) × (bytes ≡ 0 ∷ attribute ∷ count ++ body)

@@ -11,7 +11,7 @@ use Rattle.q_values.specs.Table.{IsTable, rows_of}
 use Rattle.q_values.specs.Tree.{Tree, Items, Grid, atom, vector, list, dict, table, keyed, identity, wrong, no_items, item}
 use Rattle.q_values.specs.declared.atom.Atom.{Atom}
 use Rattle.q_values.specs.declared.atom.Atom.TheVariants as a
-use Rattle.ipc_codec.specs.Types.{code_of}
+use Rattle.q_values.specs.Kind.{type_number}
 use Rattle.ipc_codec.specs.Reading.{extent, number_of_items}
 
 -- a text and the 0 that ends it
@@ -40,7 +40,7 @@ abbrev pub head : ℕ → ℕ → List ℕ
 head code n = code ∷ 0 ∷ little_bytes 4 n
 
 unfoldable pub vector_bytes : Contents → List ℕ
-vector_bytes v = head (code_of v.kind) (length v.atoms) ++ flat_map element_bytes v.atoms
+vector_bytes v = head (type_number v.kind) (length v.atoms) ++ flat_map element_bytes v.atoms
 
 unfoldable pub grid_bytes : Grid → List ℕ
 grid_bytes grid =
@@ -49,7 +49,7 @@ grid_bytes grid =
 -- the bytes of a value
 unfoldable mutual
   pub written : Tree → List ℕ
-  written (atom x) = (256 - code_of (kind_of x)) ∷ element_bytes x
+  written (atom x) = (256 - type_number (kind_of x)) ∷ element_bytes x
   written (vector v) = vector_bytes v
   written (list items) = head 0 (number_of_items items) ++ written_items items
   written (dict keys values) = 99 ∷ written keys ++ written values

@@ -1,13 +1,13 @@
 //! Elements of a fixed width, in either byte order.
 ghost use Rattle.std.specs.Prelude.{◌≡◌, ◌≤◌, ◌*◌, length, map, take, false, IfOk};
 ghost use Rattle.q_values.specs.Column.{contents};
-ghost use Rattle.ipc_codec.specs.Types.{width};
+ghost use Rattle.q_values.specs.Kind.{width};
 ghost use Rattle.ipc_codec.specs.Numbers.{short_of, integer_of, long_of, boolean_of, element_by, element, cells};
 ghost use Rattle.ipc_codec.specs.Reading.{is_symbol};
 
 use crate::order::Order;
 use byteorder::{BigEndian, ByteOrder, LittleEndian};
-use q_values::{Atom, Column, Kind, NoMemory};
+use q_values::{Atom, Column, Kind, NoMemory, Storage};
 use std::alloc::{AllocError, Global};
 
 fn booleans_in(alloc: Global, bytes: &[u8], count: usize) -> Result<Vec<bool>, AllocError>
@@ -112,21 +112,13 @@ fn element_in<T: ByteOrder>(bytes: &[u8], kind: Kind) -> Atom
     requires within { width kind ≤ length bytes.now }
     ensures { result ≡ element_by T.number_of kind bytes.now }
 {
-    match kind {
-        Kind::Boolean => Atom::Boolean(bytes[0] != 0),
-        Kind::Byte => Atom::Byte(bytes[0]),
-        Kind::Short => Atom::Short(T::read_i16(bytes)),
-        Kind::Integer => Atom::Integer(T::read_i32(bytes)),
-        Kind::Long => Atom::Long(T::read_i64(bytes)),
-        Kind::Character => Atom::Character(bytes[0]),
-        Kind::Symbol => unreachable!(),
-        Kind::Timestamp => Atom::Timestamp(T::read_i64(bytes)),
-        Kind::Month => Atom::Month(T::read_i32(bytes)),
-        Kind::Date => Atom::Date(T::read_i32(bytes)),
-        Kind::Timespan => Atom::Timespan(T::read_i64(bytes)),
-        Kind::Minute => Atom::Minute(T::read_i32(bytes)),
-        Kind::Second => Atom::Second(T::read_i32(bytes)),
-        Kind::Time => Atom::Time(T::read_i32(bytes)),
+    match kind.storage() {
+        Storage::Boolean => Atom::Boolean(bytes[0] != 0),
+        Storage::Byte(own) => own.atom(bytes[0]),
+        Storage::Short => Atom::Short(T::read_i16(bytes)),
+        Storage::Integer(own) => own.atom(&T::read_i32(bytes)),
+        Storage::Long(own) => own.atom(&T::read_i64(bytes)),
+        Storage::Symbol => unreachable!(),
     }
 }
 

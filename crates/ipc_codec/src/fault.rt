@@ -6,7 +6,6 @@ ghost use Rattle.ipc_codec.specs.declared.fault.Stop.TheVariants as s;
 
 use crate::refusal::DecodeRefusal;
 use q_values::NoMemory;
-use std::alloc::{AllocError, AllocFailed};
 
 /// What is wrong with the bytes, seen from where reading ended.
 #[derive(Clone, Copy, Debug, PartialEq, Eq)]
@@ -59,22 +58,6 @@ impl From<NoMemory> for Stop {
     ghost from_gives = { λ _ e. e ≡ s.Memory };
 
     fn from(_e: NoMemory) -> Stop {
-        Stop::Memory
-    }
-}
-
-impl From<AllocError> for Stop {
-    ghost from_gives = { λ _ e. e ≡ s.Memory };
-
-    fn from(_e: AllocError) -> Stop {
-        Stop::Memory
-    }
-}
-
-impl<T: Drop> From<AllocFailed<T>> for Stop {
-    ghost from_gives = { λ _ e. e ≡ s.Memory };
-
-    fn from(_e: AllocFailed<T>) -> Stop {
         Stop::Memory
     }
 }

@@ -6,7 +6,7 @@ ghost use Rattle.ipc_codec.specs.Extent.{after_columns, after_block, after_list_
 ghost use Rattle.ipc_codec.specs.Extent.{after_items, after_dictionary, after_form, after_object};
 
 use crate::fault::Fault;
-use crate::form::{Form, form_of_byte, kind_of_type, width_of};
+use crate::form::{Form, form_of_byte};
 use crate::heads::{count_of, part_of, text_of};
 use crate::order::Order;
 use crate::refusal::DecodeRefusal;
@@ -51,7 +51,7 @@ fn after_elements_of(bytes: &[u8], kind: Kind, count: usize) -> Result<&[u8], Fa
     if kind == Kind::Symbol {
         return after_texts_of(bytes, count);
     }
-    let size = count * width_of(kind);
+    let size = count * kind.width();
     if bytes.len() < size {
         return Err(Fault::Truncated);
     }
@@ -75,7 +75,7 @@ fn after_atom_of(bytes: &[u8], kind: Kind) -> Result<&[u8], Fault>
         let (_, rest) = text_of(bytes)?;
         return Ok(rest);
     }
-    let size = width_of(kind);
+    let size = kind.width();
     if bytes.len() < size {
         return Err(Fault::Truncated);
     }
@@ -92,7 +92,7 @@ fn after_column_of(bytes: &[u8], order: Order, room: u32) -> Result<(usize, &[u8
             if room == 0 {
                 return Err(Fault::TooDeep(bytes.len()));
             }
-            match kind_of_type(u16::from(*first)) {
+            match Kind::from_type_number(u16::from(*first)) {
                 None => Err(Fault::NotBuilt(bytes.len())),
                 Some(kind) => after_vector_of(rest, order, kind),
             }

@@ -15,15 +15,29 @@ ghost use Rattle.ipc_codec.specs.Written.{IsPlain, AtomsFit};
 
 use crate::elements::{column_of, element_of};
 use crate::fault::{Fault, Stop};
-use crate::form::{Form, form_of_byte, kind_of_type, width_of};
+use crate::form::{Form, form_of_byte};
 use crate::heads::{count_of, part_of, text_of};
 use crate::order::Order;
 use crate::refusal::DecodeRefusal;
 use q_values::{
-    Atom, Column, KeyedValue, Kind, Pair, Sequence, Sym, Symbols, TableValue, Text, Value, Values,
-    Vector,
+    Atom, Column, KeyedValue, Kind, NoMemory, Pair, Sequence, Sym, Symbols, TableValue, Text,
+    Value, Values, Vector,
 };
 use std::alloc::Global;
+
+// A box of the item.
+fn boxed<T: Drop>(alloc: Global, item: T) -> Result<Box<T>, NoMemory>
+    ensures { IfOk result (λ b. b.value ≡ item) }
+{
+    Ok(Box::new(alloc, item)?)
+}
+
+// A copy of the text.
+fn text_copied(alloc: Global, text: &[u8]) -> Result<Text, NoMemory>
+    ensures { IfOk result (λ t. t ≡ text.now) }
+{
+    Ok(Text::from_vec(Vec::from_slice(alloc, text)?))
+}
 
 fn symbols_of(alloc: Global, bytes: &[u8], count: usize) -> Result<(Symbols, &[u8]), Stop>
     ensures { Gives (λ x. (x.0, x.1.now)) result (texts_at count bytes.now) }
@@ -54,7 +68,7 @@ fn elements_of(
         let (symbols, rest) = symbols_of(alloc, bytes, count)?;
         return Ok((Column::Symbols(symbols), rest));
     }
-    let size = count * width_of(kind);
+    let size = count * kind.width();
     if bytes.len() < size {
         return Err(Stop::At(Fault::Truncated));
     }
@@ -78,7 +92,7 @@ fn atom_of(alloc: Global, bytes: &[u8], order: Order, kind: Kind) -> Result<(Ato
         let (text, rest) = text_of(bytes)?;
         return Ok((Atom::Symbol(Sym::copied(alloc, text)?), rest));
     }
-    let size = width_of(kind);
+    let size = kind.width();
     if bytes.len() < size {
         return Err(Stop::At(Fault::Truncated));
     }
@@ -100,7 +114,7 @@ fn column_in_table(
             if room == 0 {
                 return Err(Stop::At(Fault::TooDeep(bytes.len())));
             }
-            match kind_of_type(u16::from(*first)) {
+            match Kind::from_type_number(u16::from(*first)) {
                 None => Err(Stop::At(Fault::NotBuilt(bytes.len()))),
                 Some(kind) => vector_of(alloc, rest, order, kind),
             }
@@ -114,10 +128,10 @@ fn columns_of(
     order: Order,
     room: u32,
     count: usize,
-) -> Result<(Vec<Vector>, &[u8]), Stop>
-    ensures { Gives (λ x. (x.0.items, x.1.now)) result (columns_at room order count bytes.now) }
+) -> Result<(Sequence<Vector>, &[u8]), Stop>
+    ensures { Gives (λ x. (x.0, x.1.now)) result (columns_at room order count bytes.now) }
 {
-    let mut columns = Vec::new(alloc);
+    let mut columns = Sequence::new(alloc);
     let mut rest = bytes;
     for _ in 0..count {
         let (column, after) = column_in_table(alloc, rest, order, room)?;
@@ -127,10 +141,10 @@ fn columns_of(
     Ok((columns, rest))
 }
 
-fn syms_of(alloc: Global, bytes: &[u8], count: usize) -> Result<(Vec<Sym>, &[u8]), Stop>
-    ensures { Gives (λ x. (x.0.items, x.1.now)) result (texts_at count bytes.now) }
+fn syms_of(alloc: Global, bytes: &[u8], count: usize) -> Result<(Sequence<Sym>, &[u8]), Stop>
+    ensures { Gives (λ x. (x.0, x.1.now)) result (texts_at count bytes.now) }
 {
-    let mut names = Vec::new(alloc);
+    let mut names = Sequence::new(alloc);
     let mut rest = bytes;
     for _ in 0..count {
         let (text, after) = text_of(rest)?;
@@ -142,8 +156,13 @@ fn syms_of(alloc: Global, bytes: &[u8], count: usize) -> Result<(Vec<Sym>, &[u8]
 }
 
 #[tactic(auto, unfolding(crate::specs::Reading::names_at))]
-fn names_of(alloc: Global, bytes: &[u8], order: Order, room: u32) -> Result<(Vec<Sym>, &[u8]), Stop>
-    ensures { Gives (λ x. (x.0.items, x.1.now)) result (names_at room order bytes.now) }
+fn names_of(
+    alloc: Global,
+    bytes: &[u8],
+    order: Order,
+    room: u32,
+) -> Result<(Sequence<Sym>, &[u8]), Stop>
+    ensures { Gives (λ x. (x.0, x.1.now)) result (names_at room order bytes.now) }
 {
     let inner = part_of(bytes, room, 11, 11)?;
     let (count, rest) = count_of(inner, order)?;
@@ -156,8 +175,8 @@ fn list_of_columns_of(
     bytes: &[u8],
     order: Order,
     room: u32,
-) -> Result<(Vec<Vector>, &[u8]), Stop>
-    ensures { Gives (λ x. (x.0.items, x.1.now)) result (list_of_columns_at room order bytes.now) }
+) -> Result<(Sequence<Vector>, &[u8]), Stop>
+    ensures { Gives (λ x. (x.0, x.1.now)) result (list_of_columns_at room order bytes.now) }
 {
     let inner = part_of(bytes, room, 0, 0)?;
     let (count, rest) = count_of(inner, order)?;
@@ -206,18 +225,22 @@ fn table_of(
 }
 
 // A table of these names and columns, where they have the same number and all columns the same length.
-fn table_from(names: Vec<Sym>, columns: Vec<Vector>, left: usize) -> Result<TableValue, Fault>
+fn table_from(
+    names: Sequence<Sym>,
+    columns: Sequence<Vector>,
+    left: usize,
+) -> Result<TableValue, Fault>
     ensures { Finds (λ x. record { names = x.names; columns = x.columns }) result
-        (shaped left names.items columns.items) }
+        (shaped left names columns) }
 {
-    let rows = rows_in(&columns);
-    if columns.is_empty() || names.len() != columns.len() || !have_equal_lengths(&columns, rows) {
+    let rows = rows_in(columns.as_slice());
+    if columns.is_empty()
+        || names.len() != columns.len()
+        || !have_equal_lengths(columns.as_slice(), rows)
+    {
         return Err(Fault::BadShape(left));
     }
-    Ok(TableValue {
-        names: Sequence::from_vec(names),
-        columns: Sequence::from_vec(columns),
-    })
+    Ok(TableValue { names, columns })
 }
 
 // The number of items that a value has as one side of a dictionary: 1 for an atom, the rows of a table.
@@ -246,7 +269,7 @@ fn dictionary_from(alloc: Global, keys: Value, values: Value, left: usize) -> Re
             if extent_of(&keys) != extent_of(&values) {
                 return Err(Stop::At(Fault::BadShape(left)));
             }
-            Ok(Value::Dict(Box::new(alloc, Pair { keys, values })?))
+            Ok(Value::Dict(boxed(alloc, Pair { keys, values })?))
         }
     }
 }
@@ -263,7 +286,7 @@ fn keyed_from(
     if rows_in(keys.columns.as_slice()) != rows_in(values.columns.as_slice()) {
         return Err(Stop::At(Fault::BadShape(left)));
     }
-    Ok(Value::Keyed(Box::new(alloc, KeyedValue { keys, values })?))
+    Ok(Value::Keyed(boxed(alloc, KeyedValue { keys, values })?))
 }
 
 // The generic null, after its type byte.
@@ -356,10 +379,7 @@ fn form_in(
         Form::Identity => Ok((Value::Identity, identity_of(bytes, left)?)),
         Form::Wrong => {
             let (text, rest) = text_of(bytes)?;
-            Ok((
-                Value::Wrong(Text::from_vec(Vec::from_slice(alloc, text)?)),
-                rest,
-            ))
+            Ok((Value::Wrong(text_copied(alloc, text)?), rest))
         }
         Form::Unbuilt => Err(Stop::At(Fault::NotBuilt(left))),
         Form::Unknown => Err(Stop::At(Fault::BadType(left))),

@@ -8,7 +8,6 @@ ghost use Rattle.q_values.specs.Tree.{tree, trees, items_of};
 ghost use Rattle.ipc_codec.specs.Appends.{Begins};
 ghost use Rattle.ipc_codec.specs.Written.{head, text_bytes, element_bytes, vector_bytes, grid_bytes, written, written_items, Fits, AllFit, GridFits, IsPlain};
 
-use crate::form::type_of_kind;
 use byteorder::{ByteOrder, LittleEndian};
 use q_values::{Atom, Column, NoMemory, Sym, Symbols, TableValue, Value, Values, Vector};
 
@@ -122,7 +121,7 @@ fn put_vector(out: &mut Vec<u8>, vector: &Vector) -> Result<(), NoMemory>
     ensures ok { OnOk result (out.new.items ≡ out.old.items ++ vector_bytes vector.now) }
     ensures err { OnErr result (Begins out.old.items out.new.items) }
 {
-    put_head(out, type_of_kind(vector.kind()), vector.len())?;
+    put_head(out, vector.kind().type_number(), vector.len())?;
     put_elements(out, vector.column())
 }
 
@@ -171,19 +170,16 @@ fn put_element(out: &mut Vec<u8>, x: &Atom) -> Result<(), NoMemory>
 {
     match x {
         Atom::Boolean(x) => Ok(out.push(byte_of(*x))?),
-        Atom::Byte(x) => Ok(out.push(*x)?),
+        Atom::Byte(x) | Atom::Character(x) => Ok(out.push(*x)?),
         Atom::Short(x) => put_short(out, x),
-        Atom::Integer(x) => put_integer(out, x),
-        Atom::Long(x) => put_long(out, x),
-        Atom::Character(x) => Ok(out.push(*x)?),
+        Atom::Integer(x)
+        | Atom::Month(x)
+        | Atom::Date(x)
+        | Atom::Minute(x)
+        | Atom::Second(x)
+        | Atom::Time(x) => put_integer(out, x),
+        Atom::Long(x) | Atom::Timestamp(x) | Atom::Timespan(x) => put_long(out, x),
         Atom::Symbol(x) => put_text(out, x.bytes()),
-        Atom::Timestamp(x) => put_long(out, x),
-        Atom::Month(x) => put_integer(out, x),
-        Atom::Date(x) => put_integer(out, x),
-        Atom::Timespan(x) => put_long(out, x),
-        Atom::Minute(x) => put_integer(out, x),
-        Atom::Second(x) => put_integer(out, x),
-        Atom::Time(x) => put_integer(out, x),
     }
 }
 
@@ -229,7 +225,7 @@ fn put_value(out: &mut Vec<u8>, value: &Value) -> Result<(), NoMemory>
 {
     match value {
         Value::Atom(x) => {
-            out.push((256 - u16::from(type_of_kind(x.kind()))) as u8)?;
+            out.push((256 - u16::from(x.kind().type_number())) as u8)?;
             put_element(out, x)
         }
         Value::Vector(vector) => put_vector(out, vector),

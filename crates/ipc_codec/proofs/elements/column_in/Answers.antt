@@ -4,7 +4,7 @@ use Rattle.q_values.specs.Column.{contents}
 use Rattle.q_values.specs.declared.atom.Atom.{Atom}
 use Rattle.q_values.specs.declared.kind.Kind.{Kind}
 use Rattle.q_values.specs.declared.kind.Kind.TheVariants as k
-use Rattle.ipc_codec.specs.Types.{width}
+use Rattle.q_values.specs.Kind.{width}
 use Rattle.ipc_codec.specs.Numbers.{element_by, cells}
 use Rattle.ipc_codec.proofs.CellsLemmas.{column_of_booleans}
 use Rattle.ipc_codec.proofs.elements.column_in.Goals as goal
