@@ -1,4 +1,4 @@
--- Cells, read one after the other.
+-- Consecutive cells of one width.
 use Rattle.std.proofs.Common.{◌≡◌, ℕ, zero, suc, ◌+◌, ◌≤◌, ◌*◌, List, [], ◌∷◌, ◌++◌, length, get_or, take, drop, map, refl, sym, ap, ◌∙◌, arith}
 use Rattle.std.specs.Prelude.{slice_index, not, ◌==◌}
 use Rattle.std.proofs.lemmas.List.{drop-drop, get_or-drop}
@@ -11,9 +11,8 @@ use Rattle.q_values.specs.declared.kind.IntegerKind.{IntegerKind}
 use Rattle.q_values.specs.declared.kind.IntegerKind.TheVariants as i
 use Rattle.q_values.specs.declared.kind.LongKind.{LongKind}
 use Rattle.q_values.specs.declared.kind.LongKind.TheVariants as l
-use Rattle.ipc_codec.specs.declared.order.Order.{Order}
-use Rattle.ipc_codec.specs.Types.{width}
-use Rattle.ipc_codec.specs.Numbers.{number, short_of, integer_of, long_of, boolean_of, element, cells}
+use Rattle.q_values.specs.Kind.{width}
+use Rattle.ipc_codec.specs.Numbers.{short_of, integer_of, long_of, boolean_of, element_by, cells}
 
 -- one more cell
 pub cells-more : {X : Type 0} (f : List ℕ → X) (w n : ℕ) (bytes : List ℕ) → cells f w (n + 1) bytes ≡ cells f w n bytes ++ f (drop (w * n) bytes) ∷ []
@@ -37,28 +36,28 @@ cells-bytes zero bytes h = refl
 cells-bytes (suc n) [] h = absurd (omega (arith, h))
 cells-bytes (suc n) (x ∷ bytes) h = ap (λ r. x ∷ r) (cells-bytes n bytes (omega (arith, h)))
 
-pub column_of_booleans : (order : Order) (n : ℕ) (bytes : List ℕ) → map (λ x. a.Boolean x) (cells boolean_of 1 n bytes) ≡ cells (element order k.Boolean) 1 n bytes
-column_of_booleans order n bytes = map-cells (λ x. a.Boolean x) boolean_of 1 n bytes
+pub column_of_booleans : (number : ℕ → List ℕ → ℕ) (n : ℕ) (bytes : List ℕ) → map (λ x. a.Boolean x) (cells boolean_of 1 n bytes) ≡ cells (element_by number k.Boolean) 1 n bytes
+column_of_booleans number n bytes = map-cells (λ x. a.Boolean x) boolean_of 1 n bytes
 
-pub column_of_bytes : (order : Order) (kind : ByteKind) (n : ℕ) (bytes : List ℕ) → n ≤ length bytes → map (byte_atom kind) (take n bytes) ≡ cells (element order (byte_kind kind)) (width (byte_kind kind)) n bytes
-column_of_bytes order b.Byte n bytes h = ap (map (byte_atom b.Byte)) (sym (cells-bytes n bytes h)) ∙ map-cells (byte_atom b.Byte) (λ r. slice_index r 0) 1 n bytes
-column_of_bytes order b.Character n bytes h = ap (map (byte_atom b.Character)) (sym (cells-bytes n bytes h)) ∙ map-cells (byte_atom b.Character) (λ r. slice_index r 0) 1 n bytes
+pub column_of_bytes : (number : ℕ → List ℕ → ℕ) (kind : ByteKind) (n : ℕ) (bytes : List ℕ) → n ≤ length bytes → map (byte_atom kind) (take n bytes) ≡ cells (element_by number (byte_kind kind)) (width (byte_kind kind)) n bytes
+column_of_bytes number b.Byte n bytes h = ap (map (byte_atom b.Byte)) (sym (cells-bytes n bytes h)) ∙ map-cells (byte_atom b.Byte) (λ r. slice_index r 0) 1 n bytes
+column_of_bytes number b.Character n bytes h = ap (map (byte_atom b.Character)) (sym (cells-bytes n bytes h)) ∙ map-cells (byte_atom b.Character) (λ r. slice_index r 0) 1 n bytes
 
-pub column_of_shorts : (order : Order) (n : ℕ) (bytes : List ℕ) → map (λ x. a.Short x) (cells (short_of (number order)) 2 n bytes) ≡ cells (element order k.Short) 2 n bytes
-column_of_shorts order n bytes = map-cells (λ x. a.Short x) (short_of (number order)) 2 n bytes
+pub column_of_shorts : (number : ℕ → List ℕ → ℕ) (n : ℕ) (bytes : List ℕ) → map (λ x. a.Short x) (cells (short_of number) 2 n bytes) ≡ cells (element_by number k.Short) 2 n bytes
+column_of_shorts number n bytes = map-cells (λ x. a.Short x) (short_of number) 2 n bytes
 
-pub column_of_integers : (order : Order) (kind : IntegerKind) (n : ℕ) (bytes : List ℕ) → map (integer_atom kind) (cells (integer_of (number order)) 4 n bytes) ≡ cells (element order (integer_kind kind)) (width (integer_kind kind)) n bytes
-column_of_integers order i.Integer n bytes = map-cells (integer_atom i.Integer) (integer_of (number order)) 4 n bytes
-column_of_integers order i.Month n bytes = map-cells (integer_atom i.Month) (integer_of (number order)) 4 n bytes
-column_of_integers order i.Date n bytes = map-cells (integer_atom i.Date) (integer_of (number order)) 4 n bytes
-column_of_integers order i.Minute n bytes = map-cells (integer_atom i.Minute) (integer_of (number order)) 4 n bytes
-column_of_integers order i.Second n bytes = map-cells (integer_atom i.Second) (integer_of (number order)) 4 n bytes
-column_of_integers order i.Time n bytes = map-cells (integer_atom i.Time) (integer_of (number order)) 4 n bytes
+pub column_of_integers : (number : ℕ → List ℕ → ℕ) (kind : IntegerKind) (n : ℕ) (bytes : List ℕ) → map (integer_atom kind) (cells (integer_of number) 4 n bytes) ≡ cells (element_by number (integer_kind kind)) (width (integer_kind kind)) n bytes
+column_of_integers number i.Integer n bytes = map-cells (integer_atom i.Integer) (integer_of number) 4 n bytes
+column_of_integers number i.Month n bytes = map-cells (integer_atom i.Month) (integer_of number) 4 n bytes
+column_of_integers number i.Date n bytes = map-cells (integer_atom i.Date) (integer_of number) 4 n bytes
+column_of_integers number i.Minute n bytes = map-cells (integer_atom i.Minute) (integer_of number) 4 n bytes
+column_of_integers number i.Second n bytes = map-cells (integer_atom i.Second) (integer_of number) 4 n bytes
+column_of_integers number i.Time n bytes = map-cells (integer_atom i.Time) (integer_of number) 4 n bytes
 
-pub column_of_longs : (order : Order) (kind : LongKind) (n : ℕ) (bytes : List ℕ) → map (long_atom kind) (cells (long_of (number order)) 8 n bytes) ≡ cells (element order (long_kind kind)) (width (long_kind kind)) n bytes
-column_of_longs order l.Long n bytes = map-cells (long_atom l.Long) (long_of (number order)) 8 n bytes
-column_of_longs order l.Timestamp n bytes = map-cells (long_atom l.Timestamp) (long_of (number order)) 8 n bytes
-column_of_longs order l.Timespan n bytes = map-cells (long_atom l.Timespan) (long_of (number order)) 8 n bytes
+pub column_of_longs : (number : ℕ → List ℕ → ℕ) (kind : LongKind) (n : ℕ) (bytes : List ℕ) → map (long_atom kind) (cells (long_of number) 8 n bytes) ≡ cells (element_by number (long_kind kind)) (width (long_kind kind)) n bytes
+column_of_longs number l.Long n bytes = map-cells (long_atom l.Long) (long_of number) 8 n bytes
+column_of_longs number l.Timestamp n bytes = map-cells (long_atom l.Timestamp) (long_of number) 8 n bytes
+column_of_longs number l.Timespan n bytes = map-cells (long_atom l.Timespan) (long_of number) 8 n bytes
 
 pub ruleset columns = (column_of_booleans, column_of_bytes, column_of_shorts, column_of_integers, column_of_longs)
 

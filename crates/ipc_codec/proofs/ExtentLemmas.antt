@@ -16,9 +16,10 @@ use Rattle.ipc_codec.specs.declared.form.Form.TheVariants as f
 use Rattle.ipc_codec.specs.declared.order.Order.{Order}
 use Rattle.ipc_codec.specs.declared.reach.Outline.{Outline}
 use Rattle.ipc_codec.specs.declared.reach.Block.{Block}
-use Rattle.ipc_codec.specs.Types.{kind_at, form_of, width}
+use Rattle.q_values.specs.Kind.{kind_at, width}
+use Rattle.ipc_codec.specs.Types.{form_of}
 use Rattle.ipc_codec.specs.Numbers.{element, cells}
-use Rattle.ipc_codec.specs.Reading.{◌>>=◌, count_at, text_at, texts_at, cells_at, symbols_at, is_symbol, elements_at, vector_at, atom_at, part_at, column_by, column_at, columns_at, is_even, is_grid, shaped, names_at, list_of_columns_at, grid_at, extent, number_of_items, checked, joined, identity_at, items_at, list_at, dictionary_at, object_by, object_at, placed, counted, object_of, measured}
+use Rattle.ipc_codec.specs.Reading.{◌>>=◌, count_at, text_at, texts_at, cells_at, symbols_at, is_symbol, elements_at, vector_at, atom_at, part_at, column_by, column_at, columns_at, have_equal_lengths, is_grid, shaped, names_at, list_of_columns_at, grid_at, extent, number_of_items, checked, joined, identity_at, items_at, list_at, dictionary_at, object_by, object_at, placed, counted, object_of, measured}
 use Rattle.ipc_codec.specs.Extent.{outline, after_texts, after_elements, after_vector, after_atom, after_column_by, after_column, after_columns, after_block, after_list_of_columns, after_names, rows_in, after_grid, after_identity, after_items, after_list, paired, after_dictionary, plain, after_form, after_object}
 
 -- what is kept of a value that was read
@@ -26,12 +27,12 @@ abbrev pub kept : {A B : Type 0} → (A → B) → Result (A × List ℕ) Fault 
 kept view (Ok x) = Ok (view x.0, x.1)
 kept view (Err e) = Err e
 
--- the bytes behind it
-abbrev pub behind : {A : Type 0} → Result (A × List ℕ) Fault → Result (List ℕ) Fault
-behind (Ok x) = Ok x.1
-behind (Err e) = Err e
+-- the bytes after it
+abbrev pub rest_of : {A : Type 0} → Result (A × List ℕ) Fault → Result (List ℕ) Fault
+rest_of (Ok x) = Ok x.1
+rest_of (Err e) = Err e
 
--- these bytes behind a value that counts as n
+-- these bytes, after a value of n items
 abbrev pub sized : ℕ → Result (List ℕ) Fault → Result (ℕ × List ℕ) Fault
 sized n r = r >>= λ rest. Ok (n, rest)
 
@@ -53,7 +54,7 @@ kept-plain : {A B : Type 0} (view : A → ℕ) (g : ℕ → B) (r : Result (A ×
 kept-plain view g (Ok x) = refl
 kept-plain view g (Err e) = refl
 
--- a value that was read, and the bytes behind it
+-- a value that was read, and the bytes after it
 abbrev pub read_as : {A : Type 0} → A → List ℕ → Result (A × List ℕ) Fault
 read_as x rest = Ok (x, rest)
 
@@ -127,19 +128,19 @@ vector-sized order kind bytes =
     kept-after rows_at (count_at order bytes) (λ n. elements_at order kind n.0 n.1 >>= λ atoms. Ok (record { kind = kind; atoms = atoms.0 }, atoms.1)) (λ n. sized n.0 (after_elements kind n.0 n.1)) (λ n.
     kept-done rows_at (λ atoms. record { kind = kind; atoms = atoms }) (elements_at order kind n.0 n.1) ∙ elements-sized order kind n.0 n.1)
 
-atom-behind : (order : Order) (kind : Kind) (bytes : List ℕ) → behind (atom_at order kind bytes) ≡ after_atom kind bytes
+atom-rest_of : (order : Order) (kind : Kind) (bytes : List ℕ) → rest_of (atom_at order kind bytes) ≡ after_atom kind bytes
 unfolding atom_at after_atom
-atom-behind order kind bytes = by_kind (is_symbol kind) (text_at bytes) (ltb (length bytes) (width kind)) (element order kind bytes) (drop (width kind) bytes)
+atom-rest_of order kind bytes = by_kind (is_symbol kind) (text_at bytes) (ltb (length bytes) (width kind)) (element order kind bytes) (drop (width kind) bytes)
   where
-    by_text : (r : Result (List ℕ × List ℕ) Fault) → behind (r >>= λ text. Ok (a.Symbol text.0, text.1)) ≡ (r >>= λ text. Ok text.1)
+    by_text : (r : Result (List ℕ × List ℕ) Fault) → rest_of (r >>= λ text. Ok (a.Symbol text.0, text.1)) ≡ (r >>= λ text. Ok text.1)
     by_text (Ok x) = refl
     by_text (Err e) = refl
 
-    by_size : (b : Bool) (x : Atom) (rest : List ℕ) → behind (cond b (Err Truncated) (Ok (x, rest))) ≡ cond b (Err Truncated) (Ok rest)
+    by_size : (b : Bool) (x : Atom) (rest : List ℕ) → rest_of (cond b (Err Truncated) (Ok (x, rest))) ≡ cond b (Err Truncated) (Ok rest)
     by_size true x rest = refl
     by_size false x rest = refl
 
-    by_kind : (b : Bool) (r : Result (List ℕ × List ℕ) Fault) (d : Bool) (x : Atom) (rest : List ℕ) → behind (cond b (r >>= λ text. Ok (a.Symbol text.0, text.1)) (cond d (Err Truncated) (Ok (x, rest)))) ≡ cond b (r >>= λ text. Ok text.1) (cond d (Err Truncated) (Ok rest))
+    by_kind : (b : Bool) (r : Result (List ℕ × List ℕ) Fault) (d : Bool) (x : Atom) (rest : List ℕ) → rest_of (cond b (r >>= λ text. Ok (a.Symbol text.0, text.1)) (cond d (Err Truncated) (Ok (x, rest)))) ≡ cond b (r >>= λ text. Ok text.1) (cond d (Err Truncated) (Ok rest))
     by_kind true r d x rest = by_text r
     by_kind false r d x rest = by_size d x rest
 
@@ -155,9 +156,9 @@ column-sized (suc room) order (b ∷ bytes) = by_kind (kind_at b) (length (b ∷
     by_kind None left = refl
     by_kind (Some kind) left = vector-sized order kind bytes
 
--- whether columns have so many rows, and their number
+-- whether all columns have this number of rows, and how many columns there are
 abbrev shape_of : ℕ → List Contents → Bool × ℕ
-shape_of rows columns = (is_even rows columns, length columns)
+shape_of rows columns = (have_equal_lengths rows columns, length columns)
 
 abbrev rowed : ℕ → Result (Bool × List ℕ) Fault → Result ((Bool × ℕ) × List ℕ) Fault
 rowed n r = r >>= λ x. Ok ((x.0, n), x.1)
@@ -173,7 +174,7 @@ columns-shaped room order rows (suc n) bytes =
     by_others : (c : Contents) (r : Result (List Contents × List ℕ) Fault) (s : Result (Bool × List ℕ) Fault) → kept (shape_of rows) r ≡ rowed n s → kept (shape_of rows) (r >>= λ others. Ok (c ∷ others.0, others.1)) ≡ rowed (suc n) (s >>= λ others. Ok (nat_eq (rows_at c) rows && others.0, others.1))
     by_others c (Ok x) (Ok y) e =
         let parts = same_value (shape_of rows x.0) (y.0, n) x.1 y.1 e in
-        let flag : is_even rows x.0 ≡ y.0 = ap (λ (p : Bool × ℕ). p.0) parts in
+        let flag : have_equal_lengths rows x.0 ≡ y.0 = ap (λ (p : Bool × ℕ). p.0) parts in
         let size : length x.0 ≡ n = ap (λ (p : Bool × ℕ). p.1) parts in
         rw (flag, size, same_rest (shape_of rows x.0) (y.0, n) x.1 y.1 e) refl
     by_others c (Ok x) (Err y) e = absurd cc
@@ -185,20 +186,20 @@ columns-shaped room order rows (suc n) bytes =
     by_column (Err e) = refl
 
 abbrev pub block_of : List Contents → Block
-block_of columns = record { columns = length columns; rows = rows_of columns; is_even = is_even (rows_of columns) columns }
+block_of columns = record { columns = length columns; rows = rows_of columns; have_equal_lengths = have_equal_lengths (rows_of columns) columns }
 
 columns-block : (room : ℕ) (order : Order) (n : ℕ) (bytes : List ℕ) → kept block_of (columns_at room order n bytes) ≡ after_block room order n bytes
 unfolding columns_at after_block
 columns-block room order zero bytes = refl
 columns-block room order (suc n) bytes =
-    kept-then rows_at block_of (column_at room order bytes) (after_column room order bytes) (λ first. columns_at room order n first.1 >>= λ others. Ok (first.0 ∷ others.0, others.1)) (λ first. after_columns room order first.0 n first.1 >>= λ others. Ok (record { columns = suc n; rows = first.0; is_even = others.0 }, others.1)) (column-sized room order bytes) (λ first.
+    kept-then rows_at block_of (column_at room order bytes) (after_column room order bytes) (λ first. columns_at room order n first.1 >>= λ others. Ok (first.0 ∷ others.0, others.1)) (λ first. after_columns room order first.0 n first.1 >>= λ others. Ok (record { columns = suc n; rows = first.0; have_equal_lengths = others.0 }, others.1)) (column-sized room order bytes) (λ first.
     by_others first.0 (columns_at room order n first.1) (after_columns room order (rows_at first.0) n first.1) (columns-shaped room order (rows_at first.0) n first.1))
   where
-    by_others : (c : Contents) (r : Result (List Contents × List ℕ) Fault) (s : Result (Bool × List ℕ) Fault) → kept (shape_of (rows_at c)) r ≡ rowed n s → kept block_of (r >>= λ others. Ok (c ∷ others.0, others.1)) ≡ (s >>= λ others. Ok (record { columns = suc n; rows = rows_at c; is_even = others.0 }, others.1))
+    by_others : (c : Contents) (r : Result (List Contents × List ℕ) Fault) (s : Result (Bool × List ℕ) Fault) → kept (shape_of (rows_at c)) r ≡ rowed n s → kept block_of (r >>= λ others. Ok (c ∷ others.0, others.1)) ≡ (s >>= λ others. Ok (record { columns = suc n; rows = rows_at c; have_equal_lengths = others.0 }, others.1))
     by_others c (Ok x) (Ok y) e =
         let even : nat_eq (rows_at c) (rows_at c) ≡ true = same_number (rows_at c) in
         let parts = same_value (shape_of (rows_at c) x.0) (y.0, n) x.1 y.1 e in
-        let flag : is_even (rows_at c) x.0 ≡ y.0 = ap (λ (p : Bool × ℕ). p.0) parts in
+        let flag : have_equal_lengths (rows_at c) x.0 ≡ y.0 = ap (λ (p : Bool × ℕ). p.0) parts in
         let size : length x.0 ≡ n = ap (λ (p : Bool × ℕ). p.1) parts in
         let rest = same_rest (shape_of (rows_at c) x.0) (y.0, n) x.1 y.1 e in
         rw (even, flag, size, rest) refl
@@ -245,11 +246,11 @@ as_one r = r >>= λ rest. Ok (plain 1, rest)
 abbrev as_table : Result (ℕ × List ℕ) Fault → Result (Outline × List ℕ) Fault
 as_table r = r >>= λ x. Ok (record { is_table = true; count = x.0 }, x.1)
 
-identity-behind : (left : ℕ) (bytes : List ℕ) → kept outline (identity_at left bytes) ≡ (after_identity left bytes >>= λ rest. Ok (plain 1, rest))
+identity-rest_of : (left : ℕ) (bytes : List ℕ) → kept outline (identity_at left bytes) ≡ (after_identity left bytes >>= λ rest. Ok (plain 1, rest))
 unfolding identity_at after_identity
-identity-behind left [] = refl
-identity-behind left (zero ∷ bytes) = refl
-identity-behind left (suc b ∷ bytes) = refl
+identity-rest_of left [] = refl
+identity-rest_of left (zero ∷ bytes) = refl
+identity-rest_of left (suc b ∷ bytes) = refl
 
 items-sized : (object : List ℕ → Result (Tree × List ℕ) Fault) (reach : List ℕ → Result (Outline × List ℕ) Fault) → ((bytes : List ℕ) → kept outline (object bytes) ≡ reach bytes) → (n : ℕ) (bytes : List ℕ) → kept number_of_items (items_at object n bytes) ≡ sized n (after_items reach n bytes)
 unfolding items_at after_items
@@ -297,9 +298,9 @@ dictionary-is object reach same left bytes =
 
 form-is : (object : List ℕ → Result (Tree × List ℕ) Fault) (reach : List ℕ → Result (Outline × List ℕ) Fault) → ((bytes : List ℕ) → kept outline (object bytes) ≡ reach bytes) → (room : ℕ) (order : Order) (form : Form) (left : ℕ) (bytes : List ℕ) → kept outline (object_by object room order form left bytes) ≡ after_form reach room order form left bytes
 unfolding object_by after_form
-form-is object reach same room order (f.Atom kind) left bytes = by_cases (atom_at order kind bytes) ∙ ap as_one (atom-behind order kind bytes)
+form-is object reach same room order (f.Atom kind) left bytes = by_cases (atom_at order kind bytes) ∙ ap as_one (atom-rest_of order kind bytes)
   where
-    by_cases : (r : Result (Atom × List ℕ) Fault) → kept outline (r >>= λ x. Ok (atom x.0, x.1)) ≡ as_one (behind r)
+    by_cases : (r : Result (Atom × List ℕ) Fault) → kept outline (r >>= λ x. Ok (atom x.0, x.1)) ≡ as_one (rest_of r)
     by_cases (Ok x) = refl
     by_cases (Err e) = refl
 form-is object reach same room order (f.Vector kind) left bytes = by_cases (vector_at order kind bytes) ∙ ap as_plain (vector-sized order kind bytes)
@@ -314,7 +315,7 @@ form-is object reach same room order f.Table left bytes = by_cases (grid_at left
     by_cases : (r : Result (Grid × List ℕ) Fault) → kept outline (r >>= λ x. Ok (table x.0, x.1)) ≡ as_table (kept rows_of_grid r)
     by_cases (Ok x) = refl
     by_cases (Err e) = refl
-form-is object reach same room order f.Identity left bytes = identity-behind left bytes
+form-is object reach same room order f.Identity left bytes = identity-rest_of left bytes
 form-is object reach same room order f.Wrong left bytes = by_cases (text_at bytes)
   where
     by_cases : (r : Result (List ℕ × List ℕ) Fault) → kept outline (r >>= λ x. Ok (wrong x.0, x.1)) ≡ (r >>= λ text. Ok (plain 1, text.1))

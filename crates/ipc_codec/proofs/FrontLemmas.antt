@@ -1,4 +1,4 @@
--- Loops that read one more item behind those that they have.
+-- Loops that read one item after another.
 use Rattle.std.proofs.Common.{◌≡◌, ℕ, suc, ◌+◌, ◌-◌, ◌<◌, ◌≤◌, List, [], ◌∷◌, ◌++◌, Result, Ok, Err, refl, sym, ap, ◌∙◌, append_assoc, arith}
 use Rattle.std.proofs.lemmas.List.{append-nil}
 use Rattle.q_values.specs.Contents.{Contents}
@@ -9,7 +9,7 @@ use Rattle.ipc_codec.specs.declared.fault.Stop.TheVariants as s
 use Rattle.ipc_codec.specs.declared.order.Order.{Order}
 use Rattle.ipc_codec.specs.Reading.{◌>>=◌, Stops, text_at, texts_at, column_at, columns_at, items_at}
 
--- what is read behind a front
+-- what is read after a front
 abbrev pub with_front : {X : Type 0} → List X → Result (List X × List ℕ) Fault → Result (List X × List ℕ) Fault
 with_front front (Ok x) = Ok (front ++ x.0, x.1)
 with_front front (Err e) = Err e
@@ -88,7 +88,7 @@ abbrev pub items_behind : List Tree → Items → Items
 items_behind [] items = items
 items_behind (t ∷ ts) items = item t (items_behind ts items)
 
--- what is read behind these trees
+-- what is read after these trees
 abbrev pub behind_items : List Tree → Result (Items × List ℕ) Fault → Result (Items × List ℕ) Fault
 behind_items front (Ok x) = Ok (items_behind front x.0, x.1)
 behind_items front (Err e) = Err e

@@ -1,4 +1,4 @@
--- The laws of reading and spelling.
+-- The laws of reading and encodings.
 use Rattle.std.proofs.Common.{◌≡◌, ℕ, ◌+◌, ◌-◌, ◌≤◌, List, ◌++◌, length, take, drop, Result, Ok, Err, refl, sym, ap, subst, ◌∙◌, arith}
 use Rattle.std.proofs.lemmas.List.{take_at, take-append-drop, length-take, length-append}
 use Rattle.q_values.specs.Tree.{Tree}

@@ -5,6 +5,9 @@ pub mod ItemsLemmas
 pub mod TreeLemmas
 pub mod CellsLemmas
 pub mod FrontLemmas
+pub mod StepLemmas
+pub mod TypeLemmas
+pub mod ElementLemmas
 pub mod SpellsLemmas
 pub mod SpelledLemmas
 pub mod LawLemmas

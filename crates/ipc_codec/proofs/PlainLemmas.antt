@@ -1,4 +1,4 @@
--- What is spelled can be written.
+-- A value that has an encoding can be written.
 use Rattle.std.proofs.Common.{◌≡◌, ℕ, ℤ, ◌≤◌, List, [], ◌∷◌, subst, arith, All}
 use Rattle.std.specs.Int.{w16, w32, w64, cast_signed}
 use Rattle.std.specs.Int.RustNames.{FitsSigned}

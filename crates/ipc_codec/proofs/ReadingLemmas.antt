@@ -37,7 +37,7 @@ positive (suc n) h = omega arith
 
 -- ---- loops over texts
 
--- one more text is passed over
+-- one more text is skipped
 pub after_texts-more : (count i : ℕ) (bytes rest text after : List ℕ) → i < count → text_at rest ≡ Ok (text, after) → after_texts (count - i) rest ≡ after_texts count bytes → after_texts (count - (i + 1)) after ≡ after_texts count bytes
 unfolding after_texts
 after_texts-more count i bytes rest text after lt h so_far =
@@ -61,32 +61,32 @@ after_texts-done count i bytes rest le so_far =
 
 -- ---- loops over columns
 
--- what is read behind columns of which is known whether they have as many rows
-abbrev pub with_even : Bool → Result (Bool × List ℕ) Fault → Result (Bool × List ℕ) Fault
-with_even b (Ok x) = Ok (b && x.0, x.1)
-with_even b (Err e) = Err e
+-- what is read after columns of which it is known whether they all have this number of rows
+abbrev pub with_equal_lengths : Bool → Result (Bool × List ℕ) Fault → Result (Bool × List ℕ) Fault
+with_equal_lengths b (Ok x) = Ok (b && x.0, x.1)
+with_equal_lengths b (Err e) = Err e
 
-with_even-more : (b t : Bool) (r : Result (Bool × List ℕ) Fault) → with_even b (r >>= λ x. Ok (t && x.0, x.1)) ≡ with_even (b && t) r
-with_even-more true t (Ok x) = refl
-with_even-more false t (Ok x) = refl
-with_even-more b t (Err e) = refl
+with_equal_lengths-more : (b t : Bool) (r : Result (Bool × List ℕ) Fault) → with_equal_lengths b (r >>= λ x. Ok (t && x.0, x.1)) ≡ with_equal_lengths (b && t) r
+with_equal_lengths-more true t (Ok x) = refl
+with_equal_lengths-more false t (Ok x) = refl
+with_equal_lengths-more b t (Err e) = refl
 
 pub after_columns-more : (room : ℕ) (order : Order) (rows count i : ℕ) (bytes rest : List ℕ) (b : Bool) (here : ℕ) (after : List ℕ) → i < count → after_column room order rest ≡ Ok (here, after)
-    → with_even b (after_columns room order rows (count - i) rest) ≡ after_columns room order rows count bytes
-    → with_even (b && nat_eq here rows) (after_columns room order rows (count - (i + 1)) after) ≡ after_columns room order rows count bytes
+    → with_equal_lengths b (after_columns room order rows (count - i) rest) ≡ after_columns room order rows count bytes
+    → with_equal_lengths (b && nat_eq here rows) (after_columns room order rows (count - (i + 1)) after) ≡ after_columns room order rows count bytes
 unfolding after_columns
 after_columns-more room order rows count i bytes rest b here after lt h so_far =
     let k : count - i ≡ suc (count - (i + 1)) = omega arith in
-    let one : with_even b (after_columns room order rows (count - i) rest) ≡ with_even (b && nat_eq here rows) (after_columns room order rows (count - (i + 1)) after) =
-    rw (k, h) (with_even-more b (nat_eq here rows) (after_columns room order rows (count - (i + 1)) after)) in
+    let one : with_equal_lengths b (after_columns room order rows (count - i) rest) ≡ with_equal_lengths (b && nat_eq here rows) (after_columns room order rows (count - (i + 1)) after) =
+    rw (k, h) (with_equal_lengths-more b (nat_eq here rows) (after_columns room order rows (count - (i + 1)) after)) in
     sym one ∙ so_far
 
 pub after_columns-ends : (room : ℕ) (order : Order) (rows count i : ℕ) (bytes rest : List ℕ) (b : Bool) (e : Fault) → i < count → after_column room order rest ≡ Err e
-    → with_even b (after_columns room order rows (count - i) rest) ≡ after_columns room order rows count bytes → after_columns room order rows count bytes ≡ Err e
+    → with_equal_lengths b (after_columns room order rows (count - i) rest) ≡ after_columns room order rows count bytes → after_columns room order rows count bytes ≡ Err e
 unfolding after_columns
 after_columns-ends room order rows count i bytes rest b e lt h so_far =
     let k : count - i ≡ suc (count - (i + 1)) = omega arith in
-    let one : with_even b (after_columns room order rows (count - i) rest) ≡ Err e = rw (k, h) refl in
+    let one : with_equal_lengths b (after_columns room order rows (count - i) rest) ≡ Err e = rw (k, h) refl in
     sym so_far ∙ one
 
 and-true : (b : Bool) → (b && true) ≡ b
@@ -94,11 +94,11 @@ and-true true = refl
 and-true false = refl
 
 pub after_columns-done : (room : ℕ) (order : Order) (rows count i : ℕ) (bytes rest : List ℕ) (b : Bool) → count ≤ i
-    → with_even b (after_columns room order rows (count - i) rest) ≡ after_columns room order rows count bytes → after_columns room order rows count bytes ≡ Ok (b, rest)
+    → with_equal_lengths b (after_columns room order rows (count - i) rest) ≡ after_columns room order rows count bytes → after_columns room order rows count bytes ≡ Ok (b, rest)
 unfolding after_columns
 after_columns-done room order rows count i bytes rest b le so_far =
     let k : count - i ≡ 0 = omega arith in
-    let one : with_even b (after_columns room order rows (count - i) rest) ≡ Ok (b, rest) = rw (k, and-true b) refl in
+    let one : with_equal_lengths b (after_columns room order rows (count - i) rest) ≡ Ok (b, rest) = rw (k, and-true b) refl in
     sym so_far ∙ one
 
 -- ---- loops over objects

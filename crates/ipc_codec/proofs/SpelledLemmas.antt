@@ -1,11 +1,11 @@
--- What is spelled is read, whatever follows.
+-- Each encoding of a value is read as that value, whatever follows.
 use Rattle.std.proofs.Common.{nat_eq, ◌≡◌, ℕ, zero, suc, ◌+◌, ◌-◌, ◌<◌, ◌≤◌, ◌*◌, Bool, true, false, cond, ltb, List, [], ◌∷◌, ◌++◌, length, drop, map, Some, Result, Ok, Err, refl, sym, ap, subst, ◌∙◌, append_assoc, arith, inl, inr, All}
 use Rattle.std.specs.Prelude.{◌⊎◌, ◌||◌}
 use Rattle.std.proofs.lemmas.Bool.{le-ltb, lt-ltb}
 use Rattle.std.proofs.lemmas.List.{drop_at, length-append, length-map}
 use Rattle.std.proofs.lemmas.List.Elements.{All-head, All-tail}
 use Rattle.ipc_codec.proofs.ExtentLemmas.{same_number}
-use Rattle.ipc_codec.proofs.SpellsLemmas.{number-front, element-front}
+use Rattle.ipc_codec.proofs.ElementLemmas.{number-front, element-front}
 use Rattle.q_values.specs.Atom.{kind_of}
 use Rattle.q_values.specs.Bytes.{HasNoNul}
 use Rattle.q_values.specs.Contents.{Contents}
@@ -19,15 +19,16 @@ use Rattle.ipc_codec.specs.declared.fault.Fault.{Fault}
 use Rattle.ipc_codec.specs.declared.fault.Fault.TheVariants.{Truncated}
 use Rattle.ipc_codec.specs.declared.form.Form.TheVariants as f
 use Rattle.ipc_codec.specs.declared.order.Order.{Order}
-use Rattle.ipc_codec.specs.Types.{kind_at, other_form, form_of, code_of, width}
+use Rattle.q_values.specs.Kind.{kind_at, type_number, width}
+use Rattle.ipc_codec.specs.Types.{other_form, form_of}
 use Rattle.ipc_codec.specs.Numbers.{number, element, cells}
-use Rattle.ipc_codec.specs.Reading.{count_at, text_at, texts_at, cells_at, symbols_at, is_symbol, elements_at, vector_at, atom_at, part_at, column_at, columns_at, is_even, is_grid, names_at, list_of_columns_at, grid_at, extent, number_of_items, checked, joined, identity_at, items_at, list_at, dictionary_at, object_by, object_at}
+use Rattle.ipc_codec.specs.Reading.{count_at, text_at, texts_at, cells_at, symbols_at, is_symbol, elements_at, vector_at, atom_at, part_at, column_at, columns_at, have_equal_lengths, is_grid, names_at, list_of_columns_at, grid_at, extent, number_of_items, checked, joined, identity_at, items_at, list_at, dictionary_at, object_by, object_at}
 use Rattle.ipc_codec.specs.Written.{depth, deepest, AreNotBothTables}
 use Rattle.ipc_codec.specs.Spells.{InTurn, SpellsCount, SpellsText, SpellsElement, SpellsElementOf, SpellsVector, IsDictionaryType, SpellsNames, SpellsColumns, SpellsGrid, SpellsTree, SpellsItems}
 
 -- ---- types
 
-form_of-vector : (kind : Kind) → form_of (code_of kind) ≡ f.Vector kind
+form_of-vector : (kind : Kind) → form_of (type_number kind) ≡ f.Vector kind
 unfolding form_of
 form_of-vector k.Boolean = refl
 form_of-vector k.Byte = refl
@@ -44,7 +45,7 @@ form_of-vector k.Minute = refl
 form_of-vector k.Second = refl
 form_of-vector k.Time = refl
 
-form_of-atom : (kind : Kind) → form_of (256 - code_of kind) ≡ f.Atom kind
+form_of-atom : (kind : Kind) → form_of (256 - type_number kind) ≡ f.Atom kind
 unfolding form_of
 form_of-atom k.Boolean = refl
 form_of-atom k.Byte = refl
@@ -61,21 +62,21 @@ form_of-atom k.Minute = refl
 form_of-atom k.Second = refl
 form_of-atom k.Time = refl
 
-kind_at-code : (kind : Kind) → kind_at (code_of kind) ≡ Some kind
-kind_at-code k.Boolean = refl
-kind_at-code k.Byte = refl
-kind_at-code k.Short = refl
-kind_at-code k.Integer = refl
-kind_at-code k.Long = refl
-kind_at-code k.Character = refl
-kind_at-code k.Symbol = refl
-kind_at-code k.Timestamp = refl
-kind_at-code k.Month = refl
-kind_at-code k.Date = refl
-kind_at-code k.Timespan = refl
-kind_at-code k.Minute = refl
-kind_at-code k.Second = refl
-kind_at-code k.Time = refl
+kind_at-number : (kind : Kind) → kind_at (type_number kind) ≡ Some kind
+kind_at-number k.Boolean = refl
+kind_at-number k.Byte = refl
+kind_at-number k.Short = refl
+kind_at-number k.Integer = refl
+kind_at-number k.Long = refl
+kind_at-number k.Character = refl
+kind_at-number k.Symbol = refl
+kind_at-number k.Timestamp = refl
+kind_at-number k.Month = refl
+kind_at-number k.Date = refl
+kind_at-number k.Timespan = refl
+kind_at-number k.Minute = refl
+kind_at-number k.Second = refl
+kind_at-number k.Time = refl
 
 form_of-list : form_of 0 ≡ f.List
 unfolding form_of other_form
@@ -201,7 +202,7 @@ elements_again order k.Minute xs bytes rest h = cells_at-again order k.Minute xs
 elements_again order k.Second xs bytes rest h = cells_at-again order k.Second xs bytes rest refl h
 elements_again order k.Time xs bytes rest h = cells_at-again order k.Time xs bytes rest refl h
 
--- a vector behind its type byte
+-- a vector, after its type byte
 vector_again : (order : Order) (attribute : ℕ) (count body rest : List ℕ) (v : Contents) → SpellsCount order count (length v.atoms) → InTurn (SpellsElementOf order v.kind) body v.atoms → vector_at order v.kind (attribute ∷ (count ++ body) ++ rest) ≡ Ok (v, rest)
 unfolding vector_at
 vector_again order attribute count body rest v counted elements =
@@ -211,7 +212,7 @@ vector_again order attribute count body rest v counted elements =
 abbrev atom_and : Atom → List ℕ → Result (Atom × List ℕ) Fault
 atom_and x rest = Ok (x, rest)
 
--- an element of one width, behind a test for its bytes
+-- an element of a fixed width, after a test for its bytes
 sized : (order : Order) (kind : Kind) (x : Atom) (bytes rest : List ℕ) → length bytes ≡ width kind → element order kind bytes ≡ x → cond (ltb (length (bytes ++ rest)) (width kind)) (Err Truncated) (atom_and (element order kind (bytes ++ rest)) (drop (width kind) (bytes ++ rest))) ≡ atom_and x rest
 sized order kind x bytes rest len value =
     let long : ltb (length (bytes ++ rest)) (width kind) ≡ false = le-ltb _ _ (omega (arith, len, length-append bytes rest)) in
@@ -259,7 +260,7 @@ column_again : (room : ℕ) (order : Order) (bytes rest : List ℕ) (column : Co
 unfolding column_at
 column_again zero order bytes rest column open_here h = absurd (omega (arith, open_here))
 column_again (suc room) order bytes rest column open_here h =
-    ap (λ (r : List ℕ). column_at (suc room) order (r ++ rest)) h.parts ∙ rw (kind_at-code column.kind) (vector_again order h.attribute h.count h.body rest column h.counted h.elements)
+    ap (λ (r : List ℕ). column_at (suc room) order (r ++ rest)) h.parts ∙ rw (kind_at-number column.kind) (vector_again order h.attribute h.count h.body rest column h.counted h.elements)
 
 columns_again : (room : ℕ) (order : Order) (columns : List Contents) (bytes rest : List ℕ) → (0 < length columns → 1 ≤ room) → InTurn (SpellsVector order) bytes columns → columns_at room order (length columns) (bytes ++ rest) ≡ Ok (columns, rest)
 unfolding columns_at
@@ -275,16 +276,16 @@ list_again room order bytes rest columns open_here h =
     let regrouped : bytes ++ rest ≡ 0 ∷ h.attribute ∷ h.count ++ (h.body ++ rest) = ap (λ (r : List ℕ). r ++ rest) h.parts ∙ ap (λ (r : List ℕ). 0 ∷ h.attribute ∷ r) (append_assoc h.count h.body rest) in
     ap (list_of_columns_at room order) regrouped ∙ rw (part_again room 0 0 0 (h.attribute ∷ h.count ++ (h.body ++ rest)) (omega arith) (inl refl), count_again order h.attribute h.count (h.body ++ rest) (length columns) h.counted) (columns_again (room - 1) order columns h.body rest (λ _. omega arith) h.vectors)
 
-even-test : (rows : ℕ) (columns : List Contents) → All (λ (column : Contents). length column.atoms ≡ rows) columns → is_even rows columns ≡ true
-even-test rows [] h = refl
-even-test rows (c ∷ cs) h =
+equal_lengths-test : (rows : ℕ) (columns : List Contents) → All (λ (column : Contents). length column.atoms ≡ rows) columns → have_equal_lengths rows columns ≡ true
+equal_lengths-test rows [] h = refl
+equal_lengths-test rows (c ∷ cs) h =
     let first : length c.atoms ≡ rows = All-head (λ (column : Contents). length column.atoms ≡ rows) c cs h in
-    rw (first, same_number rows) (even-test rows cs (All-tail (λ (column : Contents). length column.atoms ≡ rows) c cs h))
+    rw (first, same_number rows) (equal_lengths-test rows cs (All-tail (λ (column : Contents). length column.atoms ≡ rows) c cs h))
 
 grid-test : (names : List (List ℕ)) (columns : List Contents) → IsTable names columns → is_grid names columns ≡ true
 grid-test names columns h =
     let some : ltb 0 (length columns) ≡ true = lt-ltb _ _ h.some in
-    rw (some, h.named, same_number (length columns), even-test (rows_of columns) columns h.even) refl
+    rw (some, h.named, same_number (length columns), equal_lengths-test (rows_of columns) columns h.even) refl
 
 grid_again : (left room : ℕ) (order : Order) (bytes rest : List ℕ) (grid : Grid) → 3 ≤ room → (h : SpellsGrid order bytes grid) → grid_at left room order (h.attribute ∷ h.type ∷ (h.names ++ h.columns) ++ rest) ≡ Ok (grid, rest)
 unfolding grid_at

@@ -68,7 +68,7 @@ bytes_of_symbols xs = flat_map-map (λ x. a.Symbol x) xs
 
 pub ruleset elements = (begins, bytes_of_booleans, bytes_of_bytes, bytes_of_shorts, bytes_of_integers, bytes_of_longs, bytes_of_symbols)
 
--- one more of a list that is written in turn
+-- one more item of a list that is written in order
 pub flat_map-more : {X : Type 0} (f : X → List ℕ) (xs : List X) (i : ℕ) (x : X) → slice_get xs i ≡ Some x → flat_map f (take (i + 1) xs) ≡ flat_map f (take i xs) ++ f x
 flat_map-more f [] zero x e = absurd cc
 flat_map-more f [] (suc i) x e = absurd cc
@@ -80,7 +80,7 @@ flat_map-more f (y ∷ xs) (suc i) x e =
     let rest = flat_map-more f xs i x e in
     rw (n, rest) (sym (append_assoc (f y) (flat_map f (take i xs)) (f x)))
 
--- what holds on Ok, by what held on Ok
+-- a fact that holds on Ok, from one that held on Ok
 pub ok_then : {A E P Q : Type 0} (r : Result A E) → (P → Q) → OnOk r P → OnOk r Q
 ok_then (Ok x) step h = step h
 ok_then (Err e) step h = tt

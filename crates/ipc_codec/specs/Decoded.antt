@@ -5,7 +5,7 @@ use Rattle.q_values.specs.declared.value.Value.{Value}
 use Rattle.ipc_codec.specs.declared.refusal.DecodeRefusal.{DecodeRefusal}
 use Rattle.ipc_codec.specs.declared.refusal.DecodeRefusal.TheVariants as r
 
--- it is this value and number of bytes, unless memory ran out
+-- this value and length in bytes, unless memory ran out
 abbrev pub Reads : Tree → ℕ → Result (Value × ℕ) DecodeRefusal → Type 0
 Reads t n (Ok x) = (tree x.0 ≡ t) × (x.1 ≡ n)
 Reads t n (Err e) = e ≡ r.NoMemory

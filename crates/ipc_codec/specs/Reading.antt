@@ -1,6 +1,7 @@
--- Reading an object from the front of bytes, with the first fault from left to right. A fault's place is told by the
--- number of bytes from there on; `object_of` counts it from the first byte.
-use Rattle.std.specs.Prelude.{◌≡◌, ℕ, zero, suc, ◌-◌, ◌*◌, List, [], ◌∷◌, length, drop, map, Option, Some, None, Result, Ok, Err, Bool, true, false, nat_lt, ◌==◌, ◌&&◌, ◌||◌, if◌then◌else◌}
+-- Reading an object from the front of bytes, up to the first fault from left to right. A fault carries the number of bytes
+-- that are left where it is found; `object_of` turns that into an offset.
+use Rattle.std.specs.Prelude.{◌≡◌, ℕ, zero, suc, ◌-◌, ◌*◌, ◌==◌, nat_lt, Bool, true, false, ◌&&◌, ◌||◌, if◌then◌else◌}
+use Rattle.std.specs.Prelude.{List, [], ◌∷◌, length, drop, map, Option, Some, None, Result, Ok, Err}
 use Rattle.std.specs.List.{list_all}
 use Rattle.q_values.specs.Contents.{Contents}
 use Rattle.q_values.specs.Table.{rows_of}
@@ -18,7 +19,8 @@ use Rattle.ipc_codec.specs.declared.form.Form.TheVariants as f
 use Rattle.ipc_codec.specs.declared.order.Order.{Order}
 use Rattle.ipc_codec.specs.declared.refusal.DecodeRefusal.{DecodeRefusal}
 use Rattle.ipc_codec.specs.declared.refusal.DecodeRefusal.TheVariants as r
-use Rattle.ipc_codec.specs.Types.{kind_at, form_of, width}
+use Rattle.q_values.specs.Kind.{kind_at, width}
+use Rattle.ipc_codec.specs.Types.{form_of}
 use Rattle.ipc_codec.specs.Numbers.{number, element, cells}
 
 infixl 10 ◌>>=◌
@@ -26,12 +28,12 @@ abbrev pub ◌>>=◌ : {A B : Type 0} → Result A Fault → (A → Result B Fau
 (Ok x) >>= g = g x
 (Err e) >>= g = Err e
 
--- What a function returned, seen by view, is what reading gives.
+-- what a function returned, seen through view, is what this reading gives
 abbrev pub Finds : {X Y : Type 0} → (X → Y) → Result X Fault → Result Y Fault → Type 0
 Finds view (Ok x) read = read ≡ Ok (view x)
 Finds view (Err e) read = read ≡ Err e
 
--- The same, unless memory ran out.
+-- the same, unless memory ran out
 abbrev pub Stops : {Y : Type 0} → Stop → Result Y Fault → Type 0
 Stops s.Memory read = Unit {0}
 Stops (s.At e) read = read ≡ Err e
@@ -63,7 +65,7 @@ texts_at (suc n) bytes = do
   others ← texts_at n first.1
   Ok (first.0 ∷ others.0, others.1)
 
--- n elements of a kind whose elements have one width
+-- n elements of a kind of fixed width
 unfoldable pub cells_at : Order → Kind → ℕ → List ℕ → Result (List Atom × List ℕ) Fault
 cells_at order kind n bytes =
     if nat_lt (length bytes) (n * width kind) then Err Truncated
@@ -82,20 +84,20 @@ is_symbol _ = false
 unfoldable pub elements_at : Order → Kind → ℕ → List ℕ → Result (List Atom × List ℕ) Fault
 elements_at order kind n bytes = if is_symbol kind then symbols_at n bytes else cells_at order kind n bytes
 
--- a vector behind its type byte
+-- a vector, after its type byte
 unfoldable pub vector_at : Order → Kind → List ℕ → Result (Contents × List ℕ) Fault
 vector_at order kind bytes = do
   n ← count_at order bytes
   atoms ← elements_at order kind n.0 n.1
   Ok (record { kind = kind; atoms = atoms.0 }, atoms.1)
 
--- an atom behind its type byte
+-- an atom, after its type byte
 unfoldable pub atom_at : Order → Kind → List ℕ → Result (Atom × List ℕ) Fault
 atom_at order kind bytes =
     if is_symbol kind then (text_at bytes >>= λ text. Ok (a.Symbol text.0, text.1)) else
     (if nat_lt (length bytes) (width kind) then Err Truncated else Ok (element order kind bytes, drop (width kind) bytes))
 
--- the bytes behind a type byte that has to be this one or that one
+-- the bytes after a type byte that has to be this one or that one, where `room` more levels may be open
 unfoldable pub part_at : ℕ → ℕ → ℕ → List ℕ → Result (List ℕ) Fault
 part_at room this that [] = Err Truncated
 part_at zero this that (b ∷ bytes) = Err (TooDeep (length (b ∷ bytes)))
@@ -118,32 +120,32 @@ columns_at room order (suc n) bytes = do
   others ← columns_at room order n first.1
   Ok (first.0 ∷ others.0, others.1)
 
--- whether columns have this number of rows
-abbrev pub is_even : ℕ → List Contents → Bool
-is_even rows = list_all (λ column. length column.atoms == rows)
+-- whether all columns have this number of rows
+abbrev pub have_equal_lengths : ℕ → List Contents → Bool
+have_equal_lengths rows = list_all (λ column. length column.atoms == rows)
 
 -- whether names and columns make a table
 abbrev pub is_grid : List (List ℕ) → List Contents → Bool
-is_grid names columns = nat_lt 0 (length columns) && (length names == length columns && is_even (rows_of columns) columns)
+is_grid names columns = nat_lt 0 (length columns) && (length names == length columns && have_equal_lengths (rows_of columns) columns)
 
 abbrev pub shaped : ℕ → List (List ℕ) → List Contents → Result Grid Fault
 shaped left names columns = if is_grid names columns then Ok (record { names = names; columns = columns }) else Err (BadShape left)
 
--- a table's names, behind the type byte of its dictionary
+-- a table's names, after the type byte of its dictionary
 unfoldable pub names_at : ℕ → Order → List ℕ → Result (List (List ℕ) × List ℕ) Fault
 names_at room order bytes = do
   inner ← part_at room 11 11 bytes
   n ← count_at order inner
   texts_at n.0 n.1
 
--- the columns behind the names
+-- a table's columns, after its names
 unfoldable pub list_of_columns_at : ℕ → Order → List ℕ → Result (List Contents × List ℕ) Fault
 list_of_columns_at room order bytes = do
   inner ← part_at room 0 0 bytes
   n ← count_at order inner
   columns_at (room - 1) order n.0 n.1
 
--- a table behind its type byte, from which on this many bytes are left; within it this many more levels may be open
+-- a table, after its type byte, from which on `left` bytes are left; within it `room` more levels may be open
 unfoldable pub grid_at : ℕ → ℕ → Order → List ℕ → Result (Grid × List ℕ) Fault
 grid_at left room order [] = Err Truncated
 grid_at left room order (attribute ∷ bytes) = do
@@ -153,7 +155,7 @@ grid_at left room order (attribute ∷ bytes) = do
   grid ← shaped left names.0 columns.0
   Ok (grid, columns.1)
 
--- the number of items that a value counts as
+-- the number of items that a value has as one side of a dictionary: 1 for an atom, the rows of a table
 abbrev mutual
   pub extent : Tree → ℕ
   extent (atom x) = 1
@@ -173,12 +175,12 @@ abbrev pub checked : Bool → ℕ → Tree → Result Tree Fault
 checked true left t = Ok t
 checked false left t = Err (BadShape left)
 
--- the dictionary of two sides; of two tables it is a keyed table
+-- the dictionary of two sides, which have to be equally long; of two tables it is a keyed table
 abbrev pub joined : ℕ → Tree → Tree → Result Tree Fault
 joined left (table keys) (table values) = checked (rows_of keys.columns == rows_of values.columns) left (keyed keys values)
 joined left keys values = checked (extent keys == extent values) left (dict keys values)
 
--- `(::)` behind its type byte
+-- the generic null `(::)`, after its type byte
 unfoldable pub identity_at : ℕ → List ℕ → Result (Tree × List ℕ) Fault
 identity_at left [] = Err Truncated
 identity_at left (zero ∷ bytes) = Ok (identity, bytes)
@@ -192,14 +194,14 @@ items_at object (suc n) bytes = do
   others ← items_at object n first.1
   Ok (item first.0 others.0, others.1)
 
--- a general list behind its type byte
+-- a general list, after its type byte
 unfoldable pub list_at : (List ℕ → Result (Tree × List ℕ) Fault) → Order → List ℕ → Result (Tree × List ℕ) Fault
 list_at object order bytes = do
   n ← count_at order bytes
   items ← items_at object n.0 n.1
   Ok (list items.0, items.1)
 
--- a dictionary behind its type byte
+-- a dictionary, after its type byte
 unfoldable pub dictionary_at : (List ℕ → Result (Tree × List ℕ) Fault) → ℕ → List ℕ → Result (Tree × List ℕ) Fault
 dictionary_at object left bytes = do
   keys ← object bytes
@@ -207,7 +209,7 @@ dictionary_at object left bytes = do
   both ← joined left keys.0 values.0
   Ok (both, values.1)
 
--- an object behind its type byte, from which on this many bytes are left; within it this many more levels may be open
+-- an object, after its type byte, from which on `left` bytes are left; within it `room` more levels may be open
 unfoldable pub object_by : (List ℕ → Result (Tree × List ℕ) Fault) → ℕ → Order → Form → ℕ → List ℕ → Result (Tree × List ℕ) Fault
 object_by object room order (f.Atom kind) left bytes = do
   x ← atom_at order kind bytes
@@ -227,13 +229,13 @@ object_by object room order f.Wrong left bytes = do
 object_by object room order f.Unbuilt left bytes = Err (NotBuilt left)
 object_by object room order f.Unknown left bytes = Err (BadType left)
 
--- an object, where this many levels may be open, its own included
+-- an object, where `room` levels may be open, its own included
 unfoldable pub object_at : ℕ → Order → List ℕ → Result (Tree × List ℕ) Fault
 object_at room order [] = Err Truncated
 object_at zero order (b ∷ bytes) = Err (TooDeep (length (b ∷ bytes)))
 object_at (suc room) order (b ∷ bytes) = object_by (object_at room order) room order (form_of b) (length (b ∷ bytes)) bytes
 
--- the refusal of a fault in so many bytes
+-- the refusal for a fault in n bytes
 abbrev pub placed : ℕ → Fault → DecodeRefusal
 placed n Truncated = r.Truncated n
 placed n (BadType left) = r.BadType (n - left)
@@ -245,16 +247,16 @@ abbrev pub counted : ℕ → Result (Tree × List ℕ) Fault → Result (Tree ×
 counted n (Ok x) = Ok (x.0, n - length x.1)
 counted n (Err e) = Err (placed n e)
 
--- the value and the number of bytes of the object at the front, or the first refusal
+-- the value and the length in bytes of the object at the front, or the first refusal
 unfoldable pub object_of : Order → List ℕ → Result (Tree × ℕ) DecodeRefusal
 object_of order bytes = counted (length bytes) (object_at 64 order bytes)
 
--- its number of bytes alone
+-- that length alone
 abbrev pub measured : Result (Tree × ℕ) DecodeRefusal → Result ℕ DecodeRefusal
 measured (Ok x) = Ok x.1
 measured (Err e) = Err e
 
--- a refusal of `decode`: that of the bytes, or else for want of memory
+-- a refusal of `decode`: the one that reading gives, or out of memory
 abbrev pub RefusesObject : Result (Tree × ℕ) DecodeRefusal → DecodeRefusal → Type 0
 RefusesObject read r.NoMemory = Unit {0}
 RefusesObject read (r.Truncated at) = read ≡ Err (r.Truncated at)

@@ -1,5 +1,5 @@
--- Which bytes are exactly one object, and of which value (KX, IPC reference). Attribute bytes are free, any byte but 0
--- is true, and a dictionary's type is 99 or 127.
+-- Which bytes are an encoding of a value: exactly one object (KX, IPC reference). Attribute bytes may be any, any byte but
+-- 0 is true, and a dictionary's type is 99 or 127.
 use Rattle.std.specs.Prelude.{◌≡◌, ◌≤◌, ℕ, ◌-◌, ◌⊎◌, List, [], ◌∷◌, ◌++◌, length}
 use Rattle.q_values.specs.Atom.{kind_of}
 use Rattle.q_values.specs.Bytes.{HasNoNul}
@@ -10,23 +10,23 @@ use Rattle.q_values.specs.declared.atom.Atom.{Atom}
 use Rattle.q_values.specs.declared.atom.Atom.TheVariants as a
 use Rattle.q_values.specs.declared.kind.Kind.{Kind}
 use Rattle.ipc_codec.specs.declared.order.Order.{Order}
-use Rattle.ipc_codec.specs.Types.{code_of, width}
+use Rattle.q_values.specs.Kind.{type_number, width}
 use Rattle.ipc_codec.specs.Numbers.{number, element}
 use Rattle.ipc_codec.specs.Reading.{extent, number_of_items}
 use Rattle.ipc_codec.specs.Written.{depth, AreNotBothTables}
 
--- bytes that are those of each in turn
+-- the bytes are those of each item, in order
 abbrev pub InTurn : {X : Type 0} → (List ℕ → X → Type 0) → List ℕ → List X → Type 0
 InTurn Part bytes [] = bytes ≡ []
 InTurn Part bytes (x ∷ xs) = (first : List ℕ) × (rest : List ℕ) × (bytes ≡ first ++ rest) × Part first x × InTurn Part rest xs
 
--- four bytes of a number that is a count
+-- four bytes that hold this count
 pub record SpellsCount (order : Order) (bytes : List ℕ) (n : ℕ) : Type 0 where
   pub four : length bytes ≡ 4
   pub value : number order 4 bytes ≡ n
   pub within : n ≤ 2147483647
 
--- a text, which a 0 ends
+-- a text and a 0, which ends it
 pub record SpellsText (bytes text : List ℕ) : Type 0 where
   pub ended : bytes ≡ text ++ 0 ∷ []
   pub no_nul : HasNoNul text
@@ -46,7 +46,7 @@ pub record SpellsVector (order : Order) (bytes : List ℕ) (v : Contents) : Type
   pub attribute : ℕ
   pub count : List ℕ
   pub body : List ℕ
-  pub parts : bytes ≡ code_of v.kind ∷ attribute ∷ count ++ body
+  pub parts : bytes ≡ type_number v.kind ∷ attribute ∷ count ++ body
   pub counted : SpellsCount order count (length v.atoms)
   pub elements : InTurn (SpellsElementOf order v.kind) body v.atoms
 
@@ -86,9 +86,11 @@ pub record SpellsGrid (order : Order) (bytes : List ℕ) (grid : Grid) : Type 0 
 -- an object, however deep it nests
 abbrev mutual
   pub SpellsTree : Order → List ℕ → Tree → Type 0
-  SpellsTree order bytes (atom x) = (body : List ℕ) × (bytes ≡ (256 - code_of (kind_of x)) ∷ body) × SpellsElement order body x
+  SpellsTree order bytes (atom x) = (body : List ℕ) × (bytes ≡ (256 - type_number (kind_of x)) ∷ body) × SpellsElement order body x
   SpellsTree order bytes (vector v) = SpellsVector order bytes v
-  SpellsTree order bytes (list items) = (attribute : ℕ) × (count : List ℕ) × (body : List ℕ) × (bytes ≡ 0 ∷ attribute ∷ count ++ body) × SpellsCount order count (number_of_items items) × SpellsItems order body items
+  SpellsTree order bytes (list items) =
+      (attribute : ℕ) × (count : List ℕ) × (body : List ℕ) × (bytes ≡ 0 ∷ attribute ∷ count ++ body)
+      × SpellsCount order count (number_of_items items) × SpellsItems order body items
   SpellsTree order bytes (dict keys values) =
       (type : ℕ) × (first : List ℕ) × (second : List ℕ) × (bytes ≡ type ∷ first ++ second) × IsDictionaryType type
       × SpellsTree order first keys × SpellsTree order second values × (extent keys ≡ extent values) × AreNotBothTables keys values
@@ -101,9 +103,10 @@ abbrev mutual
 
   pub SpellsItems : Order → List ℕ → Items → Type 0
   SpellsItems order bytes no_items = bytes ≡ []
-  SpellsItems order bytes (item t items) = (first : List ℕ) × (rest : List ℕ) × (bytes ≡ first ++ rest) × SpellsTree order first t × SpellsItems order rest items
+  SpellsItems order bytes (item t items) =
+      (first : List ℕ) × (rest : List ℕ) × (bytes ≡ first ++ rest) × SpellsTree order first t × SpellsItems order rest items
 
--- these bytes are exactly one object, of this value, that nests at most 64 deep
+-- these bytes are exactly one object, of this value, at most 64 levels deep
 pub record Spells (order : Order) (bytes : List ℕ) (t : Tree) : Type 0 where
   pub object : SpellsTree order bytes t
   pub nested : depth t ≤ 64

@@ -1,4 +1,4 @@
--- The one spelling that is written: little-endian, with attributes 0, booleans 0 or 1, and 99 for each dictionary.
+-- The canonical encoding: little-endian, with attributes 0, booleans 0 or 1, and 99 for each dictionary.
 use Rattle.std.specs.Prelude.{◌≡◌, ◌≤◌, All, ℕ, zero, suc, ◌-◌, max, List, [], ◌∷◌, ◌++◌, length, if◌then◌else◌}
 use Rattle.std.specs.Int.{w16, w32, w64, cast_unsigned}
 use Rattle.std.specs.Int.RustNames.{FitsSigned}
@@ -11,7 +11,7 @@ use Rattle.q_values.specs.Table.{IsTable, rows_of}
 use Rattle.q_values.specs.Tree.{Tree, Items, Grid, atom, vector, list, dict, table, keyed, identity, wrong, no_items, item}
 use Rattle.q_values.specs.declared.atom.Atom.{Atom}
 use Rattle.q_values.specs.declared.atom.Atom.TheVariants as a
-use Rattle.ipc_codec.specs.Types.{code_of}
+use Rattle.q_values.specs.Kind.{type_number}
 use Rattle.ipc_codec.specs.Reading.{extent, number_of_items}
 
 -- a text and the 0 that ends it
@@ -35,12 +35,12 @@ element_bytes (a.Minute x) = little_bytes 4 (cast_unsigned w32 x)
 element_bytes (a.Second x) = little_bytes 4 (cast_unsigned w32 x)
 element_bytes (a.Time x) = little_bytes 4 (cast_unsigned w32 x)
 
--- a type byte, the attribute byte and a count
+-- a type byte, the attribute byte 0 and a count
 abbrev pub head : ℕ → ℕ → List ℕ
 head code n = code ∷ 0 ∷ little_bytes 4 n
 
 unfoldable pub vector_bytes : Contents → List ℕ
-vector_bytes v = head (code_of v.kind) (length v.atoms) ++ flat_map element_bytes v.atoms
+vector_bytes v = head (type_number v.kind) (length v.atoms) ++ flat_map element_bytes v.atoms
 
 unfoldable pub grid_bytes : Grid → List ℕ
 grid_bytes grid =
@@ -49,7 +49,7 @@ grid_bytes grid =
 -- the bytes of a value
 unfoldable mutual
   pub written : Tree → List ℕ
-  written (atom x) = (256 - code_of (kind_of x)) ∷ element_bytes x
+  written (atom x) = (256 - type_number (kind_of x)) ∷ element_bytes x
   written (vector v) = vector_bytes v
   written (list items) = head 0 (number_of_items items) ++ written_items items
   written (dict keys values) = 99 ∷ written keys ++ written values
@@ -62,7 +62,7 @@ unfoldable mutual
   written_items no_items = []
   written_items (item t items) = written t ++ written_items items
 
--- how many objects are open at the deepest place, the value's own included
+-- how many objects are open at the deepest point, the value's own included
 abbrev mutual
   pub depth : Tree → ℕ
   depth (atom x) = 1
@@ -78,7 +78,7 @@ abbrev mutual
   deepest no_items = zero
   deepest (item t items) = max (depth t) (deepest items)
 
--- a table whose counts have a spelling
+-- a table whose counts can be written
 pub record GridFits (grid : Grid) : Type 0 where
   pub shape : IsTable grid.names grid.columns
   pub columns : length grid.columns ≤ 2147483647
@@ -88,7 +88,7 @@ abbrev pub AreNotBothTables : Tree → Tree → Type 0
 AreNotBothTables (table x) (table y) = ⊥
 AreNotBothTables _ _ = Unit {0}
 
--- counts of at most 2147483647, tables in shape, dictionaries of two sides of one length, errors' texts without a 0
+-- counts of at most 2147483647, tables in shape, dictionaries of two sides of one length, texts of errors without a 0
 abbrev mutual
   pub Fits : Tree → Type 0
   Fits (atom x) = Unit {0}
@@ -104,7 +104,7 @@ abbrev mutual
   AllFit no_items = Unit {0}
   AllFit (item t items) = Fits t × AllFit items
 
--- a value that has a spelling
+-- a value that can be written
 pub record IsPlain (t : Tree) : Type 0 where
   pub nested : depth t ≤ 64
   pub fits : Fits t
@@ -134,7 +134,7 @@ pub record GridAtomsFit (grid : Grid) : Type 0 where
   pub names : All HasNoNul grid.names
   pub columns : All VectorFits grid.columns
 
--- a tree that a value can have, as far as its atoms go
+-- a tree whose atoms a value can hold
 abbrev mutual
   pub AtomsFit : Tree → Type 0
   AtomsFit (atom x) = AtomFits x

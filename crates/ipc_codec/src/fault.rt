@@ -1,23 +1,29 @@
-// Why reading stops, with the number of bytes that are left from that place on.
+//! Why reading ends early. Readers see a slice that begins at the current byte, so a fault carries the number of bytes that
+//! are left from it on; `placed_in` turns that into an offset.
 ghost use Rattle.std.specs.Prelude.{◌≡◌};
 ghost use Rattle.ipc_codec.specs.Reading.{placed};
 ghost use Rattle.ipc_codec.specs.declared.fault.Stop.TheVariants as s;
 
 use crate::refusal::DecodeRefusal;
 use q_values::NoMemory;
-use std::alloc::{AllocError, AllocFailed};
 
+/// What is wrong with the bytes, seen from where reading ended.
 #[derive(Clone, Copy, Debug, PartialEq, Eq)]
 pub enum Fault {
+    /// The bytes end within the object.
     Truncated,
+    /// The type byte is none of kdb+. The number of bytes left, from that byte on, as in each of the others.
     BadType(usize),
+    /// A count, a table or a dictionary is out of shape.
     BadShape(usize),
+    /// The type is one of kdb+ that is not supported.
     NotBuilt(usize),
+    /// The object is more than 64 levels deep.
     TooDeep(usize),
 }
 
 impl Fault {
-    // The refusal of a fault in so many bytes.
+    /// The refusal for this fault, where the input has `count` bytes.
     pub fn placed_in(self, count: usize) -> DecodeRefusal
         ensures { result ≡ placed count self }
     {
@@ -31,9 +37,12 @@ impl Fault {
     }
 }
 
+/// Why reading a value ended early.
 #[derive(Clone, Copy, Debug, PartialEq, Eq)]
 pub enum Stop {
+    /// The bytes are no object.
     At(Fault),
+    /// Out of memory.
     Memory,
 }
 
@@ -49,22 +58,6 @@ impl From<NoMemory> for Stop {
     ghost from_gives = { λ _ e. e ≡ s.Memory };
 
     fn from(_e: NoMemory) -> Stop {
-        Stop::Memory
-    }
-}
-
-impl From<AllocError> for Stop {
-    ghost from_gives = { λ _ e. e ≡ s.Memory };
-
-    fn from(_e: AllocError) -> Stop {
-        Stop::Memory
-    }
-}
-
-impl<T: Drop> From<AllocFailed<T>> for Stop {
-    ghost from_gives = { λ _ e. e ≡ s.Memory };
-
-    fn from(_e: AllocFailed<T>) -> Stop {
         Stop::Memory
     }
 }

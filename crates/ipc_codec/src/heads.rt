@@ -1,4 +1,4 @@
-// What objects begin with, or hold between other parts.
+//! The parts that objects share: counts, texts, and the type bytes within a table.
 ghost use Rattle.std.specs.Prelude.{◌≡◌, ◌<◌, ◌^◌, ◌≤◌, length, IfOk, position, IfNone, ◌==◌};
 ghost use Rattle.q_values.specs.Bytes.{HasNoNul};
 ghost use Rattle.ipc_codec.specs.Numbers.{number};
@@ -18,7 +18,7 @@ fn number_of(bytes: &[u8], order: Order) -> u32
     }
 }
 
-// An attribute byte and a count.
+/// Reads an attribute byte, which may be any, and a count; returns the count and the bytes after it.
 #[tactic(auto, unfolding(crate::specs::Reading::count_at))]
 pub fn count_of(bytes: &[u8], order: Order) -> Result<(usize, &[u8]), Fault>
     ensures found { Finds (λ x. (x.0, x.1.now)) result (count_at order bytes.now) }
@@ -39,7 +39,7 @@ pub fn count_of(bytes: &[u8], order: Order) -> Result<(usize, &[u8]), Fault>
     }
 }
 
-// Where the first 0 stands.
+// The index of the first 0.
 fn first_nul(bytes: &[u8]) -> Option<usize>
     ensures first { result ≡ position (λ b. b == 0) bytes.now }
     ensures none { IfNone result (HasNoNul bytes.now) }
@@ -47,7 +47,7 @@ fn first_nul(bytes: &[u8]) -> Option<usize>
     bytes.iter().position(|b| *b == 0)
 }
 
-// A text that a 0 ends.
+/// Reads a text that ends with a 0; returns it without the 0, and the bytes after the 0.
 pub fn text_of(bytes: &[u8]) -> Result<(&[u8], &[u8]), Fault>
     ensures found { Finds (λ x. (x.0.now, x.1.now)) result (text_at bytes.now) }
     ensures no_nul { IfOk result (λ x. HasNoNul x.0.now) }
@@ -58,7 +58,8 @@ pub fn text_of(bytes: &[u8]) -> Result<(&[u8], &[u8]), Fault>
     }
 }
 
-// The bytes behind a type byte that has to be this one or that one.
+/// Reads the type byte of a part of a table, which has to be `this` or `that`, where `room` more levels may be open;
+/// returns the bytes after it.
 #[tactic(auto, unfolding(crate::specs::Reading::part_at))]
 pub fn part_of(bytes: &[u8], room: u32, this: u8, that: u8) -> Result<&[u8], Fault>
     ensures { Finds (λ x. x.now) result (part_at room this that bytes.now) }

@@ -1,27 +1,28 @@
-//! Laws of the bytes of values, each the contract of a function that does nothing.
+//! What holds of reading, writing and encodings, whatever the bytes. Each law is the contract of a function with an
+//! empty body.
 ghost use Rattle.ipc_codec.specs.Laws.{ReadingIsSpelling, SpellingIsRead, NoSpellingBeginsAnother, WrittenSpells, SpellingIsPlain};
 
-/// What is read is spelled by the bytes that were read.
+/// The bytes that were read are an encoding of the value that was read.
 pub fn reading_is_spelling()
     ensures { ReadingIsSpelling }
 {}
 
-/// What is spelled is read, whatever follows.
+/// Each encoding of a value is read as that value, whatever bytes follow.
 pub fn spelling_is_read()
     ensures { SpellingIsRead }
 {}
 
-/// No spelling begins another: where two spellings begin the same bytes, they are one, of one value.
+/// No encoding begins another one: where two encodings begin the same bytes, they are the same, of the same value.
 pub fn no_spelling_begins_another()
     ensures { NoSpellingBeginsAnother }
 {}
 
-/// What is written of a plain value spells it, and so is read again as it, whatever follows.
+/// What is written of a plain value is an encoding of it, and so is read again as it, whatever bytes follow.
 pub fn written_spells()
     ensures { WrittenSpells }
 {}
 
-/// What is spelled is plain: it can be written.
+/// A value that has an encoding is plain, so it can be written.
 pub fn spelling_is_plain()
     ensures { SpellingIsPlain }
 {}

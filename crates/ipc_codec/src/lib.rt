@@ -1,5 +1,30 @@
-//! Objects of kdb+ IPC as bytes: the values of the plant, written in one way and read from every spelling of them, in
-//! both byte orders (KX, IPC reference).
+//! The objects of kdb+ IPC: values to bytes and bytes to values, in both byte orders (KX, IPC reference).
+//!
+//! An object is a type byte and what that type asks for: the element of an atom; the attribute byte, the count and the
+//! elements of a vector; the objects of a list or a dictionary. One value has many encodings: either byte order, any
+//! attribute byte, any byte but 0 for true, 99 or 127 for a dictionary. All of them are read, and one is written, the
+//! canonical encoding: little-endian, with attributes 0, booleans 0 or 1, and 99 for each dictionary.
+//!
+//! - [`decode`] reads the object at the front of the bytes, and returns its value and its length in bytes, or a
+//!   [`DecodeRefusal`] with the offset of the first fault.
+//! - [`measure`] returns the same length or the same refusal, and allocates nothing.
+//! - [`encode`] appends the canonical encoding of a value.
+//! - [`Order`] is the byte order, which a message's header says.
+//!
+//! ```text
+//! let (value, length) = decode(alloc, b"\xfa\0\0\0\x01\x65", Order::Big)?;
+//!                                        // the int 1; 5 bytes: the sixth is no part of it
+//! let mut out = Vec::new(alloc);
+//! encode(&mut out, &value)?;             // appends fa 01 00 00 00
+//! measure(b"\xfa\x01", Order::Little)    // Err(DecodeRefusal::Truncated(2))
+//! ```
+//!
+//! [`laws`] says how they fit together: what is written is read again as the same value, and no encoding begins
+//! another one.
+//!
+//! This crate doesn't know message headers or the handshake (`ipc_frame` does), doesn't compress, and refuses the
+//! types of kdb+ that have no `Value` (real, float, guid, datetime, enumerations, functions) as `NotBuilt`. An object
+//! may nest 64 levels deep.
 #![tactic(auto)]
 
 mod elements;
@@ -18,6 +43,3 @@ pub use reach::measure;
 pub use reading::decode;
 pub use refusal::DecodeRefusal;
 pub use writing::encode;
-
-#[cfg(test)]
-mod tests;

@@ -1,28 +1,35 @@
-// How far an object reaches.
+//! How long an object is. These functions go through the bytes as those of `reading` do, and keep no value.
 ghost use Rattle.std.specs.Prelude.{◌≡◌, ◌*◌, ◌^◌, ◌<◌};
 ghost use Rattle.ipc_codec.specs.Reading.{Finds, object_of, measured, is_symbol};
-ghost use Rattle.ipc_codec.specs.Extent.{after_texts, after_elements, after_vector, after_atom, after_column_by, after_column, after_columns, after_block, after_list_of_columns, after_names, after_grid, after_identity, after_items, after_dictionary, after_form, after_object};
+ghost use Rattle.ipc_codec.specs.Extent.{after_texts, after_elements, after_vector, after_atom, after_column_by, after_column};
+ghost use Rattle.ipc_codec.specs.Extent.{after_columns, after_block, after_list_of_columns, after_names, after_grid, after_identity};
+ghost use Rattle.ipc_codec.specs.Extent.{after_items, after_dictionary, after_form, after_object};
 
 use crate::fault::Fault;
-use crate::form::{Form, form_of_byte, kind_of_type, width_of};
+use crate::form::{Form, form_of_byte};
 use crate::heads::{count_of, part_of, text_of};
 use crate::order::Order;
 use crate::refusal::DecodeRefusal;
 use q_values::Kind;
 
-// What is kept of a value: whether it is a table, and the number of items that it counts as.
+/// What is kept of a value: whether it is a table, and how many items it has as one side of a dictionary.
 #[derive(Clone, Copy)]
 pub struct Outline {
+    /// Whether it is a table.
     pub is_table: bool,
+    /// Its number of items: 1 for an atom, the rows of a table.
     pub count: usize,
 }
 
-// What is kept of a table's columns: their number, the rows of the first, and whether all have as many.
+/// What is kept of a table's columns.
 #[derive(Clone, Copy)]
 pub struct Block {
+    /// Their number.
     pub columns: usize,
+    /// The rows of the first column, 0 without columns.
     pub rows: usize,
-    pub is_even: bool,
+    /// Whether all columns have this number of rows.
+    pub have_equal_lengths: bool,
 }
 
 fn after_texts_of(bytes: &[u8], count: usize) -> Result<&[u8], Fault>
@@ -44,7 +51,7 @@ fn after_elements_of(bytes: &[u8], kind: Kind, count: usize) -> Result<&[u8], Fa
     if kind == Kind::Symbol {
         return after_texts_of(bytes, count);
     }
-    let size = count * width_of(kind);
+    let size = count * kind.width();
     if bytes.len() < size {
         return Err(Fault::Truncated);
     }
@@ -68,7 +75,7 @@ fn after_atom_of(bytes: &[u8], kind: Kind) -> Result<&[u8], Fault>
         let (_, rest) = text_of(bytes)?;
         return Ok(rest);
     }
-    let size = width_of(kind);
+    let size = kind.width();
     if bytes.len() < size {
         return Err(Fault::Truncated);
     }
@@ -85,7 +92,7 @@ fn after_column_of(bytes: &[u8], order: Order, room: u32) -> Result<(usize, &[u8
             if room == 0 {
                 return Err(Fault::TooDeep(bytes.len()));
             }
-            match kind_of_type(u16::from(*first)) {
+            match Kind::from_type_number(u16::from(*first)) {
                 None => Err(Fault::NotBuilt(bytes.len())),
                 Some(kind) => after_vector_of(rest, order, kind),
             }
@@ -93,7 +100,7 @@ fn after_column_of(bytes: &[u8], order: Order, room: u32) -> Result<(usize, &[u8
     }
 }
 
-// Whether these columns all have this number of rows.
+// Whether all of these columns have this number of rows.
 fn after_columns_of(
     bytes: &[u8],
     order: Order,
@@ -104,13 +111,13 @@ fn after_columns_of(
     ensures { Finds (λ x. (x.0, x.1.now)) result (after_columns room order rows count bytes.now) }
 {
     let mut rest = bytes;
-    let mut is_even = true;
+    let mut have_equal_lengths = true;
     for _ in 0..count {
         let (here, after) = after_column_of(rest, order, room)?;
-        is_even = is_even && here == rows;
+        have_equal_lengths = have_equal_lengths && here == rows;
         rest = after;
     }
-    Ok((is_even, rest))
+    Ok((have_equal_lengths, rest))
 }
 
 #[tactic(auto, unfolding(crate::specs::Extent::after_block))]
@@ -126,16 +133,16 @@ fn after_block_of(
         let none = Block {
             columns: 0,
             rows: 0,
-            is_even: true,
+            have_equal_lengths: true,
         };
         return Ok((none, bytes));
     }
     let (rows, rest) = after_column_of(bytes, order, room)?;
-    let (is_even, rest) = after_columns_of(rest, order, room, rows, count - 1)?;
+    let (have_equal_lengths, rest) = after_columns_of(rest, order, room, rows, count - 1)?;
     let block = Block {
         columns: count,
         rows,
-        is_even,
+        have_equal_lengths,
     };
     Ok((block, rest))
 }
@@ -159,7 +166,7 @@ fn after_names_of(bytes: &[u8], order: Order, room: u32) -> Result<(usize, &[u8]
     Ok((count, rest))
 }
 
-// A table's number of rows; from its type byte on this many bytes are left.
+// A table's number of rows. From its type byte on, `left` bytes are left.
 #[tactic(auto, unfolding(crate::specs::Extent::after_grid))]
 fn after_grid_of(
     bytes: &[u8],
@@ -176,7 +183,7 @@ fn after_grid_of(
             let room = room.saturating_sub(1);
             let (names, rest) = after_names_of(inner, order, room)?;
             let (block, rest) = after_list_of_columns_of(rest, order, room)?;
-            if block.columns > 0 && names == block.columns && block.is_even {
+            if block.columns > 0 && names == block.columns && block.have_equal_lengths {
                 Ok((block.rows, rest))
             } else {
                 Err(Fault::BadShape(left))
@@ -230,7 +237,7 @@ fn after_dictionary_of(
     Ok((outline, rest))
 }
 
-// An object behind its type byte, from which on this many bytes are left.
+// An object, after its type byte, from which on `left` bytes are left.
 #[cycle(reach)]
 #[tactic(auto, unfolding(crate::specs::Extent::after_form, crate::specs::Extent::after_list))]
 fn after_form_of(
@@ -285,8 +292,8 @@ fn after_object_of(bytes: &[u8], order: Order, room: u32) -> Result<(Outline, &[
     }
 }
 
-/// The number of bytes of the object at the front of the bytes, or why there is none. It takes no memory, and looks at
-/// no object deeper than 64 levels (KX, IPC reference).
+/// The length in bytes of the object at the front of the bytes, or the refusal that `decode` would return (KX, IPC
+/// reference). It allocates nothing, and its calls nest 64 levels deep at most.
 pub fn measure(bytes: &[u8], order: Order) -> Result<usize, DecodeRefusal>
     ensures { result ≡ measured (object_of order bytes.now) }
 {

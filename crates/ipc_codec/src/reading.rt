@@ -1,25 +1,43 @@
-// The values of bytes.
+//! Reading values. Each reader takes the bytes from the current one on, and returns what it read and the bytes after it.
+//! `room` is the number of levels that may still be opened; `left` the number of bytes from the type byte of the
+//! current object on, which tells where a fault is.
 ghost use Rattle.std.specs.Prelude.{◌≡◌, ◌<◌, ◌^◌, ◌≤◌, ℕ, length, take, map, nat_eq, Ok, IfOk, IfErr};
 ghost use Rattle.q_values.specs.Bytes.{HasNoNul};
 ghost use Rattle.q_values.specs.Column.{contents};
 ghost use Rattle.q_values.specs.Table.{rows_of};
 ghost use Rattle.q_values.specs.Tree.{Tree, tree, trees, items_of, keyed, identity};
-ghost use Rattle.ipc_codec.specs.Reading.{Gives, Finds, list_at, shaped, checked, identity_at, texts_at, elements_at, vector_at, atom_at, column_at, columns_at, is_even, names_at, list_of_columns_at, grid_at, extent, joined, items_at, dictionary_at, object_by, object_at, object_of, RefusesObject};
+ghost use Rattle.ipc_codec.specs.Reading.{Gives, Finds, RefusesObject, texts_at, elements_at, vector_at, atom_at, column_at, columns_at};
+ghost use Rattle.ipc_codec.specs.Reading.{have_equal_lengths, names_at, list_of_columns_at, grid_at, shaped, extent, checked, joined, identity_at};
+ghost use Rattle.ipc_codec.specs.Reading.{items_at, list_at, dictionary_at, object_by, object_at, object_of};
 ghost use Rattle.ipc_codec.specs.Spells.{Spells};
 ghost use Rattle.ipc_codec.specs.Decoded.{Reads};
 ghost use Rattle.ipc_codec.specs.Written.{IsPlain, AtomsFit};
 
 use crate::elements::{column_of, element_of};
 use crate::fault::{Fault, Stop};
-use crate::form::{Form, form_of_byte, kind_of_type, width_of};
+use crate::form::{Form, form_of_byte};
 use crate::heads::{count_of, part_of, text_of};
 use crate::order::Order;
 use crate::refusal::DecodeRefusal;
 use q_values::{
-    Atom, Column, KeyedValue, Kind, Pair, Sequence, Sym, Symbols, TableValue, Text, Value, Values,
-    Vector,
+    Atom, Column, KeyedValue, Kind, NoMemory, Pair, Sequence, Sym, Symbols, TableValue, Text,
+    Value, Values, Vector,
 };
 use std::alloc::Global;
+
+// A box of the item.
+fn boxed<T: Drop>(alloc: Global, item: T) -> Result<Box<T>, NoMemory>
+    ensures { IfOk result (λ b. b.value ≡ item) }
+{
+    Ok(Box::new(alloc, item)?)
+}
+
+// A copy of the text.
+fn text_copied(alloc: Global, text: &[u8]) -> Result<Text, NoMemory>
+    ensures { IfOk result (λ t. t ≡ text.now) }
+{
+    Ok(Text::from_vec(Vec::from_slice(alloc, text)?))
+}
 
 fn symbols_of(alloc: Global, bytes: &[u8], count: usize) -> Result<(Symbols, &[u8]), Stop>
     ensures { Gives (λ x. (x.0, x.1.now)) result (texts_at count bytes.now) }
@@ -50,7 +68,7 @@ fn elements_of(
         let (symbols, rest) = symbols_of(alloc, bytes, count)?;
         return Ok((Column::Symbols(symbols), rest));
     }
-    let size = count * width_of(kind);
+    let size = count * kind.width();
     if bytes.len() < size {
         return Err(Stop::At(Fault::Truncated));
     }
@@ -74,7 +92,7 @@ fn atom_of(alloc: Global, bytes: &[u8], order: Order, kind: Kind) -> Result<(Ato
         let (text, rest) = text_of(bytes)?;
         return Ok((Atom::Symbol(Sym::copied(alloc, text)?), rest));
     }
-    let size = width_of(kind);
+    let size = kind.width();
     if bytes.len() < size {
         return Err(Stop::At(Fault::Truncated));
     }
@@ -96,7 +114,7 @@ fn column_in_table(
             if room == 0 {
                 return Err(Stop::At(Fault::TooDeep(bytes.len())));
             }
-            match kind_of_type(u16::from(*first)) {
+            match Kind::from_type_number(u16::from(*first)) {
                 None => Err(Stop::At(Fault::NotBuilt(bytes.len()))),
                 Some(kind) => vector_of(alloc, rest, order, kind),
             }
@@ -110,10 +128,10 @@ fn columns_of(
     order: Order,
     room: u32,
     count: usize,
-) -> Result<(Vec<Vector>, &[u8]), Stop>
-    ensures { Gives (λ x. (x.0.items, x.1.now)) result (columns_at room order count bytes.now) }
+) -> Result<(Sequence<Vector>, &[u8]), Stop>
+    ensures { Gives (λ x. (x.0, x.1.now)) result (columns_at room order count bytes.now) }
 {
-    let mut columns = Vec::new(alloc);
+    let mut columns = Sequence::new(alloc);
     let mut rest = bytes;
     for _ in 0..count {
         let (column, after) = column_in_table(alloc, rest, order, room)?;
@@ -123,10 +141,10 @@ fn columns_of(
     Ok((columns, rest))
 }
 
-fn syms_of(alloc: Global, bytes: &[u8], count: usize) -> Result<(Vec<Sym>, &[u8]), Stop>
-    ensures { Gives (λ x. (x.0.items, x.1.now)) result (texts_at count bytes.now) }
+fn syms_of(alloc: Global, bytes: &[u8], count: usize) -> Result<(Sequence<Sym>, &[u8]), Stop>
+    ensures { Gives (λ x. (x.0, x.1.now)) result (texts_at count bytes.now) }
 {
-    let mut names = Vec::new(alloc);
+    let mut names = Sequence::new(alloc);
     let mut rest = bytes;
     for _ in 0..count {
         let (text, after) = text_of(rest)?;
@@ -138,8 +156,13 @@ fn syms_of(alloc: Global, bytes: &[u8], count: usize) -> Result<(Vec<Sym>, &[u8]
 }
 
 #[tactic(auto, unfolding(crate::specs::Reading::names_at))]
-fn names_of(alloc: Global, bytes: &[u8], order: Order, room: u32) -> Result<(Vec<Sym>, &[u8]), Stop>
-    ensures { Gives (λ x. (x.0.items, x.1.now)) result (names_at room order bytes.now) }
+fn names_of(
+    alloc: Global,
+    bytes: &[u8],
+    order: Order,
+    room: u32,
+) -> Result<(Sequence<Sym>, &[u8]), Stop>
+    ensures { Gives (λ x. (x.0, x.1.now)) result (names_at room order bytes.now) }
 {
     let inner = part_of(bytes, room, 11, 11)?;
     let (count, rest) = count_of(inner, order)?;
@@ -152,15 +175,15 @@ fn list_of_columns_of(
     bytes: &[u8],
     order: Order,
     room: u32,
-) -> Result<(Vec<Vector>, &[u8]), Stop>
-    ensures { Gives (λ x. (x.0.items, x.1.now)) result (list_of_columns_at room order bytes.now) }
+) -> Result<(Sequence<Vector>, &[u8]), Stop>
+    ensures { Gives (λ x. (x.0, x.1.now)) result (list_of_columns_at room order bytes.now) }
 {
     let inner = part_of(bytes, room, 0, 0)?;
     let (count, rest) = count_of(inner, order)?;
     columns_of(alloc, rest, order, room.saturating_sub(1), count)
 }
 
-// The number of rows of these columns: that of the first.
+// The number of rows of the first column, 0 without columns.
 fn rows_in(columns: &[Vector]) -> usize
     ensures { result ≡ rows_of columns.now }
 {
@@ -170,14 +193,14 @@ fn rows_in(columns: &[Vector]) -> usize
     }
 }
 
-// Whether columns all have this number of rows.
-fn are_even(columns: &[Vector], rows: usize) -> bool
-    ensures { result ≡ is_even rows columns.now }
+// Whether all columns have this number of rows.
+fn have_equal_lengths(columns: &[Vector], rows: usize) -> bool
+    ensures { result ≡ have_equal_lengths rows columns.now }
 {
     columns.iter().all(|column| column.len() == rows)
 }
 
-// A table behind its type byte, from which on this many bytes are left.
+// A table, after its type byte.
 #[tactic(auto, unfolding(crate::specs::Reading::grid_at))]
 fn table_of(
     alloc: Global,
@@ -201,21 +224,26 @@ fn table_of(
     }
 }
 
-fn table_from(names: Vec<Sym>, columns: Vec<Vector>, left: usize) -> Result<TableValue, Fault>
+// A table of these names and columns, where they have the same number and all columns the same length.
+fn table_from(
+    names: Sequence<Sym>,
+    columns: Sequence<Vector>,
+    left: usize,
+) -> Result<TableValue, Fault>
     ensures { Finds (λ x. record { names = x.names; columns = x.columns }) result
-        (shaped left names.items columns.items) }
+        (shaped left names columns) }
 {
-    let rows = rows_in(&columns);
-    if columns.is_empty() || names.len() != columns.len() || !are_even(&columns, rows) {
+    let rows = rows_in(columns.as_slice());
+    if columns.is_empty()
+        || names.len() != columns.len()
+        || !have_equal_lengths(columns.as_slice(), rows)
+    {
         return Err(Fault::BadShape(left));
     }
-    Ok(TableValue {
-        names: Sequence::from_vec(names),
-        columns: Sequence::from_vec(columns),
-    })
+    Ok(TableValue { names, columns })
 }
 
-// The number of items that a value counts as.
+// The number of items that a value has as one side of a dictionary: 1 for an atom, the rows of a table.
 fn extent_of(value: &Value) -> usize
     ensures { result ≡ extent (tree value.now) }
 {
@@ -231,6 +259,7 @@ fn extent_of(value: &Value) -> usize
     }
 }
 
+// A dictionary of two sides; a keyed table, where both are tables.
 fn dictionary_from(alloc: Global, keys: Value, values: Value, left: usize) -> Result<Value, Stop>
     ensures { Gives tree result (joined left (tree keys) (tree values)) }
 {
@@ -240,7 +269,7 @@ fn dictionary_from(alloc: Global, keys: Value, values: Value, left: usize) -> Re
             if extent_of(&keys) != extent_of(&values) {
                 return Err(Stop::At(Fault::BadShape(left)));
             }
-            Ok(Value::Dict(Box::new(alloc, Pair { keys, values })?))
+            Ok(Value::Dict(boxed(alloc, Pair { keys, values })?))
         }
     }
 }
@@ -257,9 +286,10 @@ fn keyed_from(
     if rows_in(keys.columns.as_slice()) != rows_in(values.columns.as_slice()) {
         return Err(Stop::At(Fault::BadShape(left)));
     }
-    Ok(Value::Keyed(Box::new(alloc, KeyedValue { keys, values })?))
+    Ok(Value::Keyed(boxed(alloc, KeyedValue { keys, values })?))
 }
 
+// The generic null, after its type byte.
 #[tactic(auto, unfolding(crate::specs::Reading::identity_at))]
 fn identity_of(bytes: &[u8], left: usize) -> Result<&[u8], Fault>
     ensures { Finds (λ x. (identity, x.now)) result (identity_at left bytes.now) }
@@ -317,7 +347,7 @@ fn dictionary_in(
     Ok((dictionary_from(alloc, keys, values, left)?, rest))
 }
 
-// An object behind its type byte, from which on this many bytes are left.
+// An object, after its type byte.
 #[cycle(objects)]
 #[tactic(auto, unfolding(crate::specs::Reading::object_by))]
 fn form_in(
@@ -349,7 +379,7 @@ fn form_in(
         Form::Identity => Ok((Value::Identity, identity_of(bytes, left)?)),
         Form::Wrong => {
             let (text, rest) = text_of(bytes)?;
-            Ok((Value::Wrong(Text::from_vec(Vec::from_slice(alloc, text)?)), rest))
+            Ok((Value::Wrong(text_copied(alloc, text)?), rest))
         }
         Form::Unbuilt => Err(Stop::At(Fault::NotBuilt(left))),
         Form::Unknown => Err(Stop::At(Fault::BadType(left))),
@@ -379,17 +409,17 @@ fn object_in(alloc: Global, bytes: &[u8], order: Order, room: u32) -> Result<(Va
     }
 }
 
-/// Reads the object at the front of the bytes, with the number of its bytes (KX, IPC reference). The first refusal from
-/// left to right comes, with its place.
+/// Reads the object at the front of the bytes; returns its value and its length in bytes (KX, IPC reference). Bytes after
+/// the object aren't read. Where the bytes don't begin with an object, the refusal is the first one from left to right.
 pub fn decode(alloc: Global, bytes: &[u8], order: Order) -> Result<(Value, usize), DecodeRefusal>
     ensures found { IfOk result (λ x. object_of order bytes.now ≡ Ok (tree x.0, x.1)) }
     ensures refused { IfErr result (RefusesObject (object_of order bytes.now)) }
-    // The bytes that were read spell the value.
+    // The bytes that were read are an encoding of the value.
     ensures spelled { IfOk result (λ x. Spells order (take x.1 bytes.now) (tree x.0)) }
     // A value that was read can be written.
     ensures plain { IfOk result (λ x. IsPlain (tree x.0)) }
     ensures fit { IfOk result (λ x. AtomsFit (tree x.0)) }
-    // What the bytes spell is read, unless memory runs out.
+    // Each encoding of a value at the front of the bytes is read as that value, unless memory runs out.
     ensures only { (t : Tree) (n : ℕ) → n ≤ length bytes.now → Spells order (take n bytes.now) t
         → Reads t n result }
 {

@@ -1,24 +1,27 @@
+//! Why bytes are refused.
+
 use thiserror::Error;
 
-/// Why bytes are no object: the first cause from left to right, with its place, counted from 0.
+/// Why the bytes don't begin with an object: the first fault from left to right, with its offset in bytes.
 #[derive(Clone, Copy, Debug, PartialEq, Eq, Error)]
 pub enum DecodeRefusal {
-    /// The bytes end within the object. The place is their number.
-    #[error("the bytes end at {0}")]
+    /// The bytes end within the object. The offset is the number of the bytes.
+    #[error("the bytes end at offset {0}, within an object")]
     Truncated(usize),
-    /// No object of kdb+ begins with this type byte.
-    #[error("no type begins at {0}")]
+    /// No object of kdb+ begins with the type byte at this offset.
+    #[error("no type of kdb+ at offset {0}")]
     BadType(usize),
-    /// A table, a dictionary or a count that is out of shape.
-    #[error("out of shape at {0}")]
+    /// A count above 2147483647, a part of a table of the wrong type, or a table or dictionary whose parts differ in
+    /// length.
+    #[error("a table, dictionary or count out of shape at offset {0}")]
     BadShape(usize),
-    /// A type of kdb+ that is outside the profile.
-    #[error("a type outside the profile at {0}")]
+    /// The object at this offset is of a type of kdb+ that this crate does not read.
+    #[error("a type that is not supported at offset {0}")]
     NotBuilt(usize),
-    /// More than 64 objects within one another.
-    #[error("nested too deep at {0}")]
+    /// The object at this offset is the first one more than 64 levels deep.
+    #[error("nested more than 64 levels deep at offset {0}")]
     TooDeep(usize),
-    /// Memory was wanting.
+    /// Out of memory. Only `decode` returns it.
     #[error("out of memory")]
     NoMemory,
 }

@@ -1,4 +1,4 @@
-// The bytes of a value.
+//! Writing values in their canonical encoding.
 ghost use Rattle.std.specs.Prelude.{◌≡◌, ◌++◌, ◌∷◌, ◌≤◌, ◌<◌, ◌^◌, [], length, map, if◌then◌else◌, OnOk, OnErr, All};
 ghost use Rattle.std.specs.Int.{w16, w32, w64, cast_unsigned};
 ghost use Rattle.std.specs.List.{flat_map};
@@ -8,11 +8,10 @@ ghost use Rattle.q_values.specs.Tree.{tree, trees, items_of};
 ghost use Rattle.ipc_codec.specs.Appends.{Begins};
 ghost use Rattle.ipc_codec.specs.Written.{head, text_bytes, element_bytes, vector_bytes, grid_bytes, written, written_items, Fits, AllFit, GridFits, IsPlain};
 
-use crate::form::type_of_kind;
 use byteorder::{ByteOrder, LittleEndian};
 use q_values::{Atom, Column, NoMemory, Sym, Symbols, TableValue, Value, Values, Vector};
 
-// A type byte, the attribute byte and a count.
+// A type byte, the attribute byte 0 and a count.
 fn put_head(out: &mut Vec<u8>, code: u8, count: usize) -> Result<(), NoMemory>
     requires { count ≤ 2147483647 }
     ensures ok { OnOk result (out.new.items ≡ out.old.items ++ head code count) }
@@ -23,16 +22,23 @@ fn put_head(out: &mut Vec<u8>, code: u8, count: usize) -> Result<(), NoMemory>
     Ok(())
 }
 
+// Appends numbers of `$width` bytes each. Once there is room, `$write` writes them all.
+macro_rules! put_numbers {
+    ($out:ident, $items:ident, $width:literal, $write:ident) => {{
+        let start = $out.len();
+        $out.resize(start + $width * $items.len(), 0)?;
+        LittleEndian::$write($items, &mut $out[start..]);
+        Ok(())
+    }};
+}
+
 fn put_shorts(out: &mut Vec<u8>, items: &[i16]) -> Result<(), NoMemory>
     requires { length items.now ≤ 2147483647 }
     ensures ok { OnOk result (out.new.items
         ≡ out.old.items ++ flat_map (λ x. little_bytes 2 (cast_unsigned w16 x)) items.now) }
     ensures err { OnErr result (out.new.items ≡ out.old.items) }
 {
-    let start = out.len();
-    out.resize(start + 2 * items.len(), 0)?;
-    LittleEndian::write_i16_into(items, &mut out[start..]);
-    Ok(())
+    put_numbers!(out, items, 2, write_i16_into)
 }
 
 fn put_integers(out: &mut Vec<u8>, items: &[i32]) -> Result<(), NoMemory>
@@ -41,10 +47,7 @@ fn put_integers(out: &mut Vec<u8>, items: &[i32]) -> Result<(), NoMemory>
         ≡ out.old.items ++ flat_map (λ x. little_bytes 4 (cast_unsigned w32 x)) items.now) }
     ensures err { OnErr result (out.new.items ≡ out.old.items) }
 {
-    let start = out.len();
-    out.resize(start + 4 * items.len(), 0)?;
-    LittleEndian::write_i32_into(items, &mut out[start..]);
-    Ok(())
+    put_numbers!(out, items, 4, write_i32_into)
 }
 
 fn put_longs(out: &mut Vec<u8>, items: &[i64]) -> Result<(), NoMemory>
@@ -53,10 +56,7 @@ fn put_longs(out: &mut Vec<u8>, items: &[i64]) -> Result<(), NoMemory>
         ≡ out.old.items ++ flat_map (λ x. little_bytes 8 (cast_unsigned w64 x)) items.now) }
     ensures err { OnErr result (out.new.items ≡ out.old.items) }
 {
-    let start = out.len();
-    out.resize(start + 8 * items.len(), 0)?;
-    LittleEndian::write_i64_into(items, &mut out[start..]);
-    Ok(())
+    put_numbers!(out, items, 8, write_i64_into)
 }
 
 // 1 for true, 0 for false.
@@ -77,7 +77,7 @@ fn put_booleans(out: &mut Vec<u8>, items: &[bool]) -> Result<(), NoMemory>
     Ok(())
 }
 
-// A text and the 0 that ends it.
+// A text, and the 0 that ends it.
 #[tactic(auto, using(crate::proofs::WritingLemmas::begins))]
 fn put_text(out: &mut Vec<u8>, text: &[u8]) -> Result<(), NoMemory>
     ensures ok { OnOk result (out.new.items ≡ out.old.items ++ text_bytes text.now) }
@@ -121,7 +121,7 @@ fn put_vector(out: &mut Vec<u8>, vector: &Vector) -> Result<(), NoMemory>
     ensures ok { OnOk result (out.new.items ≡ out.old.items ++ vector_bytes vector.now) }
     ensures err { OnErr result (Begins out.old.items out.new.items) }
 {
-    put_head(out, type_of_kind(vector.kind()), vector.len())?;
+    put_head(out, vector.kind().type_number(), vector.len())?;
     put_elements(out, vector.column())
 }
 
@@ -162,7 +162,7 @@ fn put_table(out: &mut Vec<u8>, table: &TableValue) -> Result<(), NoMemory>
     put_columns(out, table.columns.as_slice())
 }
 
-// The element of an atom.
+// An atom's element.
 #[tactic(auto, using(crate::proofs::WritingLemmas::begins))]
 fn put_element(out: &mut Vec<u8>, x: &Atom) -> Result<(), NoMemory>
     ensures ok { OnOk result (out.new.items ≡ out.old.items ++ element_bytes x.now) }
@@ -170,19 +170,16 @@ fn put_element(out: &mut Vec<u8>, x: &Atom) -> Result<(), NoMemory>
 {
     match x {
         Atom::Boolean(x) => Ok(out.push(byte_of(*x))?),
-        Atom::Byte(x) => Ok(out.push(*x)?),
+        Atom::Byte(x) | Atom::Character(x) => Ok(out.push(*x)?),
         Atom::Short(x) => put_short(out, x),
-        Atom::Integer(x) => put_integer(out, x),
-        Atom::Long(x) => put_long(out, x),
-        Atom::Character(x) => Ok(out.push(*x)?),
+        Atom::Integer(x)
+        | Atom::Month(x)
+        | Atom::Date(x)
+        | Atom::Minute(x)
+        | Atom::Second(x)
+        | Atom::Time(x) => put_integer(out, x),
+        Atom::Long(x) | Atom::Timestamp(x) | Atom::Timespan(x) => put_long(out, x),
         Atom::Symbol(x) => put_text(out, x.bytes()),
-        Atom::Timestamp(x) => put_long(out, x),
-        Atom::Month(x) => put_integer(out, x),
-        Atom::Date(x) => put_integer(out, x),
-        Atom::Timespan(x) => put_long(out, x),
-        Atom::Minute(x) => put_integer(out, x),
-        Atom::Second(x) => put_integer(out, x),
-        Atom::Time(x) => put_integer(out, x),
     }
 }
 
@@ -228,7 +225,7 @@ fn put_value(out: &mut Vec<u8>, value: &Value) -> Result<(), NoMemory>
 {
     match value {
         Value::Atom(x) => {
-            out.push((256 - u16::from(type_of_kind(x.kind()))) as u8)?;
+            out.push((256 - u16::from(x.kind().type_number())) as u8)?;
             put_element(out, x)
         }
         Value::Vector(vector) => put_vector(out, vector),
@@ -255,8 +252,8 @@ fn put_value(out: &mut Vec<u8>, value: &Value) -> Result<(), NoMemory>
     }
 }
 
-/// Appends the one written spelling of a value: little-endian, with attributes 0, booleans 0 or 1 and 99 for each
-/// dictionary (KX, IPC reference). A refused call changes nothing.
+/// Appends the canonical encoding of a value: little-endian, with attributes 0, booleans 0 or 1, and 99 for each
+/// dictionary (KX, IPC reference). Out of memory, `out` is left as it was.
 pub fn encode(out: &mut Vec<u8>, value: &Value) -> Result<(), NoMemory>
     requires { IsPlain (tree value.now) }
     ensures ok { OnOk result (out.new.items ≡ out.old.items ++ written (tree value.now)) }

@@ -1,4 +1,4 @@
--- What stands at the front of bytes.
+-- What is at the front of bytes.
 use Rattle.std.proofs.Common.{◌≡◌, ◌≤◌, ◌<◌, ◌+◌, ◌-◌, ℕ, zero, suc, Bool, true, false, cond, not, List, [], ◌∷◌, ◌++◌, length, take, drop, get_or, eqb, ltb, Result, Ok, Err, refl, sym, ap, subst, ◌∙◌, arith}
 use Rattle.std.proofs.lemmas.Bool.{lt-ltb, le-ltb, ltb-false, eq-eqb}
 use Rattle.std.proofs.Math.Dec.{eqb-suc-zero}
@@ -16,7 +16,7 @@ use Rattle.ipc_frame.specs.declared.bad.Bad.TheVariants as b
 use Rattle.ipc_frame.specs.declared.head.Head.{Head}
 use Rattle.ipc_frame.specs.declared.head.BadHeader.{BadHeader}
 
--- what stands behind a header isn't looked at
+-- what comes after a header isn't looked at
 pub header_of-append : (limits : Limits) (h x : List ℕ) → length h ≡ 8 → header_of limits (h ++ x) ≡ header_of limits h
 header_of-append limits (a ∷ b ∷ c ∷ d ∷ e ∷ f ∷ g ∷ i ∷ []) x size = refl
 header_of-append limits [] x size = absurd (omega (arith, size))
@@ -29,7 +29,7 @@ header_of-append limits (a ∷ b ∷ c ∷ d ∷ e ∷ f ∷ []) x size = absurd
 header_of-append limits (a ∷ b ∷ c ∷ d ∷ e ∷ f ∷ g ∷ []) x size = absurd (omega (arith, size))
 header_of-append limits (a ∷ b ∷ c ∷ d ∷ e ∷ f ∷ g ∷ i ∷ j ∷ h) x size = absurd (omega (arith, size))
 
--- the first eight bytes tell it
+-- the first eight bytes decide it
 pub header_of-front : (limits : Limits) (bytes : List ℕ) → 8 ≤ length bytes → header_of limits bytes ≡ header_of limits (take 8 bytes)
 header_of-front limits bytes long =
     let eight : length (take 8 bytes) ≡ 8 = length-take-le 8 bytes long in
@@ -51,7 +51,7 @@ front_judged limits bytes long =
     let enough : ltb (length bytes) 8 ≡ false = le-ltb _ _ long in
     rw (some, enough) refl
 
--- what the first eight bytes tell decides
+-- what the first eight bytes say decides
 pub front_by : (limits : Limits) (bytes : List ℕ) (x : Result Head BadHeader) → 8 ≤ length bytes → x ≡ header_of limits (take 8 bytes) → front_of limits bytes ≡ header_front bytes x
 front_by limits bytes x long e = front_judged limits bytes long ∙ ap (header_front bytes) (header_of-front limits bytes long ∙ sym e)
 
@@ -92,12 +92,12 @@ front_whole bytes head long =
 pub finished : (bytes : List ℕ) (head : Head) → head.length ≤ length bytes → IsUnfinished (header_front bytes (Ok head)) → ⊥
 finished bytes head long h = finished_body head (object_of head.order (take (head.length - 8) (drop 8 bytes))) (rw (front_whole bytes head long) at h)
 
--- a body that is just as long as its header says
+-- a body that is exactly as long as its header says
 pub front_exact : (limits : Limits) (bytes body : List ℕ) (head : Head) → 8 ≤ length bytes → Ok head ≡ header_of limits (take 8 bytes) → body ≡ drop 8 bytes → length bytes ≡ head.length → front_of limits bytes ≡ body_front head (object_of head.order body)
-front_exact limits bytes body head long e behind fills =
+front_exact limits bytes body head long e later fills =
     let sized : length (drop 8 bytes) ≤ head.length - 8 = omega (arith, length-drop 8 bytes) in
-    let just : take (head.length - 8) (drop 8 bytes) ≡ body = take_all (head.length - 8) (drop 8 bytes) sized ∙ sym behind in
-    front_by limits bytes (Ok head) long e ∙ front_whole bytes head (omega arith) ∙ ap (λ l. body_front head (object_of head.order l)) just
+    let same_body : take (head.length - 8) (drop 8 bytes) ≡ body = take_all (head.length - 8) (drop 8 bytes) sized ∙ sym later in
+    front_by limits bytes (Ok head) long e ∙ front_whole bytes head (omega arith) ∙ ap (λ l. body_front head (object_of head.order l)) same_body
 
 -- the header of a message that is read fits
 fits_by : (limits : Limits) (head told : Head) (p q s t u : Bool) → ltb told.length 9 ≡ t → ltb limits.message told.length ≡ u → cond p (bad_header b.Order 0) (cond q (bad_header b.Kind 1) (cond s (bad_header b.Compressed 2) (cond t (bad_header b.Length 4) (cond u (bad_header b.TooLong 4) (Ok told))))) ≡ Ok head → (9 ≤ head.length) × (head.length ≤ limits.message)
@@ -122,7 +122,7 @@ value_stands head place n size next (Ok x) e same fills stands =
     rw fit (stands x.0 x.1 place refl)
 value_stands head place n size next (Err f) e same fills stands = absurd cc
 
--- a whole message with what is told of its body
+-- a whole message, with what `next` returns for its body
 pub message_stands : (limits : Limits) (held body : List ℕ) (head : Head) (place : ℕ) (next : Next) → 8 ≤ length held → Ok head ≡ header_of limits (take 8 held) → body ≡ drop 8 held → length held ≡ head.length → StandsFront place head.length (body_front head (object_of head.order body)) next → StandsFront place (length held) (front_of limits held) next
-message_stands limits held body head place next long e behind fills stands =
-    subst (λ f. StandsFront place (length held) f next) (sym (front_exact limits held body head long e behind fills)) (subst (λ n. StandsFront place n (body_front head (object_of head.order body)) next) (sym fills) stands)
+message_stands limits held body head place next long e later fills stands =
+    subst (λ f. StandsFront place (length held) f next) (sym (front_exact limits held body head long e later fills)) (subst (λ n. StandsFront place n (body_front head (object_of head.order body)) next) (sym fills) stands)

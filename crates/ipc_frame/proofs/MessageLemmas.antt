@@ -1,4 +1,4 @@
--- A whole message is a header and bytes that spell its value; a call of `feed` goes on.
+-- A whole message is a header and an encoding of its value; a call of `feed` goes on.
 use Rattle.std.proofs.Common.{◌≡◌, ◌≤◌, ◌<◌, ◌+◌, ◌-◌, ◌⊎◌, ℕ, Bool, true, false, cond, List, [], ◌++◌, length, take, drop, ltb, eqb, Result, Ok, Err, refl, sym, ap, subst, ◌∙◌, inl, inr, arith}
 use Rattle.std.proofs.lemmas.Bool.{eqb-true, eq-eqb, cases_lt}
 use Rattle.std.proofs.lemmas.List.{append-nil, length-drop, take_all}
@@ -19,7 +19,7 @@ use Rattle.ipc_frame.proofs.FrontLemmas.{front_judged, header_of-front, header_f
 use Rattle.ipc_frame.proofs.ReadLemmas.{body_size}
 use Rattle.ipc_frame.proofs.UniqueLemmas.{same_message, header_stands}
 
--- ---- spelled messages
+-- ---- encoded messages
 
 -- what a body holds that makes a message of this value
 record Holds (head : Head) (read : Result (Tree × ℕ) DecodeRefusal) (sync : Bool) (t : Tree) : Type 0 where
@@ -62,8 +62,8 @@ spelled_by limits frame sync t (Ok head) e d = by_size (ltb (length frame) head.
         let read = object_of head.order (take (head.length - 8) (drop 8 frame)) in
         let size : head.length ≡ length frame = body_size head (object_of head.order (take (head.length - 8) (drop 8 frame))) (length frame) (record { sync = sync; content = built t }) d in
         let held = held_object head (object_of head.order (take (head.length - 8) (drop 8 frame))) (length frame) sync t d in
-        let just : take (head.length - 8) (drop 8 frame) ≡ drop 8 frame = take_all (head.length - 8) (drop 8 frame) (omega (arith, length-drop 8 frame, size)) in
-        let object : object_of head.order (drop 8 frame) ≡ Ok (t, held.count) = ap (object_of head.order) (sym just) ∙ held.object in
+        let same_body : take (head.length - 8) (drop 8 frame) ≡ drop 8 frame = take_all (head.length - 8) (drop 8 frame) (omega (arith, length-drop 8 frame, size)) in
+        let object : object_of head.order (drop 8 frame) ≡ Ok (t, held.count) = ap (object_of head.order) (sym same_body) ∙ held.object in
         let spelled = reading_spells head.order (drop 8 frame) t held.count object in
         let all : take held.count (drop 8 frame) ≡ drop 8 frame = take_all held.count (drop 8 frame) (omega (arith, length-drop 8 frame, size, held.fits)) in
         record { head = head; header = e; told = held.told; fills = sym size; object = subst (λ l. Spells head.order l t) all spelled.1 }
@@ -102,7 +102,7 @@ goes_on old piece taken new f = record {
     by_none need more (inl some) = some
     by_none need more (inr none) =
         let zero : taken ≡ 0 = omega (arith, none) in
-        absurd (f.takes.behind (omega (arith, zero, more)) (subst (IsNeeded old.limits old.greeted) (sym (same zero)) need))
+        absurd (f.takes.enough (omega (arith, zero, more)) (subst (IsNeeded old.limits old.greeted) (sym (same zero)) need))
 
     by_some : (IsNeeded old.limits old.greeted old.held → ⊥) → (0 < taken) ⊎ (taken ≤ 0) → taken ≡ 0
     by_some enough (inl some) = absurd (enough (subst (IsNeeded old.limits old.greeted) (append-nil old.held) (f.takes.before 0 some)))

@@ -17,7 +17,7 @@ use Rattle.ipc_frame.specs.declared.head.BadHeader.{BadHeader}
 use Rattle.ipc_frame.proofs.FrontLemmas.{front_judged, header_of-front, header_fits, front_whole}
 use Rattle.ipc_frame.proofs.UniqueLemmas.{same_size, header_stands}
 
--- ---- a whole message in front of bytes stands alone too
+-- ---- a whole message in front of bytes is one by itself too
 
 -- a body that makes a whole message makes one of its header's length
 pub body_size : (head : Head) (x : Result (Tree × ℕ) DecodeRefusal) (k : ℕ) (m : Message) → body_front head x ≡ whole k m → head.length ≡ k
@@ -53,12 +53,12 @@ alone_by limits bytes n m (Ok head) long e d = by_size (ltb (length bytes) head.
         let cut : length (take n bytes) ≡ n = length-take-le n bytes enough in
         let header : header_of limits (take n bytes) ≡ Ok head = header_of-front limits (take n bytes) (omega (arith, cut, least)) ∙ ap (header_of limits) (take-take 8 n bytes (omega (arith, least))) ∙ sym (header_of-front limits bytes long) ∙ e in
         let parts : 8 + (n - 8) ≡ n = omega (arith, least) in
-        let behind : drop 8 (take n bytes) ≡ take (n - 8) (drop 8 bytes) = ap (λ i. drop 8 (take i bytes)) (sym parts) ∙ drop-take 8 (n - 8) bytes in
-        let just : take (head.length - 8) (drop 8 (take n bytes)) ≡ take (head.length - 8) (drop 8 bytes) = ap (take (head.length - 8)) behind ∙ take-take (head.length - 8) (n - 8) (drop 8 bytes) (omega (arith, size)) in
+        let later : drop 8 (take n bytes) ≡ take (n - 8) (drop 8 bytes) = ap (λ i. drop 8 (take i bytes)) (sym parts) ∙ drop-take 8 (n - 8) bytes in
+        let same_body : take (head.length - 8) (drop 8 (take n bytes)) ≡ take (head.length - 8) (drop 8 bytes) = ap (take (head.length - 8)) later ∙ take-take (head.length - 8) (n - 8) (drop 8 bytes) (omega (arith, size)) in
         record {
           some = least;
           within = enough;
-          front = front_judged limits (take n bytes) (omega (arith, cut, least)) ∙ ap (header_front (take n bytes)) header ∙ front_whole (take n bytes) head (omega (arith, cut, size)) ∙ ap (λ l. body_front head (object_of head.order l)) just ∙ d;
+          front = front_judged limits (take n bytes) (omega (arith, cut, least)) ∙ ap (header_front (take n bytes)) header ∙ front_whole (take n bytes) head (omega (arith, cut, size)) ∙ ap (λ l. body_front head (object_of head.order l)) same_body ∙ d;
         }
 
 alone : (limits : Limits) (bytes : List ℕ) (n : ℕ) (m : Message) → front_of limits bytes ≡ whole n m → Alone limits bytes n m
@@ -76,7 +76,7 @@ Reads limits place bytes = (ms : List Message) × (x : Ending) × AreMessages li
 reads_end : (limits : Limits) (place : ℕ) (bytes : List ℕ) (x : Ending) → EndsAt (place + 0) (front_of limits bytes) x → Reads limits place bytes
 reads_end limits place bytes x e = ([], x, record { body = []; rest = bytes; parts = refl; frames = refl; ends = e })
 
--- a message and what is read behind it
+-- a message, and what is read after it
 reads_more : (limits : Limits) (place n : ℕ) (bytes : List ℕ) (m : Message) → Alone limits bytes n m → Reads limits (place + n) (drop n bytes) → Reads limits place bytes
 reads_more limits place n bytes m p q =
     let holds = q.2 in
@@ -106,7 +106,7 @@ messages_read (suc fuel) limits place bytes short =
     by_front again (fault code at) e = reads_end limits place bytes (bad code (place + 0 + at)) (rw e refl)
     by_front again (whole n m) e = let p = alone limits bytes n m e in reads_more limits place n bytes m p (again n p.some p.within)
 
--- ---- greetings
+-- ---- handshakes
 
 -- the first 0 of bytes, if there is one
 abbrev Split : List ℕ → Type 0
@@ -131,16 +131,16 @@ ungreeted_read limits bytes clean = (None, [], ungreeted limits (length bytes), 
 greeted_read : (limits : Limits) (bytes c rest : List ℕ) → bytes ≡ c ++ 0 ∷ rest → HasNoNul c → length c ≤ limits.greeting → IsRead limits bytes
 greeted_read limits bytes c rest parts clean short =
     let greeting = c ++ 0 ∷ [] in
-    let behind = messages_read (suc (length rest)) limits (length (c ++ 0 ∷ [])) rest (omega arith) in (
+    let later = messages_read (suc (length rest)) limits (length (c ++ 0 ∷ [])) rest (omega arith) in (
       Some (capability_of c),
-      behind.0,
-      behind.1,
+      later.0,
+      later.1,
       record {
         greeting = c ++ 0 ∷ [];
         others = rest;
         parts = parts ∙ sym (append_assoc c (0 ∷ []) rest);
         greets = record { credentials = c; parts = refl; no_nul = clean; short = short; last = refl };
-        holds = behind.2;
+        holds = later.2;
       },
     )
 

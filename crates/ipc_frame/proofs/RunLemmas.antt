@@ -1,4 +1,4 @@
--- What a run of a framer tells.
+-- What a run of a framer returns.
 use Rattle.std.proofs.Common.{◌≡◌, ◌≤◌, ◌<◌, ◌+◌, ◌-◌, ℕ, Bool, true, false, cond, List, [], ◌∷◌, ◌++◌, length, take, drop, ltb, leb, eqb, Option, Some, None, Result, Ok, Err, refl, sym, ap, subst, ◌∙◌, arith, append_assoc}
 use Rattle.std.specs.Bool.{MatchBool}
 use Rattle.std.proofs.lemmas.Bool.{lt-leb, le-leb, ne_eqb}
@@ -12,7 +12,7 @@ use Rattle.q_values.specs.Tree.{Tree, tree}
 use Rattle.q_values.specs.declared.limits.Limits.{Limits}
 use Rattle.ipc_frame.specs.Framing.{IsNeeded, StandsFront, StandsGreeting, IsTooLong, is_passed, Gives}
 use Rattle.ipc_frame.specs.Laws.{AllAreTold, FramerIsExact}
-use Rattle.ipc_frame.specs.Run.{Step, fed, gave, Item, greeting, message, fault_at, Runs, bytes_of, told_by, items_at_end, items_behind, items_of, ending_of, Shows, left_behind, AreTold}
+use Rattle.ipc_frame.specs.Run.{Step, fed, gave, Item, greeting, message, fault_at, Runs, bytes_of, told_by, items_at_end, items_after, items_of, ending_of, Shows, left_after, AreTold}
 use Rattle.ipc_frame.specs.Stream.{Message, Ending, truncated, bad, Front, nothing, partial, whole, fault, built, unbuilt, front_of, header_of, header_front, body_front, moved, EndsAt, IsGreeting, IsStream, AreMessages, ungreeted}
 use Rattle.ipc_frame.specs.Taking.{NeedsGreeting, NeedsMessage, IsUnfinished}
 use Rattle.ipc_frame.specs.View.{FramerView, told_place, fresh, passed}
@@ -24,12 +24,12 @@ use Rattle.ipc_frame.specs.declared.next.Next.{Next}
 use Rattle.ipc_frame.specs.declared.next.Next.TheVariants as n
 use Rattle.ipc_frame.proofs.UniqueLemmas.{front_stays, over, first_stands, parted, same_greeting, no_greeting}
 
--- these are the items that are left, and the ending, where bytes stand at this place, before or behind the greeting
+-- these are the items that are left, and the ending, where bytes are at this offset, before or after the handshake
 abbrev pub Tail : Limits → Bool → ℕ → List ℕ → List Item → Ending → Type 0
 Tail limits false place bytes items x = (place ≡ 0) × (g : Option ℕ) × (ms : List Message) × IsStream limits bytes g ms x × (items ≡ items_of g ms x)
-Tail limits true place bytes items x = (ms : List Message) × AreMessages limits place bytes ms x × (items ≡ items_behind ms x)
+Tail limits true place bytes items x = (ms : List Message) × AreMessages limits place bytes ms x × (items ≡ items_after ms x)
 
--- what stands next, at a place that a `u64` tells
+-- what is next, at an offset in a `u64` that saturates
 abbrev pub Standing : Limits → Bool → ℕ → List ℕ → Next → Type 0
 Standing limits greeted place held next = MatchBool greeted (StandsFront place (length held) (front_of limits held) next) (StandsGreeting limits place held next)
 
@@ -41,55 +41,55 @@ pub record First (limits : Limits) (place : ℕ) (bytes : List ℕ) (next : Next
   pub others : List Item
   pub all : items ≡ item ∷ others
   pub shown : Shows next item
-  pub once : others ≡ left_behind item others
+  pub once : others ≡ left_after item others
   pub tail : Tail limits true place bytes others x
 
-first_message : (limits : Limits) (p : ℕ) (held behind : List ℕ) (here : Message) (next : Next) (items : List Item) (x : Ending) → front_of limits held ≡ whole (length held) here → Shows next (message (moved p here)) → Tail limits true p (held ++ behind) items x → First limits (p + length held) behind next items x
-first_message limits p held behind here next items x front shown t =
+first_message : (limits : Limits) (p : ℕ) (held later : List ℕ) (here : Message) (next : Next) (items : List Item) (x : Ending) → front_of limits held ≡ whole (length held) here → Shows next (message (moved p here)) → Tail limits true p (held ++ later) items x → First limits (p + length held) later next items x
+first_message limits p held later here next items x front shown t =
     let holds = t.1 in
-    let part = parted limits p held behind holds.body holds.rest here t.0 holds.parts front holds.frames (over _ _ x holds.ends) in
+    let part = parted limits p held later holds.body holds.rest here t.0 holds.parts front holds.frames (over _ _ x holds.ends) in
     let far : p + length holds.body ≡ p + length held + length part.others = omega (arith, ap length part.body_is, length-append held part.others) in
     record {
       item = message (moved p here);
-      others = items_behind part.messages x;
-      all = t.2 ∙ ap (λ ms. items_behind ms x) part.first;
+      others = items_after part.messages x;
+      all = t.2 ∙ ap (λ ms. items_after ms x) part.first;
       shown = shown;
       once = refl;
       tail = (part.messages, record { body = part.others; rest = holds.rest; parts = part.bytes; frames = part.frames; ends = subst (λ k. EndsAt k (front_of limits holds.rest) x) far holds.ends }, refl);
     }
 
--- places that a `u64` tells add up
+-- offsets in a `u64` that saturates add up
 pub told_sum : (place p k : ℕ) → place ≡ told_place p → told_place (place + k) ≡ told_place (p + k)
 told_sum place p k e = omega arith
 
-greeting_head : (limits : Limits) (p : ℕ) (held behind : List ℕ) (c : ℕ) (items : List Item) (g : Option ℕ) (ms : List Message) (x : Ending) → IsGreeting limits held c → p ≡ 0 → IsStream limits (held ++ behind) g ms x → items ≡ items_of g ms x → First limits (p + length held) behind (n.Greeting c) items x
-greeting_head limits p held behind c items None ms x g z s e = absurd (no_greeting limits (held ++ behind) held behind c s.0 g refl)
-greeting_head limits p held behind c items (Some d) ms x g z s e =
-    let both = same_greeting limits held s.greeting behind s.others c d g s.greets s.parts in
+greeting_head : (limits : Limits) (p : ℕ) (held later : List ℕ) (c : ℕ) (items : List Item) (g : Option ℕ) (ms : List Message) (x : Ending) → IsGreeting limits held c → p ≡ 0 → IsStream limits (held ++ later) g ms x → items ≡ items_of g ms x → First limits (p + length held) later (n.Greeting c) items x
+greeting_head limits p held later c items None ms x g z s e = absurd (no_greeting limits (held ++ later) held later c s.0 g refl)
+greeting_head limits p held later c items (Some d) ms x g z s e =
+    let both = same_greeting limits held s.greeting later s.others c d g s.greets s.parts in
     let far : length s.greeting ≡ p + length held = omega (arith, z, ap length both.0) in
     record {
       item = greeting d;
-      others = items_behind ms x;
+      others = items_after ms x;
       all = e;
       shown = both.1;
       once = refl;
       tail = (ms, subst (λ l. AreMessages limits (p + length held) l ms x) (sym both.2) (subst (λ k. AreMessages limits k s.others ms x) far s.holds), refl);
     }
 
--- what is passed is the first item
-pub first_item : (limits : Limits) (greeted : Bool) (place p : ℕ) (held behind : List ℕ) (next : Next) (items : List Item) (x : Ending) → place ≡ told_place p → Standing limits greeted place held next → is_passed next ≡ true → Tail limits greeted p (held ++ behind) items x → First limits (p + length held) behind next items x
-first_item limits false place p held behind (n.Greeting c) items x e s pass t = greeting_head limits p held behind c items t.1 t.2 x s t.0 t.3 t.4
-first_item limits false place p held behind (n.Message m) items x e s pass t = absurd s
-first_item limits false place p held behind (n.NotBuilt sync at) items x e s pass t = absurd s
-first_item limits false place p held behind (n.Skipped sync) items x e s pass t = absurd s
-first_item limits false place p held behind n.Need items x e s pass t = absurd cc
-first_item limits false place p held behind (n.Bad code at) items x e s pass t = absurd cc
-first_item limits true place p held behind (n.Greeting c) items x e s pass t = absurd s
-first_item limits true place p held behind (n.Message m) items x e s pass t = first_message limits p held behind (record { sync = m.sync; content = built (tree m.value) }) (n.Message m) items x s refl t
-first_item limits true place p held behind (n.NotBuilt sync at) items x e s pass t = first_message limits p held behind (record { sync = sync; content = unbuilt s.0 }) (n.NotBuilt sync at) items x s.1 (p + s.0, refl, s.2 ∙ told_sum place p s.0 e) t
-first_item limits true place p held behind (n.Skipped sync) items x e s pass t = first_message limits p held behind (record { sync = sync; content = built s.0 }) (n.Skipped sync) items x s.1 (s.0, refl) t
-first_item limits true place p held behind n.Need items x e s pass t = absurd cc
-first_item limits true place p held behind (n.Bad code at) items x e s pass t = absurd cc
+-- what is dropped is the first item
+pub first_item : (limits : Limits) (greeted : Bool) (place p : ℕ) (held later : List ℕ) (next : Next) (items : List Item) (x : Ending) → place ≡ told_place p → Standing limits greeted place held next → is_passed next ≡ true → Tail limits greeted p (held ++ later) items x → First limits (p + length held) later next items x
+first_item limits false place p held later (n.Greeting c) items x e s pass t = greeting_head limits p held later c items t.1 t.2 x s t.0 t.3 t.4
+first_item limits false place p held later (n.Message m) items x e s pass t = absurd s
+first_item limits false place p held later (n.NotBuilt sync at) items x e s pass t = absurd s
+first_item limits false place p held later (n.Skipped sync) items x e s pass t = absurd s
+first_item limits false place p held later n.Need items x e s pass t = absurd cc
+first_item limits false place p held later (n.Bad code at) items x e s pass t = absurd cc
+first_item limits true place p held later (n.Greeting c) items x e s pass t = absurd s
+first_item limits true place p held later (n.Message m) items x e s pass t = first_message limits p held later (record { sync = m.sync; content = built (tree m.value) }) (n.Message m) items x s refl t
+first_item limits true place p held later (n.NotBuilt sync at) items x e s pass t = first_message limits p held later (record { sync = sync; content = unbuilt s.0 }) (n.NotBuilt sync at) items x s.1 (p + s.0, refl, s.2 ∙ told_sum place p s.0 e) t
+first_item limits true place p held later (n.Skipped sync) items x e s pass t = first_message limits p held later (record { sync = sync; content = built s.0 }) (n.Skipped sync) items x s.1 (s.0, refl) t
+first_item limits true place p held later n.Need items x e s pass t = absurd cc
+first_item limits true place p held later (n.Bad code at) items x e s pass t = absurd cc
 
 -- ---- faults
 
@@ -100,7 +100,7 @@ pub record Fault (code : Bad) (told : ℕ) (items : List Item) (x : Ending) : Ty
   pub place : told ≡ told_place at
   pub ending : x ≡ bad code at
 
--- behind bytes with a fault in front no message is read
+-- no message is read where a fault is in front
 fault_messages : (limits : Limits) (p : ℕ) (bytes : List ℕ) (code : Bad) (k : ℕ) (ms : List Message) (x : Ending) → front_of limits bytes ≡ fault code k → AreMessages limits p bytes ms x → (ms ≡ []) × (x ≡ bad code (p + k))
 fault_messages limits p bytes code k [] x front h =
     let rest_is : h.rest ≡ bytes = ap (λ l. l ++ h.rest) (sym h.frames) ∙ sym h.parts in
@@ -112,14 +112,14 @@ fault_messages limits p bytes code k (m ∷ ms) x front h =
     let one : fault code k ≡ whole (length f.0) f.3.0 = sym front ∙ ap (front_of limits) h.parts ∙ first_stands limits h.body f.1 f.0 h.rest f.3.0 f.2 f.3.1 in
     absurd cc
 
-fault_head : (limits : Limits) (place p : ℕ) (held behind : List ℕ) (code : Bad) (at k : ℕ) (items : List Item) (x : Ending) → place ≡ told_place p → front_of limits held ≡ fault code k → at ≡ told_place (place + k) → Tail limits true p (held ++ behind) items x → Fault code at items x
-fault_head limits place p held behind code at k items x e front a t =
-    let both = fault_messages limits p (held ++ behind) code k t.0 x (front_stays limits held behind (fault code k) tt front) t.1 in
-    record { at = p + k; only = t.2 ∙ ap (λ ms. items_behind ms x) both.0 ∙ ap items_at_end both.1; place = a ∙ told_sum place p k e; ending = both.1 }
+fault_head : (limits : Limits) (place p : ℕ) (held later : List ℕ) (code : Bad) (at k : ℕ) (items : List Item) (x : Ending) → place ≡ told_place p → front_of limits held ≡ fault code k → at ≡ told_place (place + k) → Tail limits true p (held ++ later) items x → Fault code at items x
+fault_head limits place p held later code at k items x e front a t =
+    let both = fault_messages limits p (held ++ later) code k t.0 x (front_stays limits held later (fault code k) tt front) t.1 in
+    record { at = p + k; only = t.2 ∙ ap (λ ms. items_after ms x) both.0 ∙ ap items_at_end both.1; place = a ∙ told_sum place p k e; ending = both.1 }
 
--- a greeting that is too long
-pub too_long : (limits : Limits) (held behind : List ℕ) → IsTooLong limits held → HasNoNul (take (limits.greeting + 1) (held ++ behind))
-too_long limits held behind p = subst HasNoNul (sym (take_at held behind (limits.greeting + 1) p.long)) p.no_nul
+-- a handshake that is too long
+pub too_long : (limits : Limits) (held later : List ℕ) → IsTooLong limits held → HasNoNul (take (limits.greeting + 1) (held ++ later))
+too_long limits held later p = subst HasNoNul (sym (take_at held later (limits.greeting + 1) p.long)) p.no_nul
 
 pub ungreeted_long : (limits : Limits) (k : ℕ) → limits.greeting < k → ungreeted limits k ≡ bad b.Greeting limits.greeting
 ungreeted_long limits k long =
@@ -127,25 +127,25 @@ ungreeted_long limits k long =
     let more : leb k limits.greeting ≡ false = lt-leb _ _ long in
     rw (some, more) refl
 
-fault_greeting : (limits : Limits) (place p : ℕ) (held behind : List ℕ) (code : Bad) (at : ℕ) (items : List Item) (g : Option ℕ) (ms : List Message) (x : Ending) → place ≡ told_place p → IsTooLong limits held → code ≡ b.Greeting → at ≡ told_place (place + limits.greeting) → p ≡ 0 → IsStream limits (held ++ behind) g ms x → items ≡ items_of g ms x → Fault code at items x
-fault_greeting limits place p held behind code at items (Some d) ms x e h c a z s i = absurd (no_greeting limits (held ++ behind) s.greeting s.others d (too_long limits held behind h) s.greets s.parts)
-fault_greeting limits place p held behind code at items None ms x e h c a z s i =
+fault_greeting : (limits : Limits) (place p : ℕ) (held later : List ℕ) (code : Bad) (at : ℕ) (items : List Item) (g : Option ℕ) (ms : List Message) (x : Ending) → place ≡ told_place p → IsTooLong limits held → code ≡ b.Greeting → at ≡ told_place (place + limits.greeting) → p ≡ 0 → IsStream limits (held ++ later) g ms x → items ≡ items_of g ms x → Fault code at items x
+fault_greeting limits place p held later code at items (Some d) ms x e h c a z s i = absurd (no_greeting limits (held ++ later) s.greeting s.others d (too_long limits held later h) s.greets s.parts)
+fault_greeting limits place p held later code at items None ms x e h c a z s i =
     let size = h.long in
-    let ends : x ≡ bad code limits.greeting = s.2 ∙ ungreeted_long limits (length (held ++ behind)) (omega (arith, size, length-append held behind)) ∙ ap (λ d. bad d limits.greeting) (sym c) in
-    record { at = limits.greeting; only = i ∙ ap (λ l. items_behind l x) s.1 ∙ ap items_at_end ends; place = a ∙ told_sum place p limits.greeting e ∙ ap (λ q. told_place (q + limits.greeting)) z ∙ omega arith; ending = ends }
+    let ends : x ≡ bad code limits.greeting = s.2 ∙ ungreeted_long limits (length (held ++ later)) (omega (arith, size, length-append held later)) ∙ ap (λ d. bad d limits.greeting) (sym c) in
+    record { at = limits.greeting; only = i ∙ ap (λ l. items_after l x) s.1 ∙ ap items_at_end ends; place = a ∙ told_sum place p limits.greeting e ∙ ap (λ q. told_place (q + limits.greeting)) z ∙ omega arith; ending = ends }
 
-pub only_fault : (limits : Limits) (greeted : Bool) (place p : ℕ) (held behind : List ℕ) (code : Bad) (at : ℕ) (items : List Item) (x : Ending) → place ≡ told_place p → Standing limits greeted place held (n.Bad code at) → Tail limits greeted p (held ++ behind) items x → Fault code at items x
-only_fault limits true place p held behind code at items x e s t = fault_head limits place p held behind code at s.0 items x e s.1 s.2 t
-only_fault limits false place p held behind code at items x e s t = fault_greeting limits place p held behind code at items t.1 t.2 x e s.0 s.1 s.2 t.0 t.3 t.4
+pub only_fault : (limits : Limits) (greeted : Bool) (place p : ℕ) (held later : List ℕ) (code : Bad) (at : ℕ) (items : List Item) (x : Ending) → place ≡ told_place p → Standing limits greeted place held (n.Bad code at) → Tail limits greeted p (held ++ later) items x → Fault code at items x
+only_fault limits true place p held later code at items x e s t = fault_head limits place p held later code at s.0 items x e s.1 s.2 t
+only_fault limits false place p held later code at items x e s t = fault_greeting limits place p held later code at items t.1 t.2 x e s.0 s.1 s.2 t.0 t.3 t.4
 
--- ---- nothing
+-- ---- nothing is left
 
 -- nothing is left, and the bytes end so
 pub record Over (held : List ℕ) (items : List Item) (x : Ending) : Type 0 where
   pub none : items ≡ []
   pub ending : x ≡ ending_of held
 
--- something stands there
+-- something is there
 abbrev IsSome : Front → Type 0
 IsSome nothing = ⊥
 IsSome partial = Unit {0}
@@ -199,7 +199,7 @@ pub ends_held : (limits : Limits) (place : ℕ) (held : List ℕ) (x : Ending) �
 ends_held limits place [] x u e = e
 ends_held limits place (a ∷ held) x u e = ends_within place (front_of limits (a ∷ held)) x u (some_front limits a held) e
 
-unfinished_messages : (limits : Limits) (p : ℕ) (bytes : List ℕ) (items : List Item) (ms : List Message) (x : Ending) → NeedsMessage limits bytes → AreMessages limits p bytes ms x → items ≡ items_behind ms x → Over bytes items x
+unfinished_messages : (limits : Limits) (p : ℕ) (bytes : List ℕ) (items : List Item) (ms : List Message) (x : Ending) → NeedsMessage limits bytes → AreMessages limits p bytes ms x → items ≡ items_after ms x → Over bytes items x
 unfinished_messages limits p bytes items [] x u h i =
     let rest_is : h.rest ≡ bytes = ap (λ l. l ++ h.rest) (sym h.frames) ∙ sym h.parts in
     let ends : EndsAt (p + length h.body) (front_of limits bytes) x = subst (λ l. EndsAt (p + length h.body) (front_of limits l) x) rest_is h.ends in
@@ -224,7 +224,7 @@ unfinished_greeting : (limits : Limits) (held : List ℕ) (items : List Item) (g
 unfinished_greeting limits held items (Some d) ms x h s i = absurd (no_greeting limits held s.greeting s.others d (All-take (λ y. 0 < y) (limits.greeting + 1) held h.no_nul) s.greets s.parts)
 unfinished_greeting limits held items None ms x h s i =
     let ends : x ≡ ending_of held = s.2 ∙ ungreeted_short limits held h.short in
-    record { none = i ∙ ap (λ l. items_behind l x) s.1 ∙ ap items_at_end ends ∙ no_fault held; ending = ends }
+    record { none = i ∙ ap (λ l. items_after l x) s.1 ∙ ap items_at_end ends ∙ no_fault held; ending = ends }
 
 pub no_item : (limits : Limits) (greeted : Bool) (p : ℕ) (held : List ℕ) (items : List Item) (x : Ending) → IsNeeded limits greeted held → Tail limits greeted p held items x → Over held items x
 no_item limits true p held items x u t = unfinished_messages limits p held items t.0 x u t.1 t.2
@@ -232,7 +232,7 @@ no_item limits false p held items x u t = unfinished_greeting limits held items 
 
 -- ---- runs
 
--- an item and then the others
+-- an item, and then the others
 told_first : (IsLeft : List Item → Type 0) (limits : Limits) (place : ℕ) (bytes : List ℕ) (next : Next) (nexts : List Next) (items : List Item) (x : Ending) (f : First limits place bytes next items x) → AreTold IsLeft nexts f.others → AreTold IsLeft (next ∷ nexts) items
 told_first IsLeft limits place bytes next nexts items x f rest = subst (AreTold IsLeft (next ∷ nexts)) (sym f.all) (f.shown, subst (AreTold IsLeft nexts) f.once rest)
 
@@ -243,15 +243,15 @@ told_fault IsLeft code at nexts items x f rest = subst (AreTold IsLeft (n.Bad co
 abbrev Ends : (List Item → Type 0) → FramerView → List ℕ → Ending → Type 0
 Ends IsLeft w more x = (p : ℕ) (items : List Item) → w.place ≡ told_place p → Tail w.limits w.greeted p (w.held ++ more) items x → IsLeft items
 
--- the framer behind a part of a piece
+-- the framer after a part of a piece
 abbrev with_more : FramerView → List ℕ → FramerView
 with_more v bytes = record v { held = v.held ++ bytes }
 
--- what is passed, and then what is told behind it
-told_more : (IsLeft : List Item → Type 0) (v : FramerView) (p : ℕ) (behind : List ℕ) (items : List Item) (x : Ending) (next : Next) (nexts : List Next) → v.place ≡ told_place p → Standing v.limits v.greeted v.place v.held next → is_passed next ≡ true → Tail v.limits v.greeted p (v.held ++ behind) items x → ((others : List Item) → Tail v.limits true (p + length v.held) behind others x → AreTold IsLeft nexts others) → AreTold IsLeft (next ∷ nexts) items
-told_more IsLeft v p behind items x next nexts e stands pass t again =
-    let f = first_item v.limits v.greeted v.place p v.held behind next items x e stands pass t in
-    told_first IsLeft v.limits (p + length v.held) behind next nexts items x f (again f.others f.tail)
+-- what is dropped, and then what is returned after it
+told_more : (IsLeft : List Item → Type 0) (v : FramerView) (p : ℕ) (later : List ℕ) (items : List Item) (x : Ending) (next : Next) (nexts : List Next) → v.place ≡ told_place p → Standing v.limits v.greeted v.place v.held next → is_passed next ≡ true → Tail v.limits v.greeted p (v.held ++ later) items x → ((others : List Item) → Tail v.limits true (p + length v.held) later others x → AreTold IsLeft nexts others) → AreTold IsLeft (next ∷ nexts) items
+told_more IsLeft v p later items x next nexts e stands pass t again =
+    let f = first_item v.limits v.greeted v.place p v.held later next items x e stands pass t in
+    told_first IsLeft v.limits (p + length v.held) later next nexts items x f (again f.others f.tail)
 
 told_runs : (IsLeft : List Item → Type 0) (steps : List Step) (v w : FramerView) (p : ℕ) (more : List ℕ) (items : List Item) (x : Ending) → v.place ≡ told_place p → Runs v steps w → Ends IsLeft w more x → Tail v.limits v.greeted p (v.held ++ (bytes_of steps ++ more)) items x → AreTold IsLeft (told_by steps) items
 told_runs IsLeft [] v w p more items x e r ends t = ends p items (subst (λ u. u.place ≡ told_place p) (sym r) e) (subst (λ u. Tail u.limits u.greeted p (u.held ++ more) items x) (sym r) t)
@@ -280,7 +280,7 @@ told_runs IsLeft (gave (n.Bad code at) ∷ steps) v w p more items x e r ends t 
 left_holds : (P : Type 0) (nexts : List Next) (items : List Item) → AreTold (λ _. P) nexts items → P
 left_holds P [] items h = h
 left_holds P (next ∷ nexts) [] h = absurd h
-left_holds P (next ∷ nexts) (item ∷ items) h = left_holds P nexts (left_behind item items) h.1
+left_holds P (next ∷ nexts) (item ∷ items) h = left_holds P nexts (left_after item items) h.1
 
 -- a run of a new framer, and what is left where it ends
 new_runs : (IsLeft : List Item → Type 0) (limits : Limits) (steps : List Step) (view : FramerView) (more : List ℕ) (g : Option ℕ) (ms : List Message) (x : Ending) → Runs (fresh limits) steps view → IsStream limits (bytes_of steps ++ more) g ms x → Ends IsLeft view more x → AreTold IsLeft (told_by steps) (items_of g ms x)

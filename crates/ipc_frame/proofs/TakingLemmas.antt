@@ -25,29 +25,29 @@ pub takes_twice : (IsNeeded : List ℕ → Type 0) (held piece : List ℕ) (a c 
 takes_twice IsNeeded held piece a c within first p = record {
   within = let w = p.within in omega (arith, length-drop a piece);
   before = λ k h. by_place k h (cases_lt k a);
-  behind = λ h n. let h' : c < length (drop a piece) = omega (arith, h, length-drop a piece) in p.behind h' (subst IsNeeded (sym (take-both a c held piece within)) n);
+  enough = λ h n. let h' : c < length (drop a piece) = omega (arith, h, length-drop a piece) in p.enough h' (subst IsNeeded (sym (take-both a c held piece within)) n);
 }
   where
     by_place : (k : ℕ) → k < a + c → (k < a) ⊎ (a ≤ k) → IsNeeded (held ++ take k piece)
     by_place k h (inl less) = first k less
     by_place k h (inr more) =
-        let behind : k - a < c = omega arith in
+        let later : k - a < c = omega arith in
         let place : a + (k - a) ≡ k = omega arith in
-        subst IsNeeded (take-both a (k - a) held piece within ∙ ap (λ i. held ++ take i piece) place) (p.before (k - a) behind)
+        subst IsNeeded (take-both a (k - a) held piece within ∙ ap (λ i. held ++ take i piece) place) (p.before (k - a) later)
 
--- nothing is taken where nothing is there
+-- nothing is taken of an empty piece
 takes_none : (IsNeeded : List ℕ → Type 0) (held piece : List ℕ) → length piece ≡ 0 → Takes IsNeeded held piece 0
 takes_none IsNeeded held piece empty = record {
   within = omega arith;
   before = λ k h. absurd (omega (arith, h));
-  behind = λ h n. absurd (omega (arith, h, empty));
+  enough = λ h n. absurd (omega (arith, h, empty));
 }
 
 -- ---- messages
 
--- a header and the body behind it
+-- a header, and the body after it
 both_take : (limits : Limits) (held piece : List ℕ) (a c : ℕ) → a ≡ min (length piece) (8 - length held) → (8 ≤ length (held ++ take a piece) → Takes (NeedsMessage limits) (held ++ take a piece) (drop a piece) c) → (length (held ++ take a piece) < 8 → c ≡ 0) → Takes (NeedsMessage limits) held piece (a + c)
-both_take limits held piece a c e behind none =
+both_take limits held piece a c e later none =
     takes_twice (NeedsMessage limits) held piece a c (omega arith) before (by_length (cases_lt (length (held ++ take a piece)) 8))
   where
     before : (k : ℕ) → k < a → NeedsMessage limits (held ++ take k piece)
@@ -57,18 +57,18 @@ both_take limits held piece a c e behind none =
     by_length (inl short) =
         let all : length (drop a piece) ≡ 0 = omega (arith, short, e, length-append held (take a piece), length-take a piece, length-drop a piece) in
         subst (Takes (NeedsMessage limits) (held ++ take a piece) (drop a piece)) (sym (none short)) (takes_none (NeedsMessage limits) (held ++ take a piece) (drop a piece) all)
-    by_length (inr long) = behind long
+    by_length (inr long) = later long
 
 pub message_takes : (limits : Limits) (held piece then rest : List ℕ) (a c : ℕ) → a ≡ min (length piece) (8 - length held) → then ≡ held ++ take a piece → rest ≡ drop a piece → (8 ≤ length then → Takes (NeedsMessage limits) then rest c) → (length then < 8 → c ≡ 0) → Takes (NeedsMessage limits) held piece (a + c)
-message_takes limits held piece then rest a c e grown left behind none =
+message_takes limits held piece then rest a c e grown left later none =
     both_take limits held piece a c e
-    (subst (λ l. 8 ≤ length l → Takes (NeedsMessage limits) l (drop a piece) c) grown (subst (λ r. 8 ≤ length then → Takes (NeedsMessage limits) then r c) left behind))
+    (subst (λ l. 8 ≤ length l → Takes (NeedsMessage limits) l (drop a piece) c) grown (subst (λ r. 8 ≤ length then → Takes (NeedsMessage limits) then r c) left later))
     (subst (λ l. length l < 8 → c ≡ 0) grown none)
 
 longer : (held piece : List ℕ) (k : ℕ) → length held ≤ length (held ++ take k piece)
 longer held piece k = omega (arith, length-append held (take k piece))
 
--- the front where a header stands and more of a piece is taken
+-- the front where a header is there and more of a piece is taken
 front_more : (limits : Limits) (held piece : List ℕ) (k : ℕ) (x : Result Head BadHeader) → 8 ≤ length held → x ≡ header_of limits (take 8 held) → front_of limits (held ++ take k piece) ≡ header_front (held ++ take k piece) x
 front_more limits held piece k x long e =
     let enough : 8 ≤ length (held ++ take k piece) = omega (arith, longer held piece k) in
@@ -79,18 +79,18 @@ pub body_takes : (limits : Limits) (held piece : List ℕ) (head : Head) (taken 
 body_takes limits held piece head taken e size long = record {
   within = omega arith;
   before = λ k h. subst (λ f. IsUnfinished f) (sym (front_more limits held piece k (Ok head) long e)) (unfinished_body (held ++ take k piece) head (omega (arith, h, size, length-append held (take k piece), length-take k piece)));
-  behind = λ h n. finished (held ++ take taken piece) head (omega (arith, h, size, length-append held (take taken piece), length-take taken piece)) (subst (λ f. IsUnfinished f) (front_more limits held piece taken (Ok head) long e) n);
+  enough = λ h n. finished (held ++ take taken piece) head (omega (arith, h, size, length-append held (take taken piece), length-take taken piece)) (subst (λ f. IsUnfinished f) (front_more limits held piece taken (Ok head) long e) n);
 }
 
--- behind a bad header nothing is taken
+-- nothing is taken after a faulty header
 pub bad_takes : (limits : Limits) (held piece : List ℕ) (f : BadHeader) → Err f ≡ header_of limits (take 8 held) → 8 ≤ length held → Takes (NeedsMessage limits) held piece 0
 bad_takes limits held piece f e long = record {
   within = omega arith;
   before = λ k h. absurd (omega (arith, h));
-  behind = λ h n. subst (λ g. IsUnfinished g) (front_more limits held piece 0 (Err f) long e) n;
+  enough = λ h n. subst (λ g. IsUnfinished g) (front_more limits held piece 0 (Err f) long e) n;
 }
 
--- the bytes up to which more is taken, by a header
+-- the length up to which bytes are taken, by a header
 pub reach_by : (limits : Limits) (bytes : List ℕ) (x : Result Head BadHeader) → 8 ≤ length bytes → x ≡ header_of limits (take 8 bytes) → reach limits bytes ≡ extent_by x
 reach_by limits bytes x long e =
     let enough : ltb (length bytes) 8 ≡ false = le-ltb _ _ long in
@@ -150,7 +150,7 @@ pub held_all : (held piece then rest new : List ℕ) (a c : ℕ) → a ≡ min (
 held_all held piece then rest new a c e grown left made =
     made ∙ ap (λ l. l ++ take c rest) grown ∙ ap (λ r. (held ++ take a piece) ++ take c r) left ∙ take-both a c held piece (omega arith)
 
--- ---- greetings
+-- ---- handshakes
 
 -- no 0 at the end, and none before it
 pub no_nul_held : (held : List ℕ) → HasNoNul (take (length held - 1) held) → (EndsInNul held → ⊥) → HasNoNul held
@@ -172,7 +172,7 @@ nul_at held piece taken some within nul p =
     let here : get_or (held ++ take taken piece) (length held + (taken - 1)) 0 ≡ 0 = get_or-append-add held (take taken piece) (taken - 1) 0 ∙ get_or-take taken piece (taken - 1) 0 (omega arith) ∙ nul in
     omega (arith, here, All-get_or (λ b. 0 < b) (held ++ take taken piece) (length held + (taken - 1)) 0 place p)
 
--- a greeting up to its NUL
+-- a handshake up to its NUL
 pub greeting_takes : (limits : Limits) (held piece : List ℕ) (most taken : ℕ) → HasNoNul held → length held ≤ limits.greeting → most ≡ min (length piece) (limits.greeting - length held + 1) → UpToNul piece most taken → Takes (NeedsGreeting limits) held piece taken
 greeting_takes limits held piece most taken clean short e p = record {
   within = let w = p.within in omega arith;
@@ -180,7 +180,7 @@ greeting_takes limits held piece most taken clean short e p = record {
     no_nul = All-append (λ b. 0 < b) held (take k piece) clean (clean_part k h);
     short = let w = p.within in omega (arith, h, length-append held (take k piece), length-take k piece);
   };
-  behind = λ h n. by_end h n (cases_lt taken most);
+  enough = λ h n. by_end h n (cases_lt taken most);
 }
   where
     clean_part : (k : ℕ) → k < taken → HasNoNul (take k piece)
@@ -190,7 +190,7 @@ greeting_takes limits held piece most taken clean short e p = record {
     by_end h n (inl less) = let end = p.ends less in nul_at held piece taken end.0 (omega arith) end.1 n.no_nul
     by_end h n (inr more) = let w = p.within in let s = n.short in omega (arith, h, length-append held (take taken piece), length-take taken piece)
 
--- a greeting is not overrun
+-- no byte is taken past a handshake
 pub greeting_one : (limits : Limits) (held piece : List ℕ) (most taken : ℕ) → HasNoNul held → length held ≤ limits.greeting → most ≡ min (length piece) (limits.greeting - length held + 1) → UpToNul piece most taken → IsOneGreeting limits (held ++ take taken piece)
 greeting_one limits held piece most taken clean short e p = record {
   no_nul = by_count (cases_lt 0 taken);

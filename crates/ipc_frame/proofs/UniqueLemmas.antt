@@ -36,7 +36,7 @@ header_stands limits bytes x found e = by_length (eqb (length bytes) 0) (ltb (le
     by_length false true h d = absurd (subst IsFound (sym d) found)
     by_length false false h d = ltb-false _ _ h
 
--- what stands behind a whole message isn't looked at
+-- what comes after a whole message isn't looked at
 header_front-stays : (bytes more : List ℕ) (h : Result Head BadHeader) (x : Front) → 8 ≤ length bytes → IsFound x → header_front bytes h ≡ x → header_front (bytes ++ more) h ≡ x
 header_front-stays bytes more (Err f) x long found e = e
 header_front-stays bytes more (Ok head) x long found e = by_size (ltb (length bytes) head.length) refl e
@@ -46,9 +46,9 @@ header_front-stays bytes more (Ok head) x long found e = by_size (ltb (length by
     by_size false h d =
         let fits : head.length ≤ length bytes = ltb-false _ _ h in
         let enough : ltb (length (bytes ++ more)) head.length ≡ false = le-ltb _ _ (omega (arith, length-append bytes more, fits)) in
-        let behind : drop 8 (bytes ++ more) ≡ drop 8 bytes ++ more = drop-append-le 8 bytes more long in
-        let just : take (head.length - 8) (drop 8 bytes ++ more) ≡ take (head.length - 8) (drop 8 bytes) = take-append-le (head.length - 8) (drop 8 bytes) more (omega (arith, length-drop 8 bytes, fits)) in
-        rw (enough, behind, just) d
+        let later : drop 8 (bytes ++ more) ≡ drop 8 bytes ++ more = drop-append-le 8 bytes more long in
+        let same_body : take (head.length - 8) (drop 8 bytes ++ more) ≡ take (head.length - 8) (drop 8 bytes) = take-append-le (head.length - 8) (drop 8 bytes) more (omega (arith, length-drop 8 bytes, fits)) in
+        rw (enough, later, same_body) d
 
 -- what is found stays, whatever follows
 pub front_stays : (limits : Limits) (bytes more : List ℕ) (x : Front) → IsFound x → front_of limits bytes ≡ x → front_of limits (bytes ++ more) ≡ x
@@ -58,7 +58,7 @@ front_stays limits bytes more x found e =
 
 -- ---- messages
 
--- no whole message stands in front
+-- no whole message is in front
 abbrev pub IsOver : Front → Type 0
 IsOver front = (n : ℕ) (m : Message) → front ≡ whole n m → ⊥
 
@@ -68,33 +68,33 @@ over place partial ending h n m e = absurd cc
 over place (fault code at) ending h n m e = absurd cc
 over place (whole k o) ending h n m e = h
 
--- the first message of bytes stands in front of all that follows
+-- the first message of bytes is in front of all that follows
 pub first_stands : (limits : Limits) (x rest frame all : List ℕ) (m : Message) → x ≡ frame ++ rest → front_of limits frame ≡ whole (length frame) m → front_of limits (x ++ all) ≡ whole (length frame) m
 first_stands limits x rest frame all m parts e = ap (λ l. front_of limits (l ++ all)) parts ∙ ap (front_of limits) (append_assoc frame rest all) ∙ front_stays limits frame (rest ++ all) (whole (length frame) m) tt e
 
 -- bytes that begin with a message have it as their first
-pub record Parts (limits : Limits) (place : ℕ) (frame behind body rest : List ℕ) (here : Message) (ms : List Message) : Type 0 where
+pub record Parts (limits : Limits) (place : ℕ) (frame later body rest : List ℕ) (here : Message) (ms : List Message) : Type 0 where
   pub others : List ℕ
   pub messages : List Message
-  pub bytes : behind ≡ others ++ rest
+  pub bytes : later ≡ others ++ rest
   pub body_is : body ≡ frame ++ others
   pub first : ms ≡ moved place here ∷ messages
   pub frames : Frames limits (place + length frame) others messages
 
-pub parted : (limits : Limits) (place : ℕ) (frame behind body rest : List ℕ) (here : Message) (ms : List Message) → frame ++ behind ≡ body ++ rest → front_of limits frame ≡ whole (length frame) here → Frames limits place body ms → IsOver (front_of limits rest) → Parts limits place frame behind body rest here ms
-parted limits place frame behind body rest here [] e front f o =
-    let same : rest ≡ frame ++ behind = ap (λ l. l ++ rest) (sym f) ∙ sym e in
-    absurd (o (length frame) here (ap (front_of limits) same ∙ front_stays limits frame behind (whole (length frame) here) tt front))
-parted limits place frame behind body rest here (m ∷ ms) e front f o =
-    let one : whole (length frame) here ≡ whole (length f.0) f.3.0 = sym (front_stays limits frame behind (whole (length frame) here) tt front) ∙ ap (front_of limits) e ∙ first_stands limits body f.1 f.0 rest f.3.0 f.2 f.3.1 in
+pub parted : (limits : Limits) (place : ℕ) (frame later body rest : List ℕ) (here : Message) (ms : List Message) → frame ++ later ≡ body ++ rest → front_of limits frame ≡ whole (length frame) here → Frames limits place body ms → IsOver (front_of limits rest) → Parts limits place frame later body rest here ms
+parted limits place frame later body rest here [] e front f o =
+    let same : rest ≡ frame ++ later = ap (λ l. l ++ rest) (sym f) ∙ sym e in
+    absurd (o (length frame) here (ap (front_of limits) same ∙ front_stays limits frame later (whole (length frame) here) tt front))
+parted limits place frame later body rest here (m ∷ ms) e front f o =
+    let one : whole (length frame) here ≡ whole (length f.0) f.3.0 = sym (front_stays limits frame later (whole (length frame) here) tt front) ∙ ap (front_of limits) e ∙ first_stands limits body f.1 f.0 rest f.3.0 f.2 f.3.1 in
     let size = same_size (length frame) (length f.0) here f.3.0 one in
-    let both : frame ++ behind ≡ f.0 ++ (f.1 ++ rest) = e ∙ ap (λ l. l ++ rest) f.2 ∙ append_assoc f.0 f.1 rest in
-    let frame_is : frame ≡ f.0 = sym (take_at frame behind (length frame) refl) ∙ ap (take (length frame)) both ∙ take_at f.0 (f.1 ++ rest) (length frame) (sym size) in
-    let behind_is : behind ≡ f.1 ++ rest = sym (drop_at frame behind (length frame) refl) ∙ ap (drop (length frame)) both ∙ drop_at f.0 (f.1 ++ rest) (length frame) (sym size) in
+    let both : frame ++ later ≡ f.0 ++ (f.1 ++ rest) = e ∙ ap (λ l. l ++ rest) f.2 ∙ append_assoc f.0 f.1 rest in
+    let frame_is : frame ≡ f.0 = sym (take_at frame later (length frame) refl) ∙ ap (take (length frame)) both ∙ take_at f.0 (f.1 ++ rest) (length frame) (sym size) in
+    let later_is : later ≡ f.1 ++ rest = sym (drop_at frame later (length frame) refl) ∙ ap (drop (length frame)) both ∙ drop_at f.0 (f.1 ++ rest) (length frame) (sym size) in
     record {
       others = f.1;
       messages = ms;
-      bytes = behind_is;
+      bytes = later_is;
       body_is = f.2 ∙ ap (λ l. l ++ f.1) (sym frame_is);
       first = ap (λ x. x ∷ ms) (f.3.2 ∙ ap (moved place) (sym (same_message (length frame) (length f.0) here f.3.0 one)));
       frames = subst (λ n. Frames limits (place + n) f.1 ms) (sym size) f.4;
@@ -111,7 +111,7 @@ same_frames limits place x y p q (m ∷ ms) ns e f g u v =
     let rest = same_frames limits (place + length f.0) f.1 part.others p q ms part.messages part.bytes f.4 part.frames u v in
     (f.2 ∙ ap (λ l. f.0 ++ l) rest.0 ∙ sym part.body_is, ap (λ l. l ∷ ms) f.3.2 ∙ ap (λ l. moved place f.3.0 ∷ l) rest.1 ∙ sym part.first, rest.2)
 
--- what stands in front tells the ending
+-- what is in front decides the ending
 same_ending : (place : ℕ) (front : Front) (x y : Ending) → EndsAt place front x → EndsAt place front y → x ≡ y
 same_ending place nothing x y f g = f ∙ sym g
 same_ending place partial x y f g = f ∙ sym g
@@ -124,7 +124,7 @@ messages_once limits place bytes others ms ns x y same p q =
     let moved_end : EndsAt (place + length p.body) (front_of limits p.rest) y = rw (both.0, both.2) q.ends in
     (both.1, same_ending _ _ x y p.ends moved_end)
 
--- ---- greetings
+-- ---- handshakes
 
 head_is : (a b : ℕ) (x y : List ℕ) → a ∷ x ≡ b ∷ y → a ≡ b
 head_is a b x y e = cc
@@ -148,17 +148,17 @@ nul_within [] x (suc n) short h = omega (arith, All-head (λ b. 0 < b) 0 (take n
 nul_within (k ∷ c) x zero short h = omega (arith, short)
 nul_within (k ∷ c) x (suc n) short h = nul_within c x n (omega (arith, short)) (All-tail (λ b. 0 < b) k (take n (c ++ 0 ∷ x)) h)
 
--- a greeting in front of bytes, its NUL in front of the rest
+-- a handshake in front of bytes, its NUL in front of the rest
 regrouped : (greeting c rest : List ℕ) → greeting ≡ c ++ 0 ∷ [] → greeting ++ rest ≡ c ++ 0 ∷ rest
 regrouped greeting c rest e = ap (λ l. l ++ rest) e ∙ append_assoc c (0 ∷ []) rest
 
--- bytes have one greeting at most
+-- bytes have one handshake at most
 pub same_greeting : (limits : Limits) (a b x y : List ℕ) (g h : ℕ) → IsGreeting limits a g → IsGreeting limits b h → a ++ x ≡ b ++ y → (a ≡ b) × (g ≡ h) × (x ≡ y)
 same_greeting limits a b x y g h p q e =
     let both = same_credentials p.credentials q.credentials x y p.no_nul q.no_nul (sym (regrouped a p.credentials x p.parts) ∙ e ∙ regrouped b q.credentials y q.parts) in
     (p.parts ∙ ap (λ l. l ++ 0 ∷ []) both.0 ∙ sym q.parts, p.last ∙ ap capability_of both.0 ∙ sym q.last, both.1)
 
--- bytes with no NUL among the first have no greeting
+-- bytes with no NUL among the first have no handshake
 pub no_greeting : (limits : Limits) (bytes a x : List ℕ) (g : ℕ) → HasNoNul (take (limits.greeting + 1) bytes) → IsGreeting limits a g → bytes ≡ a ++ x → ⊥
 no_greeting limits bytes a x g clean p e =
     nul_within p.credentials x (limits.greeting + 1) (omega (arith, p.short)) (subst (λ l. HasNoNul (take (limits.greeting + 1) l)) (e ∙ regrouped a p.credentials x p.parts) clean)

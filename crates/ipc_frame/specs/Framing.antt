@@ -11,11 +11,11 @@ use Rattle.ipc_frame.specs.declared.bad.Bad.TheVariants as b
 use Rattle.ipc_frame.specs.declared.next.Next.{Next}
 use Rattle.ipc_frame.specs.declared.next.Next.TheVariants as n
 
--- these bytes are less than what stands next, a greeting or a message, and show no fault
+-- these bytes are less than the next handshake or message, and show no fault
 abbrev pub IsNeeded : Limits → Bool → List ℕ → Type 0
 IsNeeded limits greeted held = MatchBool greeted (NeedsMessage limits held) (NeedsGreeting limits held)
 
--- what is told of so many bytes behind a greeting, at this place of the stream, where this stands in front of them
+-- what `next` returns after the handshake, where `size` bytes are held from the offset `place` on, and this is their front
 abbrev pub StandsFront : ℕ → ℕ → Front → Next → Type 0
 StandsFront place size front (n.Greeting capability) = ⊥
 StandsFront place size front (n.Message m) = front ≡ whole size (record { sync = m.sync; content = built (tree m.value) })
@@ -24,12 +24,12 @@ StandsFront place size front (n.Skipped sync) = (t : Tree) × (front ≡ whole s
 StandsFront place size front n.Need = IsUnfinished front
 StandsFront place size front (n.Bad code at) = (k : ℕ) × (front ≡ fault code k) × (at ≡ told_place (place + k))
 
--- bytes are one more than a greeting may have before its NUL, with no NUL
+-- these bytes are one more than a handshake may have before its NUL, with no NUL among them
 pub record IsTooLong (limits : Limits) (held : List ℕ) : Type 0 where
   pub no_nul : HasNoNul held
   pub long : length held ≡ limits.greeting + 1
 
--- what is told of bytes at the start of a stream
+-- what `next` returns at the start of a stream, where these bytes are held
 abbrev pub StandsGreeting : Limits → ℕ → List ℕ → Next → Type 0
 StandsGreeting limits place held (n.Greeting capability) = IsGreeting limits held capability
 StandsGreeting limits place held (n.Message m) = ⊥
@@ -38,11 +38,11 @@ StandsGreeting limits place held (n.Skipped sync) = ⊥
 StandsGreeting limits place held n.Need = NeedsGreeting limits held
 StandsGreeting limits place held (n.Bad code at) = IsTooLong limits held × (code ≡ b.Greeting) × (at ≡ told_place (place + limits.greeting))
 
--- what stands next
+-- what `next` returns
 abbrev pub Stands : FramerView → Next → Type 0
 Stands v next = MatchBool v.greeted (StandsFront v.place (length v.held) (front_of v.limits v.held) next) (StandsGreeting v.limits v.place v.held next)
 
--- whether the bytes of what was told are passed: those of a greeting or a message are
+-- whether the bytes of what is returned are dropped from the buffer: those of a handshake or a message are
 abbrev pub is_passed : Next → Bool
 is_passed (n.Greeting capability) = true
 is_passed (n.Message m) = true
@@ -51,7 +51,7 @@ is_passed (n.Skipped sync) = true
 is_passed n.Need = false
 is_passed (n.Bad code at) = false
 
--- a value that was told can be written
+-- a value that is returned can be written
 abbrev pub CanBeWritten : Next → Type 0
 CanBeWritten (n.Greeting capability) = Unit {0}
 CanBeWritten (n.Message m) = IsPlain (tree m.value) × AtomsFit (tree m.value)
@@ -60,12 +60,12 @@ CanBeWritten (n.Skipped sync) = Unit {0}
 CanBeWritten n.Need = Unit {0}
 CanBeWritten (n.Bad code at) = Unit {0}
 
--- a call of `next`: what stands next is told, and passed where it is a greeting or a message
+-- a call of `next`: a handshake or a message is returned, and dropped from the buffer
 pub record Gives (old : FramerView) (next : Next) (new : FramerView) : Type 0 where
   pub stands : Stands old next
   pub after : new ≡ (if is_passed next then passed old else old)
 
--- a call of `feed`: more is taken of the piece as long as it is needed
+-- a call of `feed`: bytes of the piece are taken as long as they are needed
 pub record Feeds (old : FramerView) (piece : List ℕ) (taken : ℕ) (new : FramerView) : Type 0 where
   pub takes : Takes (IsNeeded old.limits old.greeted) old.held piece taken
   pub after : new ≡ record old { held = old.held ++ take taken piece }

@@ -4,36 +4,36 @@ use Rattle.q_values.specs.Bytes.{HasNoNul}
 use Rattle.q_values.specs.declared.limits.Limits.{Limits}
 use Rattle.ipc_frame.specs.Stream.{Front, nothing, partial, whole, fault, front_of}
 
--- Of a piece behind bytes that are held, so many bytes are taken: up to the first one behind which no more is needed,
--- or all.
+-- where these bytes are held, `taken` bytes are taken of a piece: up to and including the first one after which no more
+-- is needed, or all
 pub record Takes (IsNeeded : List ℕ → Type 0) (held piece : List ℕ) (taken : ℕ) : Type 0 where
   pub within : taken ≤ length piece
   pub before : (k : ℕ) → k < taken → IsNeeded (held ++ take k piece)
-  pub behind : taken < length piece → IsNeeded (held ++ take taken piece) → ⊥
+  pub enough : taken < length piece → IsNeeded (held ++ take taken piece) → ⊥
 
--- bytes at the start of a stream are less than a greeting, and show no fault
+-- bytes at the start of a stream are less than a handshake, and show no fault
 pub record NeedsGreeting (limits : Limits) (held : List ℕ) : Type 0 where
   pub no_nul : HasNoNul held
   pub short : length held ≤ limits.greeting
 
--- no whole message and no fault stands there
+-- neither a whole message nor a fault is there
 abbrev pub IsUnfinished : Front → Type 0
 IsUnfinished nothing = Unit {0}
 IsUnfinished partial = Unit {0}
 IsUnfinished (whole n message) = ⊥
 IsUnfinished (fault code at) = ⊥
 
--- bytes behind a greeting are less than a message, and show no fault
+-- bytes after the handshake are less than a message, and show no fault
 abbrev pub NeedsMessage : Limits → List ℕ → Type 0
 NeedsMessage limits held = IsUnfinished (front_of limits held)
 
--- the first 0 stands there
+-- the first 0 is at this index
 pub record IsFirstNul (bytes : List ℕ) (at : ℕ) : Type 0 where
   pub within : at < length bytes
   pub no_nul : HasNoNul (take at bytes)
   pub nul : slice_index bytes at ≡ 0
 
--- bytes up to the first 0, which counts, or this many
+-- the number of bytes up to and including the first 0, or `most`
 pub record UpToNul (piece : List ℕ) (most taken : ℕ) : Type 0 where
   pub within : taken ≤ most
   pub no_nul : HasNoNul (take (taken - 1) piece)

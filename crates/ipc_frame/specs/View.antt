@@ -4,14 +4,14 @@ use Rattle.q_values.specs.declared.limits.Limits.{Limits}
 
 pub record FramerView : Type 0 where
   pub limits : Limits
-  -- whether the greeting was given
+  -- whether the handshake was returned
   pub greeted : Bool
-  -- where the bytes that are held begin in the stream, as a `u64` tells it
+  -- the offset in the stream of the first byte held, in a `u64` that saturates
   pub place : ℕ
-  -- the bytes that were taken since the greeting or message that was given last
+  -- the bytes that were taken since the last handshake or message that was returned
   pub held : List ℕ
 
--- a place as a `u64` tells it
+-- an offset in a `u64` that saturates
 abbrev pub told_place : ℕ → ℕ
 told_place n = min n 18446744073709551615
 
@@ -19,6 +19,6 @@ told_place n = min n 18446744073709551615
 abbrev pub fresh : Limits → FramerView
 fresh limits = record { limits = limits; greeted = false; place = 0; held = [] }
 
--- a framer behind what stood next
+-- a framer after the bytes that it held
 abbrev pub passed : FramerView → FramerView
 passed v = record { limits = v.limits; greeted = true; place = told_place (v.place + length v.held); held = [] }

@@ -1,4 +1,4 @@
-//! The framer: bytes in, a greeting and messages out.
+//! The framer: bytes in, a handshake and messages out.
 ghost use Rattle.std.specs.Prelude.{◌≡◌, ◌↔◌, [], IsTrue, IfOk};
 ghost use Rattle.q_values.specs.Limits.{AreLimits};
 
@@ -10,18 +10,24 @@ use q_values::{Limits, NoMemory};
 use std::alloc::Global;
 use std::marker::Model;
 
-/// What a framer took of a piece: so many bytes from its front.
+/// What a framer took of a piece.
 #[derive(Clone, Copy, Debug, PartialEq, Eq)]
 pub struct Fed {
+    /// The number of bytes taken, from the front of the piece.
     pub taken: usize,
 }
 
-/// What reads a stream, whatever pieces it comes in. It holds one greeting or message at most.
+/// Reads a stream, in whatever pieces it arrives. It holds one handshake or message at most.
 #[derive(Drop)]
 pub struct Framer {
+    // The limits on the lengths of handshakes and messages.
     limits: Limits,
+    // Whether the handshake was returned.
     greeted: bool,
+    // The offset in the stream of the first byte held. It saturates.
     place: u64,
+    // The bytes taken since the last handshake or message that was returned: at most one handshake or message. The
+    // capacity is enough for the longest of either.
     held: Vec<u8>,
 }
 
@@ -41,8 +47,8 @@ impl Framer {
     ghost use Rattle.ipc_frame.specs.View.{fresh, passed};
     ghost use Rattle.ipc_frame.specs.Framing.{Stands, Gives, Feeds, CanBeWritten};
 
-    /// A framer that took nothing. All the memory that it needs is taken here: for a message or a greeting of the
-    /// greatest length.
+    /// A framer at the start of a stream. Its buffer is allocated here, for the longest message or handshake that the
+    /// limits allow.
     pub fn new(alloc: Global, limits: &Limits) -> Result<Framer, NoMemory>
         requires { AreLimits limits.now }
         ensures { IfOk result (λ f. f ≡ fresh limits.now) }
@@ -57,8 +63,8 @@ impl Framer {
         })
     }
 
-    /// Takes bytes from the front of a piece: up to the first one behind which `next` would answer something else than
-    /// `Need`, that one included, or all. It takes no memory.
+    /// Takes bytes from the front of a piece: all of them, or those up to and including the first one after which `next`
+    /// would return something other than `Need`. It allocates nothing.
     pub fn feed(&mut self, piece: &[u8]) -> Fed
         ensures { Feeds self.old piece.now result.taken self.new }
     {
@@ -70,14 +76,15 @@ impl Framer {
         Fed { taken }
     }
 
-    /// Whether no bytes are held: those that were taken end before the greeting, or behind it or a message.
+    /// Whether no bytes are held: the bytes taken so far are none, or end exactly at the end of the handshake or of a
+    /// message.
     pub fn is_empty(&self) -> bool
         ensures { IsTrue result ↔ (self.now.held ≡ []) }
     {
         self.held.is_empty()
     }
 
-    // What stands next.
+    // What `next` returns.
     fn standing(&self) -> Next
         ensures stands { Stands self.now result }
         ensures plain { CanBeWritten result }
@@ -89,7 +96,7 @@ impl Framer {
         greeting_in(held, &self.limits, self.place)
     }
 
-    // Passes over the bytes of what was told.
+    // Drops the bytes of what was returned.
     fn pass(&mut self)
         ensures { self.new ≡ passed self.old }
     {
@@ -98,11 +105,11 @@ impl Framer {
         self.held.clear();
     }
 
-    /// What stands next in the stream (KX, IPC reference). A greeting or message is told once; a fault again at each
-    /// further call. Memory is taken for a message's value alone.
+    /// The next handshake or message of the stream, `Need`, or a fault (KX, IPC reference). A handshake or message is
+    /// returned once, a fault again at each further call. Only a message's value is allocated.
     pub fn next(&mut self) -> Next
         ensures gives { Gives self.old result self.new }
-        // A value that is told can be written.
+        // A value that is returned can be written.
         ensures plain { CanBeWritten result }
     {
         let next = self.standing();

@@ -7,28 +7,30 @@ use crate::bad::Bad;
 use ipc_codec::Order;
 use q_values::Limits;
 
-/// The bytes of a header.
+/// The length of a header in bytes.
 pub const HEADER: usize = 8;
 
-/// What a header tells of its message.
+/// What a header says about its message.
 #[derive(Clone, Copy)]
 pub struct Head {
     /// The order of the bytes of numbers.
     pub order: Order,
     /// Whether the sender waits for a response.
     pub sync: bool,
-    /// The bytes of the message, its header included.
+    /// The length of the message in bytes, its header included.
     pub length: u32,
 }
 
-/// What is wrong with a header, so many bytes from its first.
+/// What is wrong with a header.
 #[derive(Clone, Copy)]
 pub struct BadHeader {
+    /// The fault.
     pub code: Bad,
+    /// Its offset in the header, in bytes.
     pub at: u64,
 }
 
-/// What a header tells, or its first fault.
+/// What a header says, or its first fault.
 pub fn head_of(header: &[u8; 8], limits: &Limits) -> Result<Head, BadHeader>
     ensures value { result ≡ header_of limits.now header.now }
     ensures fits { IfOk result (λ h. (9 ≤ h.length) × (h.length ≤ limits.now.message)) }
@@ -64,8 +66,8 @@ pub fn head_of(header: &[u8; 8], limits: &Limits) -> Result<Head, BadHeader>
     }
 }
 
-/// The eight bytes of the little-endian header of a message of this length, its header included: of a response, or else
-/// of an async message (KX, IPC reference).
+/// The eight bytes of a little-endian header: of a response where `sync_reply`, and else of an asynchronous message.
+/// `length` is that of the whole message in bytes, the header included (KX, IPC reference).
 pub fn header(sync_reply: bool, length: u32) -> [u8; 8]
     ensures { result ≡ 1 ∷ (if sync_reply then 2 else 0) ∷ 0 ∷ 0 ∷ to_le_bytes w32 length }
 {

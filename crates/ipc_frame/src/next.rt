@@ -1,3 +1,5 @@
+//! What a framer returns.
+
 use crate::bad::Bad;
 use q_values::Value;
 
@@ -10,29 +12,44 @@ pub struct Message {
     pub value: Value,
 }
 
-/// What stands next in a stream. A place is counted from the stream's first byte, and stays at the last number of its
-/// type from there on.
+/// What comes next in a stream. An offset is counted in bytes from the first byte of the stream, and saturates.
 #[derive(Drop)]
 pub enum Next {
-    /// The greeting, with the capability that it tells.
-    Greeting { capability: u8 },
+    /// The handshake.
+    Greeting {
+        /// The capability that it asks for: 0 to 6.
+        capability: u8,
+    },
     /// A message.
     Message(Message),
-    /// A message whose object is outside the profile, with the place of the type that is.
-    NotBuilt { sync: bool, at: u64 },
-    /// A message for whose value memory was wanting. Its bytes are passed over.
-    Skipped { sync: bool },
-    /// Nothing yet: the bytes so far end before the next whole greeting or message, and show no fault.
+    /// A message whose object has a type of kdb+ that is not supported.
+    NotBuilt {
+        /// Whether the sender waits for a response.
+        sync: bool,
+        /// The offset of that type's byte.
+        at: u64,
+    },
+    /// A message whose value could not be allocated. Its bytes are skipped.
+    Skipped {
+        /// Whether the sender waits for a response.
+        sync: bool,
+    },
+    /// Nothing yet: the bytes so far end within the next handshake or message, and show no fault.
     Need,
-    /// The bytes from this place on are no greeting or message. Nothing comes behind.
-    Bad { code: Bad, at: u64 },
+    /// The stream is at fault. Nothing is read after it.
+    Bad {
+        /// The fault.
+        code: Bad,
+        /// Its offset.
+        at: u64,
+    },
 }
 
 impl Next {
     ghost use Rattle.std.specs.Prelude.{◌≡◌};
     ghost use Rattle.ipc_frame.specs.Framing.{is_passed};
 
-    // Whether the bytes of what was told are passed.
+    // Whether the bytes of what is returned are dropped from the buffer.
     pub(crate) fn is_passed(&self) -> bool
         ensures { result ≡ is_passed self.now }
     {

@@ -1,4 +1,4 @@
-//! What stands at the front of the bytes that are held.
+//! What the bytes that are held amount to.
 ghost use Rattle.std.specs.Prelude.{◌≡◌, ◌+◌, ℕ, Ok, length};
 ghost use Rattle.ipc_codec.specs.Reading.{object_of};
 ghost use Rattle.ipc_frame.specs.Stream.{built, whole, front_of, body_front, capability_of};
@@ -15,20 +15,21 @@ use ipc_codec::{DecodeRefusal, decode, measure};
 use q_values::Limits;
 use std::alloc::Global;
 
-/// The greatest capability.
-const MOST: u8 = 6;
+/// The greatest capability of the protocol.
+const GREATEST_CAPABILITY: u8 = 6;
 
-// The capability that credentials tell.
+// The capability at the end of credentials.
 fn capability(credentials: &[u8]) -> u8
     ensures { result ≡ capability_of credentials.now }
 {
     match credentials {
         [] => 0,
-        [.., last] => { if *last <= MOST { *last } else { 0 } }
+        [.., last] if *last <= GREATEST_CAPABILITY => *last,
+        [.., _] => 0,
     }
 }
 
-/// What stands at the start of a stream.
+/// What the bytes at the start of a stream are: a handshake, less than one, or a fault.
 pub fn greeting_in(held: &[u8], limits: &Limits, place: u64) -> Next
     requires { IsOneGreeting limits.now held.now }
     ensures stands { StandsGreeting limits.now place held.now result }
@@ -47,7 +48,7 @@ pub fn greeting_in(held: &[u8], limits: &Limits, place: u64) -> Next
     Next::Need
 }
 
-// The place in the stream of a place in a body.
+// The offset in the stream of an offset in a body.
 fn placed(place: u64, at: usize) -> u64
     ensures { result ≡ told_place (place + (at + 8)) }
 {
@@ -94,7 +95,7 @@ fn object_in(alloc: Global, body: &[u8], head: Head, place: u64) -> Next
     }
 }
 
-/// What stands behind a greeting.
+/// What the bytes after the handshake are: a message, less than one, or a fault.
 pub fn message_in(alloc: Global, held: &[u8], limits: &Limits, place: u64) -> Next
     requires { IsOneMessage limits.now held.now }
     ensures stands { StandsFront place (length held.now) (front_of limits.now held.now) result }

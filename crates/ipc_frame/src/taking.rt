@@ -1,4 +1,4 @@
-//! Taking bytes up to the end of a greeting or a message.
+//! Taking bytes up to the end of a handshake or a message.
 ghost use Rattle.std.specs.Prelude.{◌≡◌, ◌≤◌, ◌<◌, ◌+◌, ◌++◌, ◌↔◌, length, take, vec_capacity, IsTrue, IfSome, IfNone};
 ghost use Rattle.q_values.specs.Bytes.{HasNoNul};
 ghost use Rattle.ipc_frame.specs.Taking.{Takes, NeedsGreeting, NeedsMessage, IsFirstNul, UpToNul, EndsInNul};
@@ -7,7 +7,7 @@ ghost use Rattle.ipc_frame.specs.Holding.{IsOneGreeting, IsOneMessage, room};
 use crate::head::{HEADER, head_of};
 use q_values::Limits;
 
-// Puts bytes at the end, where there is room.
+// Appends bytes, for which there is room.
 fn append(held: &mut Vec<u8>, bytes: &[u8])
     requires { length held.old.items + length bytes.now ≤ vec_capacity held.old }
     ensures items { held.new.items ≡ held.old.items ++ bytes.now }
@@ -26,7 +26,7 @@ pub fn ends_in_nul(bytes: &[u8]) -> bool
     }
 }
 
-// Where the first NUL stands.
+// The index of the first NUL.
 fn first_nul(bytes: &[u8]) -> Option<usize>
     ensures some { IfSome result (IsFirstNul bytes.now) }
     ensures none { IfNone result (HasNoNul bytes.now) }
@@ -34,7 +34,7 @@ fn first_nul(bytes: &[u8]) -> Option<usize>
     bytes.iter().position(|byte| *byte == 0)
 }
 
-// The number of bytes up to the first NUL, which counts, or this many.
+// The number of bytes up to and including the first NUL, or `most`.
 fn up_to_nul(piece: &[u8], most: usize) -> usize
     requires { most ≤ length piece.now }
     ensures { UpToNul piece.now most result }
@@ -45,7 +45,7 @@ fn up_to_nul(piece: &[u8], most: usize) -> usize
     }
 }
 
-// The number of bytes of a piece that a greeting takes.
+// The number of bytes of a piece that belong to the handshake.
 fn greeting_part(held: &[u8], limits: &Limits, piece: &[u8]) -> usize
     requires { IsOneGreeting limits.now held.now }
     ensures takes { Takes (NeedsGreeting limits.now) held.now piece.now result }
@@ -58,7 +58,7 @@ fn greeting_part(held: &[u8], limits: &Limits, piece: &[u8]) -> usize
     up_to_nul(piece, piece.len().min(limit - held.len() + 1))
 }
 
-// The number of bytes of a piece that a message takes behind its header.
+// The number of bytes of a piece that belong to the body of a message, whose header is held.
 fn body_part(held: &[u8], limits: &Limits, piece: &[u8]) -> usize
     requires { IsOneMessage limits.now held.now }
     ensures takes { 8 ≤ length held.now → Takes (NeedsMessage limits.now) held.now piece.now result }
@@ -76,7 +76,7 @@ fn body_part(held: &[u8], limits: &Limits, piece: &[u8]) -> usize
     }
 }
 
-/// Takes what a greeting needs of a piece, and tells how many bytes that is.
+/// Takes the bytes of a piece that belong to the handshake; returns their number.
 pub fn take_greeting(held: &mut Vec<u8>, limits: &Limits, piece: &[u8]) -> usize
     requires room { room limits.now ≤ vec_capacity held.old }
     requires one { IsOneGreeting limits.now held.old.items }
@@ -90,7 +90,7 @@ pub fn take_greeting(held: &mut Vec<u8>, limits: &Limits, piece: &[u8]) -> usize
     taken
 }
 
-/// Takes what a message needs of a piece, and tells how many bytes that is.
+/// Takes the bytes of a piece that belong to a message; returns their number.
 pub fn take_message(held: &mut Vec<u8>, limits: &Limits, piece: &[u8]) -> usize
     requires room { room limits.now ≤ vec_capacity held.old }
     requires one { IsOneMessage limits.now held.old.items }

@@ -7,10 +7,10 @@ pub returns-in_err-column : goal.returns-in_err-column
 returns-in_err-column c =
     let p = err_from_is_err_and c.from_residual.result c.from_residual.ensures.1 in
     let total = columns_at c.args.room c.args.order c.args.count c.args.bytes.now in
-    rw (p.1, p.2) (Stops-from c.in_err-column.field-0.0 (column_at c.args.room c.args.order c.loop.rest.now) total (λ f e. columns_at-ends c.args.room c.args.order c.loop.columns.items c.args.count c.loop.counter c.loop.rest.now f total c.loop-test.true e c.loop.invariant) c.in_err-column.ensures)
+    rw (p.1, p.2) (Stops-from c.in_err-column.field-0.0 (column_at c.args.room c.args.order c.loop.rest.now) total (λ f e. columns_at-ends c.args.room c.args.order c.loop.columns c.args.count c.loop.counter c.loop.rest.now f total c.loop-test.true e c.loop.invariant) c.in_err-column.ensures)
 
 pub loop-preserved : goal.loop-preserved
-loop-preserved c = rw c.in_ok-push.ensures.items (columns_at-more c.args.room c.args.order c.loop.columns.items c.args.count c.loop.counter c.loop.rest.now c.in_ok-column.column c.in_ok-column.after.now (columns_at c.args.room c.args.order c.args.count c.args.bytes.now) c.loop-test.true c.in_ok-column.ensures c.loop.invariant)
+loop-preserved c = rw c.in_ok-push.ensures.ok (columns_at-more c.args.room c.args.order c.loop.columns c.args.count c.loop.counter c.loop.rest.now c.in_ok-column.column c.in_ok-column.after.now (columns_at c.args.room c.args.order c.args.count c.args.bytes.now) c.loop-test.true c.in_ok-column.ensures c.loop.invariant)
 
 pub returns : goal.returns
-returns c = columns_at-done c.args.room c.args.order c.loop.columns.items c.args.count c.loop.counter c.loop.rest.now (columns_at c.args.room c.args.order c.args.count c.args.bytes.now) c.loop-test.false c.loop.invariant
+returns c = columns_at-done c.args.room c.args.order c.loop.columns c.args.count c.loop.counter c.loop.rest.now (columns_at c.args.room c.args.order c.args.count c.args.bytes.now) c.loop-test.false c.loop.invariant

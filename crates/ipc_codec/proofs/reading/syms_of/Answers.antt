@@ -6,10 +6,10 @@ use Rattle.ipc_codec.proofs.reading.syms_of.Goals as goal
 pub returns-in_err-text : goal.returns-in_err-text
 returns-in_err-text c =
     let p = err_from_is_err_and c.from_residual.result c.from_residual.ensures.1 in
-    rw (p.1, p.2) (texts_at-ends c.loop.names.items c.args.count c.loop.counter c.loop.rest.now c.in_err-text.field-0.0 (texts_at c.args.count c.args.bytes.now) c.loop-test.true c.in_err-text.ensures.found c.loop.invariant)
+    rw (p.1, p.2) (texts_at-ends c.loop.names c.args.count c.loop.counter c.loop.rest.now c.in_err-text.field-0.0 (texts_at c.args.count c.args.bytes.now) c.loop-test.true c.in_err-text.ensures.found c.loop.invariant)
 
 pub loop-preserved : goal.loop-preserved
-loop-preserved c = rw (c.in_ok-push.ensures.items, c.in_ok-name.ensures) (texts_at-more c.loop.names.items c.args.count c.loop.counter c.loop.rest.now c.in_ok-text.text.now c.in_ok-text.after.now (texts_at c.args.count c.args.bytes.now) c.loop-test.true c.in_ok-text.ensures.found c.loop.invariant)
+loop-preserved c = rw (c.in_ok-push.ensures.ok, c.in_ok-name.ensures) (texts_at-more c.loop.names c.args.count c.loop.counter c.loop.rest.now c.in_ok-text.text.now c.in_ok-text.after.now (texts_at c.args.count c.args.bytes.now) c.loop-test.true c.in_ok-text.ensures.found c.loop.invariant)
 
 pub returns : goal.returns
-returns c = texts_at-done c.loop.names.items c.args.count c.loop.counter c.loop.rest.now (texts_at c.args.count c.args.bytes.now) c.loop-test.false c.loop.invariant
+returns c = texts_at-done c.loop.names c.args.count c.loop.counter c.loop.rest.now (texts_at c.args.count c.args.bytes.now) c.loop-test.false c.loop.invariant

@@ -4,4 +4,4 @@ use Rattle.ipc_codec.proofs.FrontLemmas.{with_front}
 use Rattle.ipc_codec.proofs.reading.syms_of.Given as goal
 
 abbrev pub invariant-loop : goal.invariant-loop
-invariant-loop l = with_front l.names.items (texts_at (l.count - l.counter) l.rest) ≡ texts_at l.count l.bytes
+invariant-loop l = with_front l.names (texts_at (l.count - l.counter) l.rest) ≡ texts_at l.count l.bytes

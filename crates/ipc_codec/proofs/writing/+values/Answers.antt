@@ -4,7 +4,7 @@ use Rattle.std.proofs.lemmas.Result.{err_from_is_err_and}
 use Rattle.q_values.specs.Tree.{Tree, tree, trees, items_of, atom, list, dict, keyed, wrong}
 use Rattle.q_values.specs.Atom.{kind_of}
 use Rattle.ipc_codec.proofs.TreeLemmas.{tree-Atom, tree-List, tree-Dict, tree-Keyed, tree-Wrong}
-use Rattle.ipc_codec.specs.Types.{code_of}
+use Rattle.q_values.specs.Kind.{type_number}
 use Rattle.ipc_codec.specs.Reading.{number_of_items}
 use Rattle.ipc_codec.specs.Written.{Fits, written, written_items, element_bytes, text_bytes, grid_bytes, head}
 use Rattle.ipc_codec.proofs.WritingLemmas.{Begins-then, ok_then}
@@ -41,8 +41,8 @@ unfolding written
 put_value-returns-in_ok-push-in-Atom-clause-ok t c =
     let old = c.args.out.now.items in
     let whole : tree c.args.value.now ≡ atom c.in-Atom.x = ap tree c.in-Atom.is ∙ tree-Atom c.in-Atom.x in
-    let mid : c.push.new.self.items ≡ old ++ (256 - code_of (kind_of c.in-Atom.x)) ∷ [] = rw (c.in_ok-push-in-Atom.ensures.items, c.from.ensures, c.type_of_kind.ensures.value, c.kind.ensures) refl in
-    ok_then c.put_element.result (λ e. e ∙ rw mid (append-push old (256 - code_of (kind_of c.in-Atom.x)) (element_bytes c.in-Atom.x)) ∙ ap (λ (v : Tree). old ++ written v) (sym whole)) c.put_element.ensures.ok
+    let mid : c.push.new.self.items ≡ old ++ (256 - type_number (kind_of c.in-Atom.x)) ∷ [] = rw (c.in_ok-push-in-Atom.ensures.items, c.from.ensures, c.type_number.ensures.value, c.kind.ensures) refl in
+    ok_then c.put_element.result (λ e. e ∙ rw mid (append-push old (256 - type_number (kind_of c.in-Atom.x)) (element_bytes c.in-Atom.x)) ∙ ap (λ (v : Tree). old ++ written v) (sym whole)) c.put_element.ensures.ok
 
 pub put_value-returns-in_ok-put_head-in-List-clause-ok : goal.put_value-returns-in_ok-put_head-in-List-clause-ok
 unfolding written

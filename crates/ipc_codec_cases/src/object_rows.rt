@@ -1,21 +1,12 @@
-use super::*;
-use q_values::{Atom, Value};
-use std::alloc::Global;
-use std::test::Fail;
+//! Objects of each type, in both byte orders.
 
-// Reads an object and writes it: how many bytes were read, and what was written.
-fn written_again(alloc: Global, bytes: &[u8], order: Order) -> Result<(usize, Vec<u8>), Fail> {
-    let (value, count) = decode(alloc, bytes, order)?;
-    let mut out = Vec::new(alloc);
-    encode(&mut out, &value)?;
-    Ok((count, out))
-}
+use ipc_codec::Order;
 
-// An object in one order, and how it is written.
-type Row = (&'static str, Order, &'static [u8], &'static [u8]);
+/// A name, an object in one byte order, and its canonical encoding.
+pub type Row = (&'static str, Order, &'static [u8], &'static [u8]);
 
-// Atoms of each kind.
-fn atoms() -> [Row; 30] {
+/// Atoms of each kind.
+pub fn atoms() -> [Row; 30] {
     [
         ("boolean atom", Order::Little, b"\xff\x01", b"\xff\x01"),
         ("boolean atom", Order::Big, b"\xff\x01", b"\xff\x01"),
@@ -140,8 +131,8 @@ fn atoms() -> [Row; 30] {
     ]
 }
 
-// Vectors of each kind.
-fn vectors() -> [Row; 28] {
+/// Vectors of each kind.
+pub fn vectors() -> [Row; 28] {
     [
         (
             "boolean vector",
@@ -314,8 +305,8 @@ fn vectors() -> [Row; 28] {
     ]
 }
 
-// Everything else, and spellings that are not the written one.
-fn compounds() -> [Row; 25] {
+/// Everything else, and encodings that are not the canonical one.
+pub fn compounds() -> [Row; 25] {
     [
         (
             "empty long vector",
@@ -438,241 +429,4 @@ fn compounds() -> [Row; 25] {
             b"\x01\0\x03\0\0\0\0\x01\x01",
         ),
     ]
-}
-
-// The first row that is read or written otherwise.
-fn first_wrong(alloc: Global, rows: &[Row]) -> Result<Option<&'static str>, Fail> {
-    for (name, order, bytes, written) in rows {
-        let (count, out) = written_again(alloc, bytes, *order)?;
-        let is_measured = measure(bytes, *order) == Ok(count);
-        if count != bytes.len() || !is_measured || out.as_slice() != *written {
-            return Ok(Some(*name));
-        }
-    }
-    Ok(None)
-}
-
-#[test]
-fn published_messages_decode(rt: HostRuntime) -> Result<(), Fail> {
-    let messages: [&[u8]; 4] = [
-        b"\x01\0\0\0\x0d\0\0\0\xfa\x01\0\0\0",
-        b"\x01\0\0\0\x12\0\0\0\x06\0\x01\0\0\0\x01\0\0\0",
-        b"\x01\0\0\0!\0\0\0c\x0b\0\x02\0\0\0a\0b\0\x06\0\x02\0\0\0\x02\0\0\0\x03\0\0\0",
-        b"\x01\0\0\0/\0\0\0b\0c\x0b\0\x02\0\0\0a\0b\0\0\0\x02\0\0\0\x06\0\x01\0\0\0\x02\0\0\0\x06\0\x01\0\0\0\x03\0\0\0",
-    ];
-    for message in messages {
-        let object = &message[8..];
-        let (count, out) = written_again(rt.alloc(), object, Order::Little)?;
-        assert_eq!(rt; count, object.len());
-        assert_eq!(rt; out.as_slice(), object);
-    }
-    let (value, _) = decode(rt.alloc(), &messages[0][8..], Order::Little)?;
-    assert!(rt; matches!(value, Value::Atom(Atom::Integer(1))));
-    let (value, _) = decode(rt.alloc(), &messages[3][8..], Order::Little)?;
-    match value {
-        Value::Table(table) => {
-            assert_eq!(rt; table.names.len(), 2);
-            assert_eq!(rt; table.columns.len(), 2);
-        }
-        _ => return Err(Fail::from("a table")),
-    }
-    Ok(())
-}
-
-#[test]
-fn each_object_in_both_orders(rt: HostRuntime) -> Result<(), Fail> {
-    assert_eq!(rt; first_wrong(rt.alloc(), &atoms())?, None);
-    assert_eq!(rt; first_wrong(rt.alloc(), &vectors())?, None);
-    assert_eq!(rt; first_wrong(rt.alloc(), &compounds())?, None);
-    Ok(())
-}
-
-#[test]
-fn each_refusal_with_its_place(rt: HostRuntime) {
-    let rows: [(&str, Order, &[u8], DecodeRefusal); 38] = [
-        ("nothing", Order::Little, b"", DecodeRefusal::Truncated(0)),
-        (
-            "a count past the end",
-            Order::Little,
-            b"\x07\0\xff\xff\xff\x7f",
-            DecodeRefusal::Truncated(6),
-        ),
-        (
-            "a negative count",
-            Order::Little,
-            b"\x07\0\xff\xff\xff\xff",
-            DecodeRefusal::BadShape(2),
-        ),
-        (
-            "a count in the other order",
-            Order::Big,
-            b"\x07\0\x01\0\0\0\0\0\0\0\0\0\0\0",
-            DecodeRefusal::Truncated(14),
-        ),
-        (
-            "half a count",
-            Order::Little,
-            b"\x07\0\xff\xff\xff",
-            DecodeRefusal::Truncated(5),
-        ),
-        (
-            "a half long",
-            Order::Little,
-            b"\xf9\x01\x02\x03",
-            DecodeRefusal::Truncated(4),
-        ),
-        (
-            "a symbol without its end",
-            Order::Little,
-            b"\xf5abc",
-            DecodeRefusal::Truncated(4),
-        ),
-        (
-            "an error without its end",
-            Order::Little,
-            b"\x80abc",
-            DecodeRefusal::Truncated(4),
-        ),
-        (
-            "a list whose items run past its end",
-            Order::Little,
-            b"\0\0\x02\0\0\0e\0",
-            DecodeRefusal::Truncated(8),
-        ),
-        (
-            "101 alone",
-            Order::Little,
-            b"e",
-            DecodeRefusal::Truncated(1),
-        ),
-        (
-            "101 and 1",
-            Order::Little,
-            b"e\x01",
-            DecodeRefusal::NotBuilt(0),
-        ),
-        (
-            "a guid",
-            Order::Little,
-            b"\xfe\0\0\0\0\0\0\0\0\0\0\0\0\0\0\0\0",
-            DecodeRefusal::NotBuilt(0),
-        ),
-        (
-            "a float vector",
-            Order::Little,
-            b"\x09\0\0\0\0\0",
-            DecodeRefusal::NotBuilt(0),
-        ),
-        (
-            "a float in a list",
-            Order::Little,
-            b"\0\0\x02\0\0\0e\0\xf7\0\0\0\0\0\0\0\0",
-            DecodeRefusal::NotBuilt(8),
-        ),
-        (
-            "an enumeration",
-            Order::Little,
-            b"\x14\0\0\0\0\0",
-            DecodeRefusal::NotBuilt(0),
-        ),
-        ("97", Order::Little, b"a", DecodeRefusal::NotBuilt(0)),
-        ("100", Order::Little, b"d\0", DecodeRefusal::NotBuilt(0)),
-        ("112", Order::Little, b"p", DecodeRefusal::NotBuilt(0)),
-        ("-20", Order::Little, b"\xec", DecodeRefusal::NotBuilt(0)),
-        ("-97", Order::Little, b"\x9f", DecodeRefusal::NotBuilt(0)),
-        ("3", Order::Little, b"\x03", DecodeRefusal::BadType(0)),
-        ("-3", Order::Little, b"\xfd", DecodeRefusal::BadType(0)),
-        ("113", Order::Little, b"q", DecodeRefusal::BadType(0)),
-        ("126", Order::Little, b"~", DecodeRefusal::BadType(0)),
-        ("-98", Order::Little, b"\x9e", DecodeRefusal::BadType(0)),
-        ("-127", Order::Little, b"\x81", DecodeRefusal::BadType(0)),
-        (
-            "a table without its dictionary",
-            Order::Little,
-            b"b\0\x0b\0\0\0\0\0",
-            DecodeRefusal::BadShape(2),
-        ),
-        (
-            "names that are no symbols",
-            Order::Little,
-            b"b\0c\x0a\0\0\0\0\0",
-            DecodeRefusal::BadShape(3),
-        ),
-        (
-            "columns that are no list",
-            Order::Little,
-            b"b\0c\x0b\0\0\0\0\0\x06",
-            DecodeRefusal::BadShape(9),
-        ),
-        (
-            "a table without columns",
-            Order::Little,
-            b"b\0c\x0b\0\0\0\0\0\0\0\0\0\0\0",
-            DecodeRefusal::BadShape(0),
-        ),
-        (
-            "a column that is an atom",
-            Order::Little,
-            b"b\0c\x0b\0\x01\0\0\0a\0\0\0\x01\0\0\0\xfa\x01\0\0\0",
-            DecodeRefusal::NotBuilt(17),
-        ),
-        (
-            "more names than columns",
-            Order::Little,
-            b"b\0c\x0b\0\x02\0\0\0a\0b\0\0\0\x01\0\0\0\x06\0\0\0\0\0",
-            DecodeRefusal::BadShape(0),
-        ),
-        (
-            "columns of two lengths",
-            Order::Little,
-            b"b\0c\x0b\0\x02\0\0\0a\0b\0\0\0\x02\0\0\0\x04\0\x01\0\0\0\x01\x04\0\0\0\0\0",
-            DecodeRefusal::BadShape(0),
-        ),
-        (
-            "a dictionary of two lengths",
-            Order::Little,
-            b"c\x04\0\x01\0\0\0\x01\x04\0\0\0\0\0",
-            DecodeRefusal::BadShape(0),
-        ),
-        (
-            "tables of two lengths",
-            Order::Little,
-            b"cb\0c\x0b\0\x01\0\0\0a\0\0\0\x01\0\0\0\x06\0\x01\0\0\0\x02\0\0\0b\0c\x0b\0\x01\0\0\0a\0\0\0\x01\0\0\0\x06\0\0\0\0\0",
-            DecodeRefusal::BadShape(0),
-        ),
-        (
-            "65 lists",
-            Order::Little,
-            b"\0\0\x01\0\0\0\0\0\x01\0\0\0\0\0\x01\0\0\0\0\0\x01\0\0\0\0\0\x01\0\0\0\0\0\x01\0\0\0\0\0\x01\0\0\0\0\0\x01\0\0\0\0\0\x01\0\0\0\0\0\x01\0\0\0\0\0\x01\0\0\0\0\0\x01\0\0\0\0\0\x01\0\0\0\0\0\x01\0\0\0\0\0\x01\0\0\0\0\0\x01\0\0\0\0\0\x01\0\0\0\0\0\x01\0\0\0\0\0\x01\0\0\0\0\0\x01\0\0\0\0\0\x01\0\0\0\0\0\x01\0\0\0\0\0\x01\0\0\0\0\0\x01\0\0\0\0\0\x01\0\0\0\0\0\x01\0\0\0\0\0\x01\0\0\0\0\0\x01\0\0\0\0\0\x01\0\0\0\0\0\x01\0\0\0\0\0\x01\0\0\0\0\0\x01\0\0\0\0\0\x01\0\0\0\0\0\x01\0\0\0\0\0\x01\0\0\0\0\0\x01\0\0\0\0\0\x01\0\0\0\0\0\x01\0\0\0\0\0\x01\0\0\0\0\0\x01\0\0\0\0\0\x01\0\0\0\0\0\x01\0\0\0\0\0\x01\0\0\0\0\0\x01\0\0\0\0\0\x01\0\0\0\0\0\x01\0\0\0\0\0\x01\0\0\0\0\0\x01\0\0\0\0\0\x01\0\0\0\0\0\x01\0\0\0\0\0\x01\0\0\0\0\0\x01\0\0\0\0\0\x01\0\0\0\0\0\x01\0\0\0\0\0\x01\0\0\0\0\0\x01\0\0\0\0\0\x01\0\0\0\0\0\x01\0\0\0\0\0\x01\0\0\0\0\0\x01\0\0\0\0\0\x01\0\0\0\0\0\x01\0\0\0\0\0\x01\0\0\0\0\0\x01\0\0\0\0\0\0\0\0\0",
-            DecodeRefusal::TooDeep(384),
-        ),
-        (
-            "64 lists and no more bytes",
-            Order::Little,
-            b"\0\0\x01\0\0\0\0\0\x01\0\0\0\0\0\x01\0\0\0\0\0\x01\0\0\0\0\0\x01\0\0\0\0\0\x01\0\0\0\0\0\x01\0\0\0\0\0\x01\0\0\0\0\0\x01\0\0\0\0\0\x01\0\0\0\0\0\x01\0\0\0\0\0\x01\0\0\0\0\0\x01\0\0\0\0\0\x01\0\0\0\0\0\x01\0\0\0\0\0\x01\0\0\0\0\0\x01\0\0\0\0\0\x01\0\0\0\0\0\x01\0\0\0\0\0\x01\0\0\0\0\0\x01\0\0\0\0\0\x01\0\0\0\0\0\x01\0\0\0\0\0\x01\0\0\0\0\0\x01\0\0\0\0\0\x01\0\0\0\0\0\x01\0\0\0\0\0\x01\0\0\0\0\0\x01\0\0\0\0\0\x01\0\0\0\0\0\x01\0\0\0\0\0\x01\0\0\0\0\0\x01\0\0\0\0\0\x01\0\0\0\0\0\x01\0\0\0\0\0\x01\0\0\0\0\0\x01\0\0\0\0\0\x01\0\0\0\0\0\x01\0\0\0\0\0\x01\0\0\0\0\0\x01\0\0\0\0\0\x01\0\0\0\0\0\x01\0\0\0\0\0\x01\0\0\0\0\0\x01\0\0\0\0\0\x01\0\0\0\0\0\x01\0\0\0\0\0\x01\0\0\0\0\0\x01\0\0\0\0\0\x01\0\0\0\0\0\x01\0\0\0\0\0\x01\0\0\0\0\0\x01\0\0\0\0\0\x01\0\0\0\0\0\x01\0\0\0\0\0\x01\0\0\0\0\0\x01\0\0\0\0\0\x01\0\0\0\0\0\x01\0\0\0\0\0\x01\0\0\0\0\0\x01\0\0\0\0\0\x01\0\0\0\0\0\x01\0\0\0\0\0\x01\0\0\0",
-            DecodeRefusal::Truncated(384),
-        ),
-        (
-            "a table whose columns are too deep",
-            Order::Little,
-            b"\0\0\x01\0\0\0\0\0\x01\0\0\0\0\0\x01\0\0\0\0\0\x01\0\0\0\0\0\x01\0\0\0\0\0\x01\0\0\0\0\0\x01\0\0\0\0\0\x01\0\0\0\0\0\x01\0\0\0\0\0\x01\0\0\0\0\0\x01\0\0\0\0\0\x01\0\0\0\0\0\x01\0\0\0\0\0\x01\0\0\0\0\0\x01\0\0\0\0\0\x01\0\0\0\0\0\x01\0\0\0\0\0\x01\0\0\0\0\0\x01\0\0\0\0\0\x01\0\0\0\0\0\x01\0\0\0\0\0\x01\0\0\0\0\0\x01\0\0\0\0\0\x01\0\0\0\0\0\x01\0\0\0\0\0\x01\0\0\0\0\0\x01\0\0\0\0\0\x01\0\0\0\0\0\x01\0\0\0\0\0\x01\0\0\0\0\0\x01\0\0\0\0\0\x01\0\0\0\0\0\x01\0\0\0\0\0\x01\0\0\0\0\0\x01\0\0\0\0\0\x01\0\0\0\0\0\x01\0\0\0\0\0\x01\0\0\0\0\0\x01\0\0\0\0\0\x01\0\0\0\0\0\x01\0\0\0\0\0\x01\0\0\0\0\0\x01\0\0\0\0\0\x01\0\0\0\0\0\x01\0\0\0\0\0\x01\0\0\0\0\0\x01\0\0\0\0\0\x01\0\0\0\0\0\x01\0\0\0\0\0\x01\0\0\0\0\0\x01\0\0\0\0\0\x01\0\0\0\0\0\x01\0\0\0\0\0\x01\0\0\0\0\0\x01\0\0\0\0\0\x01\0\0\0\0\0\x01\0\0\0\0\0\x01\0\0\0\0\0\x01\0\0\0\0\0\x01\0\0\0\0\0\x01\0\0\0b\0c\x0b\0\x01\0\0\0a\0\0\0\x01\0\0\0\x06\0\x01\0\0\0\x02\0\0\0",
-            DecodeRefusal::TooDeep(383),
-        ),
-    ];
-    for (name, order, bytes, refusal) in rows {
-        assert_eq!(rt; measure(bytes, order), Err(refusal), "{name}");
-        assert_eq!(rt;
-            decode(rt.alloc(), bytes, order).err(),
-            Some(refusal),
-            "{name}"
-        );
-    }
-}
-
-#[test]
-fn nothing_behind_an_object_is_read(rt: HostRuntime) -> Result<(), Fail> {
-    let (value, count) = decode(rt.alloc(), b"\xff\x01\x03", Order::Little)?;
-    assert!(rt; matches!(value, Value::Atom(Atom::Boolean(true))));
-    assert_eq!(rt; count, 2);
-    Ok(())
 }
