@@ -6,7 +6,7 @@ use Rattle.std.proofs.lemmas.Cmp.{nat_list_eq_equiv}
 use Rattle.std.proofs.lemmas.List.Folds.{list_any-append}
 use Rattle.std.proofs.lemmas.Map.Views.{Contains-from_any, list_any-from_Contains}
 use Rattle.std.proofs.lemmas.Slice.Eq.{bytes_eq-Decides}
-use Rattle.q_words.specs.Words.{words, virtual_names, word_in, word_of, is_reserved, NamesAreWords}
+use Rattle.q_words.specs.Words.{words, virtual_names, word_in, reserved_word, is_reserved, NamesAreWords}
 use Rattle.q_words.specs.declared.word.ReservedWord.{ReservedWord}
 
 is_some-word_in : (entries : List (List ℕ × ReservedWord)) (text : List ℕ) → is_some (word_in entries text) ≡ list_any (bytes_eq text) (map (λ (entry : List ℕ × ReservedWord). entry.0) entries)
@@ -16,7 +16,7 @@ is_some-word_in (entry ∷ entries) text =
     [ true ↦ refl | false ↦ is_some-word_in entries text ]
 
 is_reserved-list_any : (name : List ℕ) → is_reserved name ≡ list_any (bytes_eq name) (map (λ (entry : List ℕ × ReservedWord). entry.0) words ++ virtual_names)
-unfolding word_of
+unfolding reserved_word
 is_reserved-list_any name =
     ap (λ v. v || list_any (bytes_eq name) virtual_names) (is_some-word_in words name)
     ∙ sym (list_any-append (bytes_eq name) (map (λ (entry : List ℕ × ReservedWord). entry.0) words) virtual_names)

@@ -24,12 +24,12 @@ word_in [] text = None
 word_in (entry ∷ entries) text = if bytes_eq text entry.0 then Some entry.1 else word_in entries text
 
 -- the reserved word with this text
-unfoldable pub word_of : List ℕ → Option ReservedWord
-word_of text = word_in words text
+unfoldable pub reserved_word : List ℕ → Option ReservedWord
+reserved_word text = word_in words text
 
 -- whether no table and no column may have this name
 abbrev pub is_reserved : List ℕ → Bool
-is_reserved name = is_some (word_of name) || list_any (bytes_eq name) virtual_names
+is_reserved name = is_some (reserved_word name) || list_any (bytes_eq name) virtual_names
 
 -- the reserved names are the texts of the words and the names of the virtual columns
 abbrev pub NamesAreWords : List ℕ → Type 0

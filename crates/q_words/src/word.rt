@@ -1,6 +1,6 @@
 //! The words, and the text of each.
 ghost use Rattle.std.specs.Prelude.{◌≡◌, map};
-ghost use Rattle.q_words.specs.Words.{word_in, word_of};
+ghost use Rattle.q_words.specs.Words.{word_in, reserved_word};
 
 /// A word that queries reserve (KX, Reference card).
 #[derive(Clone, Copy, Debug, PartialEq, Eq)]
@@ -93,9 +93,9 @@ fn find(mut table: &[(&[u8], ReservedWord)], text: &[u8]) -> Option<ReservedWord
 
 impl ReservedWord {
     /// The word with this text, or `None` where no word has it.
-    #[tactic(auto, unfolding(crate::specs::Words::word_of))]
+    #[tactic(auto, unfolding(crate::specs::Words::reserved_word))]
     pub fn from_text(text: &[u8]) -> Option<ReservedWord>
-        ensures { result ≡ word_of text.now }
+        ensures { result ≡ reserved_word text.now }
     {
         find(&WORDS, text)
     }
