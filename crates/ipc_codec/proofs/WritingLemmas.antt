@@ -33,6 +33,26 @@ pub ruleset begins = (Begins-same, Begins-append, Begins-then, append_assoc)
 
 -- ---- elements
 
+pub element_bytes-byte : (kind : ByteKind) (x : ℕ) → element_bytes (byte_atom kind x) ≡ x ∷ []
+element_bytes-byte b.Byte x = refl
+element_bytes-byte b.Character x = refl
+
+pub element_bytes-integer : (kind : IntegerKind) (x : ℤ) → element_bytes (integer_atom kind x) ≡ little_bytes 4 (cast_unsigned w32 x)
+element_bytes-integer i.Integer x = refl
+element_bytes-integer i.Month x = refl
+element_bytes-integer i.Date x = refl
+element_bytes-integer i.Minute x = refl
+element_bytes-integer i.Second x = refl
+element_bytes-integer i.Time x = refl
+
+pub element_bytes-long : (kind : LongKind) (x : ℤ) → element_bytes (long_atom kind x) ≡ little_bytes 8 (cast_unsigned w64 x)
+element_bytes-long l.Long x = refl
+element_bytes-long l.Timestamp x = refl
+element_bytes-long l.Timespan x = refl
+
+-- what an element is written as, by how it is stored
+pub ruleset stored = (begins, element_bytes-byte, element_bytes-integer, element_bytes-long)
+
 flat_map-map : {X : Type 0} (f : X → Atom) (xs : List X) → flat_map element_bytes (map f xs) ≡ flat_map (λ x. element_bytes (f x)) xs
 flat_map-map f [] = refl
 flat_map-map f (x ∷ xs) = ap (λ r. element_bytes (f x) ++ r) (flat_map-map f xs)

@@ -9,7 +9,7 @@ ghost use Rattle.ipc_codec.specs.Appends.{Begins};
 ghost use Rattle.ipc_codec.specs.Written.{head, text_bytes, element_bytes, vector_bytes, grid_bytes, written, written_items, Fits, AllFit, GridFits, IsPlain};
 
 use byteorder::{ByteOrder, LittleEndian};
-use q_values::{Atom, Column, NoMemory, Sym, Symbols, TableValue, Value, Values, Vector};
+use q_values::{Atom, Column, Element, NoMemory, Sym, Symbols, TableValue, Value, Values, Vector};
 
 // A type byte, the attribute byte 0 and a count.
 fn put_head(out: &mut Vec<u8>, code: u8, count: usize) -> Result<(), NoMemory>
@@ -163,23 +163,18 @@ fn put_table(out: &mut Vec<u8>, table: &TableValue) -> Result<(), NoMemory>
 }
 
 // An atom's element.
-#[tactic(auto, using(crate::proofs::WritingLemmas::begins))]
+#[tactic(auto, using(crate::proofs::WritingLemmas::stored))]
 fn put_element(out: &mut Vec<u8>, x: &Atom) -> Result<(), NoMemory>
     ensures ok { OnOk result (out.new.items ≡ out.old.items ++ element_bytes x.now) }
     ensures err { OnErr result (Begins out.old.items out.new.items) }
 {
-    match x {
-        Atom::Boolean(x) => Ok(out.push(byte_of(*x))?),
-        Atom::Byte(x) | Atom::Character(x) => Ok(out.push(*x)?),
-        Atom::Short(x) => put_short(out, x),
-        Atom::Integer(x)
-        | Atom::Month(x)
-        | Atom::Date(x)
-        | Atom::Minute(x)
-        | Atom::Second(x)
-        | Atom::Time(x) => put_integer(out, x),
-        Atom::Long(x) | Atom::Timestamp(x) | Atom::Timespan(x) => put_long(out, x),
-        Atom::Symbol(x) => put_text(out, x.bytes()),
+    match x.element() {
+        Element::Boolean(x) => Ok(out.push(byte_of(x))?),
+        Element::Byte(_, x) => Ok(out.push(x)?),
+        Element::Short(x) => put_short(out, x),
+        Element::Integer(_, x) => put_integer(out, x),
+        Element::Long(_, x) => put_long(out, x),
+        Element::Symbol(x) => put_text(out, x.bytes()),
     }
 }
 

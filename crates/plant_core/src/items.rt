@@ -207,33 +207,12 @@ pub fn wrong_column(kinds: &[Kind], first: &Value, others: &[Value]) -> Option<u
     wrong_from(1, &kinds[1..], others)
 }
 
-fn copy_atom(alloc: Global, atom: &Atom) -> Result<Atom, NoMemory>
-    ensures { IfOk result (λ copied. copied ≡ atom.now) }
-{
-    match atom {
-        Atom::Boolean(x) => Ok(Atom::Boolean(*x)),
-        Atom::Byte(x) => Ok(Atom::Byte(*x)),
-        Atom::Short(x) => Ok(Atom::Short(*x)),
-        Atom::Integer(x) => Ok(Atom::Integer(*x)),
-        Atom::Long(x) => Ok(Atom::Long(*x)),
-        Atom::Character(x) => Ok(Atom::Character(*x)),
-        Atom::Symbol(symbol) => Ok(Atom::Symbol(Sym::copied(alloc, symbol.bytes())?)),
-        Atom::Timestamp(x) => Ok(Atom::Timestamp(*x)),
-        Atom::Month(x) => Ok(Atom::Month(*x)),
-        Atom::Date(x) => Ok(Atom::Date(*x)),
-        Atom::Timespan(x) => Ok(Atom::Timespan(*x)),
-        Atom::Minute(x) => Ok(Atom::Minute(*x)),
-        Atom::Second(x) => Ok(Atom::Second(*x)),
-        Atom::Time(x) => Ok(Atom::Time(*x)),
-    }
-}
-
 // A column of one atom.
 fn single(alloc: Global, atom: &Atom) -> Result<Vector, NoMemory>
     ensures { IfOk result (λ v. v ≡ record { kind = kind_of atom.now; atoms = atom.now ∷ [] }) }
 {
     let mut vector = Vector::new(alloc, atom.kind());
-    if vector.push(copy_atom(alloc, atom)?).is_err() {
+    if vector.push(atom.copy(alloc)?).is_err() {
         return Err(NoMemory);
     }
     Ok(vector)

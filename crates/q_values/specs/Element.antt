@@ -11,10 +11,10 @@ use Rattle.q_values.specs.declared.kind.Kind.TheVariants as k
 abbrev pub element_atom : Element → Atom
 element_atom (e.Boolean x) = a.Boolean x
 element_atom (e.Byte kind x) = byte_atom kind x
-element_atom (e.Short x) = a.Short x
-element_atom (e.Integer kind x) = integer_atom kind x
-element_atom (e.Long kind x) = long_atom kind x
-element_atom (e.Symbol x) = a.Symbol x
+element_atom (e.Short x) = a.Short x.now
+element_atom (e.Integer kind x) = integer_atom kind x.now
+element_atom (e.Long kind x) = long_atom kind x.now
+element_atom (e.Symbol x) = a.Symbol x.now
 
 -- its kind
 abbrev pub element_kind : Element → Kind
