@@ -29,6 +29,6 @@ mod state;
 pub use journal::Journal;
 pub use laws::reads_in_one_way;
 pub use payload::Payload;
-pub use records::Records;
+pub use records::{Records, RecordsIter};
 pub use refusal::JournalRefusal;
 pub use state::State;

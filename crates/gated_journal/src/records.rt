@@ -1,5 +1,5 @@
 //! The payloads of a journal's records, all in one vector of bytes.
-ghost use Rattle.std.specs.Prelude.{◌≡◌, ◌==◌, ◌<◌, ◌+◌, ◌≤◌, ◌++◌, [], ◌∷◌, Some, slice_get, take, drop, length, OnOk, OnErr};
+ghost use Rattle.std.specs.Prelude.{◌≡◌, ◌==◌, ◌<◌, ◌+◌, ◌≤◌, ◌++◌, [], ◌∷◌, Some, slice_get, option_copied, take, drop, length, OnOk, OnErr};
 ghost use Rattle.gated_journal.specs.Records.{payloads_in, AreInside};
 
 use q_values::NoMemory;
@@ -78,6 +78,23 @@ impl Records {
         part(self.bytes.as_slice(), span.start, span.len)
     }
 
+    /// Lends the payload at the index `i`, if there is one.
+    pub fn get(&self, i: usize) -> Option<&[u8]>
+        ensures { option_copied result ≡ slice_get self.now i }
+    {
+        if i < self.len() { Some(self.at(i)) } else { None }
+    }
+
+    /// Goes over the payloads, in order.
+    pub fn iter(&self) -> RecordsIter<'_>
+        ensures { result ≡ self.now }
+    {
+        RecordsIter {
+            records: self,
+            next: 0,
+        }
+    }
+
     /// Puts a payload at the end. A refused call changes nothing.
     pub fn push(&mut self, payload: &[u8]) -> Result<(), NoMemory>
         ensures ok { OnOk result (self.new ≡ self.old ++ payload.now ∷ []) }
@@ -90,6 +107,42 @@ impl Records {
             len: payload.len(),
         })?;
         Ok(())
+    }
+}
+
+/// The payloads that are left to go over.
+#[derive(Drop)]
+pub struct RecordsIter<'a> {
+    records: &'a Records,
+    // The index of the payload that comes next; their number where none is left.
+    next: usize,
+}
+
+impl<'a> Model for RecordsIter<'a> {
+    ghost use Rattle.std.specs.Prelude.{ℕ, List, drop};
+
+    ghost Value = { List (List ℕ) };
+
+    ghost view = { λ it. drop it.next it.records.now };
+}
+
+impl<'a> Iterator for RecordsIter<'a> {
+    ghost use Rattle.std.specs.Iterator.{item_count, YieldsFirstRef};
+
+    type Item = &'a [u8];
+
+    ghost next_gives = { YieldsFirstRef (λ rest. rest) };
+
+    ghost remaining = { item_count (λ rest. rest) };
+
+    fn next(&mut self) -> Option<&'a [u8]> {
+        let records = self.records;
+        if self.next >= records.len() {
+            return None;
+        }
+        let payload = records.at(self.next);
+        self.next += 1;
+        Some(payload)
     }
 }
 

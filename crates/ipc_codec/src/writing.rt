@@ -174,7 +174,7 @@ fn put_element(out: &mut Vec<u8>, x: &Atom) -> Result<(), NoMemory>
         Element::Short(x) => put_short(out, x),
         Element::Integer(_, x) => put_integer(out, x),
         Element::Long(_, x) => put_long(out, x),
-        Element::Symbol(x) => put_text(out, x.bytes()),
+        Element::Symbol(x) => put_text(out, x),
     }
 }
 

@@ -2,11 +2,12 @@
 ghost use Rattle.std.specs.Prelude.{◌≡◌, ◌≢◌, ◌==◌, ◌<◌, ◌+◌, ◌≤◌, [], ◌∷◌, ◌++◌, length, map, take, drop, Some, slice_get};
 ghost use Rattle.std.specs.Prelude.{OnOk, OnErr, IfOk, IfErr, IfSome, IfNone, All};
 ghost use Rattle.q_values.specs.Atom.{kind_of};
+ghost use Rattle.q_values.specs.Element.{element_atom, HasNoNulInText};
 ghost use Rattle.q_values.specs.Lists.{gathered};
 ghost use Rattle.q_values.specs.Order.{IsOrder, atom_cmp};
 ghost use Rattle.q_values.specs.Refusal.{RefusesKinds};
 
-use crate::atom::Atom;
+use crate::atom::{Atom, Element};
 use crate::column::Column;
 use crate::kind::Kind;
 use crate::refusal::{NoMemory, VectorRefusal};
@@ -65,7 +66,26 @@ impl Vector {
         self.column.is_empty()
     }
 
-    /// The atom at the index `i`.
+    /// The atom at the index `i`, lent: its kind among those of its width, and its value at that width.
+    pub fn element(&self, i: usize) -> Element<'_>
+        requires { i < length self.now.atoms }
+        ensures value { slice_get self.now.atoms i ≡ Some (element_atom result) }
+        ensures no_nul { HasNoNulInText result }
+    {
+        self.column.element(i)
+    }
+
+    /// Goes over the atoms, lent, in order.
+    pub fn iter(&self) -> VectorIter<'_>
+        ensures { result ≡ self.now.atoms }
+    {
+        VectorIter {
+            vector: self,
+            next: 0,
+        }
+    }
+
+    /// The atom at the index `i`, copied.
     pub fn at(&self, alloc: Global, i: usize) -> Result<Atom, NoMemory>
         requires { i < length self.now.atoms }
         ensures { IfOk result (λ atom. slice_get self.now.atoms i ≡ Some atom) }
@@ -165,5 +185,43 @@ impl Vector {
         ensures { contents result.now ≡ self.now }
     {
         &self.column
+    }
+}
+
+/// The atoms of a vector that are left to go over, lent.
+#[derive(Drop)]
+pub struct VectorIter<'a> {
+    vector: &'a Vector,
+    // The index of the atom that comes next; their number where none is left.
+    next: usize,
+}
+
+impl<'a> Model for VectorIter<'a> {
+    ghost use Rattle.std.specs.Prelude.{List, drop};
+    ghost use Rattle.q_values.specs.declared.atom.Atom.{Atom};
+
+    ghost Value = { List Atom };
+
+    ghost view = { λ it. drop it.next it.vector.now.atoms };
+}
+
+impl<'a> Iterator for VectorIter<'a> {
+    ghost use Rattle.std.specs.Iterator.{item_count, YieldsFirstBy};
+    ghost use Rattle.q_values.specs.Element.{element_atom};
+
+    type Item = Element<'a>;
+
+    ghost next_gives = { YieldsFirstBy element_atom (λ rest. rest) };
+
+    ghost remaining = { item_count (λ rest. rest) };
+
+    fn next(&mut self) -> Option<Element<'a>> {
+        let vector = self.vector;
+        if self.next >= vector.len() {
+            return None;
+        }
+        let element = vector.element(self.next);
+        self.next += 1;
+        Some(element)
     }
 }

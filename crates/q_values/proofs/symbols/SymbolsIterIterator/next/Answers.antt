@@ -1,0 +1,12 @@
+use Rattle.std.proofs.Common.{arith, ◌<◌, ◌+◌, ◌∷◌, ◌∙◌, ap, sym, drop, length}
+use Rattle.std.proofs.lemmas.List.{drop_more}
+use Rattle.std.proofs.lemmas.Option.{get_or_from_slice_get}
+use Rattle.q_values.proofs.symbols.SymbolsIterIterator.next.Goals as goal
+
+pub returns-clause-steps : goal.returns-clause-steps
+returns-clause-steps c =
+    let all = c.self.inside.symbols.now in
+    let i = c.self.inside.next in
+    let x = c.at-symbol.result.now in
+    let i_in : i < length all = omega (arith, c.len.ensures, c.if-self-len.false) in
+    sym c.self.view_is ∙ drop_more all i x i_in ∙ ap (λ y. y ∷ drop (i + 1) all) (get_or_from_slice_get all i x x c.at-symbol.ensures.value)
