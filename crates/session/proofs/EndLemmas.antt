@@ -17,18 +17,18 @@ use Rattle.q_values.specs.declared.limits.Limits.{Limits}
 use Rattle.q_values.specs.declared.turn.Turn.{Turn}
 use Rattle.session.specs.Ended.{Converses, Rests, IsBad, SpendsIdles, WasOpenAt, NeedsNoRead}
 use Rattle.session.specs.Heard.{Hears, greeting_heard, messages_heard}
-use Rattle.session.specs.Run.{World}
+use Rattle.session.specs.Run.{World, world}
 use Rattle.session.specs.Served.{Event}
 use Rattle.session.specs.Served as s
 use Rattle.session.specs.Session.{IsSession, HasCause, HasNoFault, LeavesNone, ReadsNothing, events_of}
 use Rattle.session.specs.declared.end.End.{End}
 use Rattle.session.specs.declared.end.End.TheVariants as e
-use Rattle.session.proofs.StepLemmas.{world, works-none}
+use Rattle.session.proofs.StepLemmas.{works-none}
 use Rattle.session.proofs.ToldLemmas.{moved-none}
 
 -- ---- what was heard is the front of a stream
 
--- without a greeting nothing was heard
+-- without a handshake nothing was heard
 unheard_yet : (limits : Limits) (place : ℕ) (heard : List ℕ) (events : List Event) → Hears limits false place heard events false → (heard ≡ []) × (greeting_heard events ≡ None) × (messages_heard events ≡ [])
 unheard_yet limits place heard [] h = (h.0, refl, refl)
 unheard_yet limits place heard (s.greeted c ∷ events) h = absurd (stays_greeted limits (place + length h.0) h.1 events h.4)
@@ -41,14 +41,14 @@ unheard_yet limits place heard (s.greeted c ∷ events) h = absurd (stays_greete
 unheard_yet limits place heard (s.asked m ∷ events) h = absurd h
 unheard_yet limits place heard (s.idled ∷ events) h = unheard_yet limits place heard events h
 
--- behind the greeting messages were heard
+-- after the handshake messages were heard
 heard_frames : (limits : Limits) (place : ℕ) (heard : List ℕ) (events : List Event) → Hears limits true place heard events true → Frames limits place heard (messages_heard events)
 heard_frames limits place heard [] h = h.0
 heard_frames limits place heard (s.greeted c ∷ events) h = absurd h
 heard_frames limits place heard (s.asked m ∷ events) h = (h.0, h.1, h.2, h.3, heard_frames limits (place + length h.0) h.1 events h.4)
 heard_frames limits place heard (s.idled ∷ events) h = heard_frames limits place heard events h
 
--- the greeting, and the messages behind it
+-- the handshake, and the messages after it
 pub record Greeted (limits : Limits) (heard : List ℕ) (events : List Event) : Type 0 where
   pub capability : ℕ
   pub greeting : List ℕ
@@ -116,7 +116,7 @@ pub record Read (limits : Limits) (end : End) (heard rest : List ℕ) (events : 
   pub all : LeavesNone end unserved
   pub cause : HasCause limits end ending idled
 
--- bytes before a whole greeting
+-- bytes before a whole handshake
 ungreeted_stream : (limits : Limits) (heard rest : List ℕ) (events : List Event) (x : Ending) → Hears limits false 0 heard events false → HasNoNul (take (limits.greeting + 1) rest) → x ≡ ungreeted limits (length rest) → IsStream limits (heard ++ rest) (greeting_heard events) (messages_heard events ++ []) x
 ungreeted_stream limits heard rest events x h clean is =
     let none = unheard_yet limits 0 heard events h in
@@ -162,7 +162,7 @@ bad_read limits false heard rest events code at idled h f few =
       cause = (limits.greeting, refl, f.3 ∙ ap told_place z, few);
     }
 
--- nothing is left, whether the greeting was heard or not
+-- nothing is left, whether the handshake was heard or not
 none_needed : (limits : Limits) (greeted : Bool) → IsNeeded limits greeted []
 none_needed limits true = tt
 none_needed limits false = record { no_nul = All-nil (λ y. 0 < y); short = omega arith }

@@ -15,12 +15,13 @@ use Rattle.session.specs.Acting.{Acts, IsUnservedBy, IsShortBy, Finishes}
 use Rattle.session.specs.Arrival.{ReaderView, Arrives, HoldsMessage, heard_by}
 use Rattle.session.specs.Heard.{Hears}
 use Rattle.session.specs.Reply.{response, reply, replied}
-use Rattle.session.specs.Run.{Advances}
+use Rattle.session.specs.Ended.{Goes}
+use Rattle.session.specs.Run.{world, Advances}
 use Rattle.session.specs.Served.{greeted, asked, Deed, Serves, ServesContent, IsUnserved}
 use Rattle.session.specs.declared.end.End.{End}
 use Rattle.session.specs.declared.reader.Arrival.TheVariants as r
 use Rattle.session.proofs.ServedLemmas.{Idles, advances_idle, tells_unserved, tells_short, unserved_turn}
-use Rattle.session.proofs.StepLemmas.{Goes, world, heard_step}
+use Rattle.session.proofs.StepLemmas.{heard_step}
 use Rattle.session.proofs.ToldLemmas.{told-nil}
 
 -- a turn for which the access wasn't asked
@@ -38,7 +39,7 @@ acts_still l l' k n n' a Done turn sent result idles done noted finished = recor
   link = finished;
 }
 
--- the greeting that is held was heard
+-- the handshake that is held was heard
 hears_greeting : (limits : Limits) (g : Bool) (place : ℕ) (held : List ℕ) (c : ℕ) → g ≡ false → IsGreeting limits held c → Hears limits g place held (greeted c ∷ []) true
 hears_greeting limits false place held c e h = (held, [], sym (append-nil held), h, (refl, refl))
 hears_greeting limits true place held c e h = absurd cc

@@ -1,4 +1,4 @@
--- Parts of a session, one behind the other.
+-- Consecutive parts of a session.
 use Rattle.std.proofs.Common.{◌≡◌, ◌+◌, ℕ, Bool, true, false, List, [], ◌∷◌, ◌++◌, length, All, cond, refl, sym, ap, subst, ◌∙◌, arith, append_assoc, inl, inr}
 use Rattle.std.specs.List.{count_by}
 use Rattle.std.proofs.lemmas.List.{length-append}
@@ -16,7 +16,7 @@ use Rattle.session.specs.Heard.{Hears, idles_heard}
 use Rattle.session.specs.Lawful.{AllGoOn, length_after, last_length, is_answered, is_quiet}
 use Rattle.session.specs.Request.{Request, update, mistyped, text, other, request_of}
 use Rattle.session.specs.Run.{World, Works, Advances, turns_of, made_in}
-use Rattle.session.specs.Served.{Event, greeted, asked, idled, Deed, Step, StandsBehind, Serves, ServesContent, ServesRequest, ServesText, ServesIdle, IsIdle, IsStep}
+use Rattle.session.specs.Served.{Event, greeted, asked, idled, Deed, Step, StandsAfter, Serves, ServesContent, ServesRequest, ServesText, ServesIdle, IsIdle, IsStep}
 use Rattle.session.proofs.GoingLemmas.{at_most, just, go_on-lower}
 use Rattle.session.proofs.ToldLemmas.{told-told, counted-counted, tells-append}
 
@@ -48,7 +48,7 @@ idles-append (idled ∷ es) fs = let e = idles-append es fs in omega arith
 front-more : (n : ℕ) (front seen more : List Entry) → IsFront n front seen → IsFront n front (seen ++ more)
 front-more n front seen more h = record { count = h.count; more = h.more ++ more; whole = ap (λ l. l ++ more) h.whole ∙ append_assoc front h.more more }
 
-stands-more : (front made seen more : List Entry) → StandsBehind front made seen → StandsBehind front made (seen ++ more)
+stands-more : (front made seen more : List Entry) → StandsAfter front made seen → StandsAfter front made (seen ++ more)
 stands-more front made seen more h = record { more = h.more ++ more; whole = ap (λ l. l ++ more) h.whole ∙ append_assoc (front ++ made) h.more more }
 
 text-more : (frame : Frame) (seen more : List Entry) (sync : Bool) (bytes : List ℕ) (deed : Deed) → ServesText frame seen sync bytes deed → ServesText frame (seen ++ more) sync bytes deed

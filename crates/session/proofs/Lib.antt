@@ -1,3 +1,4 @@
+pub mod DeviceLemmas
 pub mod EndLemmas
 pub mod EventLemmas
 pub mod GoingLemmas

@@ -11,27 +11,27 @@ use Rattle.session.specs.Arrival.{HoldsMessage, HoldsOutside}
 use Rattle.session.specs.Reading.{Gathered}
 use Rattle.session.specs.declared.reader.Arrival.TheVariants.{More}
 
--- what is left of a part of a piece behind the bytes that were taken
+-- what is left of a part of a piece after the bytes that were taken
 pub left_over : (from to t : ℕ) (p : List ℕ) → from ≤ to → t ≤ length (take (to - from) (drop from p)) → take t (take (to - from) (drop from p)) ++ take (to - (from + t)) (drop (from + t) p) ≡ take (to - from) (drop from p)
 left_over from to t p rising within =
     let size = length-take (to - from) (drop from p) in
     let whole : to - from ≡ t + (to - (from + t)) = omega arith in
     let rest : drop t (take (t + (to - (from + t))) (drop from p)) ≡ take (to - (from + t)) (drop t (drop from p)) = drop-take t (to - (from + t)) (drop from p) in
     let moved : drop t (drop from p) ≡ drop (from + t) p = drop-drop t from p in
-    let behind : drop t (take (to - from) (drop from p)) ≡ take (to - (from + t)) (drop (from + t) p) = ap (λ n. drop t (take n (drop from p))) whole ∙ rest ∙ ap (λ l. take (to - (from + t)) l) moved in
-    ap (λ l. take t (take (to - from) (drop from p)) ++ l) (sym behind) ∙ take-append-drop t (take (to - from) (drop from p))
+    let after : drop t (take (to - from) (drop from p)) ≡ take (to - (from + t)) (drop (from + t) p) = ap (λ n. drop t (take n (drop from p))) whole ∙ rest ∙ ap (λ l. take (to - (from + t)) l) moved in
+    ap (λ l. take t (take (to - from) (drop from p)) ++ l) (sym after) ∙ take-append-drop t (take (to - from) (drop from p))
 
--- bytes that were taken stand behind those that were held
+-- bytes that were taken follow those that were held
 pub taken_over : (held : List ℕ) (from to t : ℕ) (p : List ℕ) → from ≤ to → t ≤ length (take (to - from) (drop from p)) → held ++ take (to - from) (drop from p) ≡ (held ++ take t (take (to - from) (drop from p))) ++ take (to - (from + t)) (drop (from + t) p)
 taken_over held from to t p rising within =
     sym (append_assoc held (take t (take (to - from) (drop from p))) (take (to - (from + t)) (drop (from + t) p)) ∙ ap (λ l. held ++ l) (left_over from to t p rising within))
 
 -- something is taken of bytes that are there, where more is needed
 takes_some : (N : List ℕ → Type 0) (held piece : List ℕ) (t : ℕ) → Takes N held piece t → N held → 0 < length piece → 0 < t
-takes_some N held piece zero takes needed some = absurd (takes.behind some (subst N (sym (append-nil held)) needed))
+takes_some N held piece zero takes needed some = absurd (takes.enough some (subst N (sym (append-nil held)) needed))
 takes_some N held piece (suc t) takes needed some = omega arith
 
--- bytes that were taken are more behind those that were held
+-- with bytes that were taken, more are held
 holds_more : (held piece : List ℕ) (t : ℕ) → t ≤ length piece → 0 < t → length held < length (held ++ take t piece)
 holds_more held piece t within some =
     let size = length-append held (take t piece) in
@@ -53,7 +53,7 @@ outside_by : (limits : Limits) (greeted : Bool) (place : ℕ) (held : List ℕ) 
 outside_by limits true place held sync at s = (s.0, (refl, s.1))
 outside_by limits false place held sync at s = absurd s
 
--- what stands next is outside the profile
+-- what comes next is outside the profile
 pub holds_outside : (f : FramerView) (sync : Bool) (at : ℕ) → Stands f (n.NotBuilt sync at) → (k : ℕ) × HoldsOutside f sync k
 holds_outside f sync at s = outside_by f.limits f.greeted f.place f.held sync at s
 
@@ -61,6 +61,6 @@ skipped_by : (limits : Limits) (greeted : Bool) (place : ℕ) (held : List ℕ) 
 skipped_by limits true place held sync s = (s.0, (refl, s.1))
 skipped_by limits false place held sync s = absurd s
 
--- what stands next is a message for whose value memory was wanting
+-- what comes next is a message whose value could not be built
 pub holds_skipped : (f : FramerView) (sync : Bool) → Stands f (n.Skipped sync) → (t : Tree) × HoldsMessage f sync t
 holds_skipped f sync s = skipped_by f.limits f.greeted f.place f.held sync s

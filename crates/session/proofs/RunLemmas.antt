@@ -1,4 +1,4 @@
--- Steps, one behind the other, up to an end.
+-- Consecutive steps, up to an end.
 use Rattle.std.proofs.Common.{◌≡◌, ◌<◌, ◌+◌, ◌⊎◌, ℕ, ℤ, false, List, [], ◌∷◌, ◌++◌, length, map, take, Option, refl, sym, ap, subst, ◌∙◌, arith, append_assoc, inl, inr}
 use Rattle.std.specs.List.{flat_map}
 use Rattle.std.proofs.lemmas.List.{length-append, map-append, append-nil}
@@ -8,14 +8,14 @@ use Rattle.outside_api.specs.Link.{LinkView}
 use Rattle.q_values.specs.declared.limits.Limits.{Limits}
 use Rattle.session.specs.Arrival.{ReaderView, unheard}
 use Rattle.session.specs.Ended.{Runs, Converses, Rests, IsSent, SpendsIdles, WasOpenAt, NeedsNoRead, ended_link}
-use Rattle.session.specs.Run.{World, moved, sent_in}
+use Rattle.session.specs.Run.{World, world, moved, sent_in}
 use Rattle.session.specs.Served.{Event, Step}
 use Rattle.session.specs.declared.end.End.{End}
 use Rattle.session.specs.declared.end.End.TheVariants as e
 use Rattle.session.proofs.JoinLemmas.{hears-append, idles-append, works-append}
 use Rattle.plant_core.specs.Access.{AccessView}
 use Rattle.q_values.specs.declared.turn.Turn.{Turn}
-use Rattle.session.proofs.StepLemmas.{world, works-none}
+use Rattle.session.proofs.StepLemmas.{works-none}
 use Rattle.session.proofs.ToldLemmas.{moved-moved, moved-none}
 
 abbrev pub events : List Step → List Event
@@ -64,8 +64,8 @@ ended-moved : (end : End) (l : LinkView) (g t : List ℕ) (i : ℕ) (g' t' : Lis
 ended-moved end l g t i g' t' i' = ap (ended_link end) (moved-moved l g t i g' t' i')
 
 -- more parts before those that were sent
-sent-append : (end : End) (front behind : List (List ℕ)) (written : List ℕ) → IsSent end behind written → IsSent end (front ++ behind) (flat_map (λ part. part) front ++ written)
-sent-append e.WriteFault front behind written h = record {
+sent-append : (end : End) (front rest : List (List ℕ)) (written : List ℕ) → IsSent end rest written → IsSent end (front ++ rest) (flat_map (λ part. part) front ++ written)
+sent-append e.WriteFault front rest written h = record {
   whole = front ++ h.whole;
   last = h.last;
   count = h.count;
@@ -73,12 +73,12 @@ sent-append e.WriteFault front behind written h = record {
   within = h.within;
   taken = ap (λ l. flat_map (λ part. part) front ++ l) h.taken ∙ sym (append_assoc (flat_map (λ part. part) front) (flat_map (λ part. part) h.whole) (take h.count h.last)) ∙ ap (λ l. l ++ take h.count h.last) (sym (flat_map-append (λ part. part) front h.whole));
 }
-sent-append e.Closed front behind written h = ap (λ l. flat_map (λ part. part) front ++ l) h ∙ sym (flat_map-append (λ part. part) front behind)
-sent-append e.Truncated front behind written h = ap (λ l. flat_map (λ part. part) front ++ l) h ∙ sym (flat_map-append (λ part. part) front behind)
-sent-append (e.BadMessage code at) front behind written h = ap (λ l. flat_map (λ part. part) front ++ l) h ∙ sym (flat_map-append (λ part. part) front behind)
-sent-append e.ReadFault front behind written h = ap (λ l. flat_map (λ part. part) front ++ l) h ∙ sym (flat_map-append (λ part. part) front behind)
-sent-append e.Idle front behind written h = ap (λ l. flat_map (λ part. part) front ++ l) h ∙ sym (flat_map-append (λ part. part) front behind)
-sent-append e.NoMemory front behind written h = ap (λ l. flat_map (λ part. part) front ++ l) h ∙ sym (flat_map-append (λ part. part) front behind)
+sent-append e.Closed front rest written h = ap (λ l. flat_map (λ part. part) front ++ l) h ∙ sym (flat_map-append (λ part. part) front rest)
+sent-append e.Truncated front rest written h = ap (λ l. flat_map (λ part. part) front ++ l) h ∙ sym (flat_map-append (λ part. part) front rest)
+sent-append (e.BadMessage code at) front rest written h = ap (λ l. flat_map (λ part. part) front ++ l) h ∙ sym (flat_map-append (λ part. part) front rest)
+sent-append e.ReadFault front rest written h = ap (λ l. flat_map (λ part. part) front ++ l) h ∙ sym (flat_map-append (λ part. part) front rest)
+sent-append e.Idle front rest written h = ap (λ l. flat_map (λ part. part) front ++ l) h ∙ sym (flat_map-append (λ part. part) front rest)
+sent-append e.NoMemory front rest written h = ap (λ l. flat_map (λ part. part) front ++ l) h ∙ sym (flat_map-append (λ part. part) front rest)
 
 spends-append : (end : End) (x y i j : ℕ) → x ≡ y + i → SpendsIdles end y j → SpendsIdles end x (i + j)
 spends-append e.Closed x y i j e h = omega (arith, e, h)
@@ -112,8 +112,8 @@ sent_is [] = refl
 sent_is (s ∷ steps) = ap (λ l. s.deed.sent ++ l) (sent_is steps)
 
 -- steps and then an end
-pub converses-behind : (limits : Limits) (place : ℕ) (a b c : World) (r s : ReaderView) (x y : ℕ) (end : End) (p : Runs limits place a b r s x y) → Converses limits (place + length p.heard) b c s y end → Converses limits place a c r x end
-converses-behind limits place a b c r s x y end p q =
+pub runs-converses : (limits : Limits) (place : ℕ) (a b c : World) (r s : ReaderView) (x y : ℕ) (end : End) (p : Runs limits place a b r s x y) → Converses limits (place + length p.heard) b c s y end → Converses limits place a c r x end
+runs-converses limits place a b c r s x y end p q =
     let far : place + length p.heard + length q.heard ≡ place + length (p.heard ++ q.heard) = omega (arith, length-append p.heard q.heard) in
     record {
       steps = p.steps ++ q.steps;
@@ -169,4 +169,4 @@ pub goes_on : (limits : Limits) (place : ℕ) (a b c : World) (r s t : ReaderVie
 goes_on limits place a b c r s t x y z p next = runs-append limits place a b c r s t x y z p (next (place + length p.heard) p.placed)
 
 pub goes_to_end : (limits : Limits) (place : ℕ) (a b c : World) (r s : ReaderView) (x y : ℕ) (end : End) → Runs limits place a b r s x y → ((q : ℕ) → s.framer.place ≡ told_place q → Converses limits q b c s y end) → Converses limits place a c r x end
-goes_to_end limits place a b c r s x y end p next = converses-behind limits place a b c r s x y end p (next (place + length p.heard) p.placed)
+goes_to_end limits place a b c r s x y end p next = runs-converses limits place a b c r s x y end p (next (place + length p.heard) p.placed)

@@ -13,13 +13,13 @@ use Rattle.q_values.specs.Table.{IsTable, rows_of}
 use Rattle.q_values.specs.Tree.{Tree, table}
 use Rattle.session.specs.Answer.{select_from, table_asked}
 
--- a text that begins so is compared by what follows
+-- a text that begins with `select from ` is compared by what follows
 pub rest_compared : (bytes rest name : List ℕ) → bytes ≡ codes "select from " ++ rest → bytes_eq rest name ≡ bytes_eq bytes (select_from name)
 rest_compared bytes rest name e = rw e refl
 
--- the shapes from a place on, where one stands there
-behind_place : (schema : List Shape) (i : ℕ) (shape : Shape) → slice_get schema i ≡ Some shape → drop i schema ≡ shape ∷ drop (i + 1) schema
-behind_place schema i shape at =
+-- the shapes from an index on, where one has this index
+drop_at : (schema : List Shape) (i : ℕ) (shape : Shape) → slice_get schema i ≡ Some shape → drop i schema ≡ shape ∷ drop (i + 1) schema
+drop_at schema i shape at =
     let next : suc i ≡ i + 1 = omega arith in
     (rw next at (drop-cons schema i shape (slice_get_within schema i shape at))) ∙ ap (λ s. s ∷ drop (i + 1) schema) (get_or_from_slice_get schema i shape shape at)
 
@@ -30,10 +30,10 @@ cut_text bytes rest front e r =
     sym (take-append-drop (length front) bytes) ∙ rw (same, r) refl
 
 pub not_asked_here : (bytes : List ℕ) (schema : List Shape) (i : ℕ) (shape : Shape) → slice_get schema i ≡ Some shape → bytes_eq bytes (select_from shape.table) ≡ false → table_asked bytes i (drop i schema) ≡ table_asked bytes (i + 1) (drop (i + 1) schema)
-not_asked_here bytes schema i shape at e = ap (λ s. table_asked bytes i s) (behind_place schema i shape at) ∙ rw e refl
+not_asked_here bytes schema i shape at e = ap (λ s. table_asked bytes i s) (drop_at schema i shape at) ∙ rw e refl
 
 pub asked_here : (bytes : List ℕ) (schema : List Shape) (i : ℕ) (shape : Shape) → slice_get schema i ≡ Some shape → bytes_eq bytes (select_from shape.table) ≡ true → table_asked bytes i (drop i schema) ≡ Some (i, shape)
-asked_here bytes schema i shape at e = ap (λ s. table_asked bytes i s) (behind_place schema i shape at) ∙ rw e refl
+asked_here bytes schema i shape at e = ap (λ s. table_asked bytes i s) (drop_at schema i shape at) ∙ rw e refl
 
 -- a table whose counts fit can be written
 pub table_plain : (t : Tree) (names : List (List ℕ)) (columns : List Contents) → t ≡ table (record { names = names; columns = columns }) → IsTable names columns → length columns ≤ 2147483647 → rows_of columns ≤ 2147483647 → IsPlain t

@@ -36,7 +36,7 @@ use Rattle.session.proofs.GoingLemmas.{advances, just}
 use Rattle.session.proofs.MadeLemmas.{AreAt, accepted_at}
 use Rattle.session.proofs.ToldLemmas.{told-nil}
 
--- what the turns of logged entries tell
+-- what the turns of logged entries report
 record Tells (n : ℕ) (now : ℤ) (entries : List Entry) (turns : List Turn) : Type 0 where
   noted : turns ≡ entry_turns n now entries
   each : AllGoOn just n turns
@@ -165,7 +165,7 @@ does_nothing a k Done answer turn roll is idles done =
       done = done;
     }
 
--- a turn that tells no length
+-- a turn that reports no length
 pub tells_declined : (n : ℕ) → Idles n (t.Declined ∷ []) 0 0
 tells_declined n = record { each = (tt, tt); last = refl; answered = omega arith; quiet = omega arith }
 
@@ -210,7 +210,7 @@ pub does_mistyped : (a : AccessView) (k : Option (List ℤ)) (limits : Limits) (
 does_mistyped a k limits sync answer same roll turn answered =
     does_nothing a k (ServesValue a.frame a.by a.seen sync mistyped) answer t.Declined roll turn (tells_declined _) (inl (record { noted = rw (roll, turn) refl; answered = rw same answered; still = record { unread = refl; unmade = refl } }))
 
--- memory was wanting before anything was asked
+-- the session was out of memory before it asked for anything
 pub does_short : (a : AccessView) (k : Option (List ℤ)) (sync : Bool) (request : Request) (answer : Answer) → answer.roll ≡ None → answer.turn ≡ t.Short → sent_by answer.reply ≡ replied sync (response (wrong (codes "wsfull"))) → Does (ServesValue a.frame a.by a.seen sync request) k k a a answer
 does_short a k sync request answer roll turn answered =
     does_nothing a k (ServesValue a.frame a.by a.seen sync request) answer t.Short roll turn (tells_short _ 0 0) (inr (record { noted = rw (roll, turn) refl; answered = answered; read = omega arith; unmade = refl }))
@@ -256,7 +256,7 @@ does_short_text a b k request answer l roll turn answered =
       done = inr (record { noted = turns; answered = answered; read = omega arith; unmade = refl });
     }
 
--- what an idle leaves
+-- what a read timeout leaves
 idle_after : (a b : AccessView) (others : List Entry) → b ≡ record a { seen = a.seen ++ others; ticks = next_count a.ticks } → b ≡ advanced a others [] 0 1
 idle_after a b others after = after ∙ ap (λ m. record a { seen = a.seen ++ others; mine = m; ticks = next_count a.ticks }) (sym (append-nil a.mine))
 

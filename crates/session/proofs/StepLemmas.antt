@@ -18,21 +18,13 @@ use Rattle.ipc_frame.proofs.UniqueLemmas.{front_stays}
 use Rattle.ipc_frame.specs.Stream.{fault}
 use Rattle.ipc_frame.specs.declared.bad.Bad.{Bad}
 use Rattle.session.specs.Arrival.{ReaderView, Gathers, Waits, HoldsFault, heard_by, unheard}
-use Rattle.session.specs.Ended.{Runs, Converses, IsBad}
+use Rattle.session.specs.Ended.{Runs, Converses, Goes, IsBad}
 use Rattle.session.specs.Heard.{Hears, idles_heard}
-use Rattle.session.specs.Run.{World, Works, Advances, moved}
+use Rattle.session.specs.Run.{World, world, Works, Advances, moved}
 use Rattle.session.specs.Served.{Event, idled, Step, Serves, IsStep}
 use Rattle.session.specs.declared.end.End.{End}
 use Rattle.session.specs.declared.end.End.TheVariants as e
 use Rattle.session.proofs.ToldLemmas.{told-nil, moved-none}
-
--- what the devices show
-abbrev pub world : LinkView → Option (List ℤ) → Option (List Turn) → AccessView → World
-world link clock notes access = record { link = link; clock = clock; notes = notes; access = access }
-
--- a session goes on, or ends
-abbrev pub Goes : Limits → ℕ → World → World → ReaderView → ReaderView → ℕ → ℕ → Option End → Type 0
-Goes limits place a b r s left left' result = MatchOption result (Runs limits place a b r s left left') (λ end. Converses limits place a b r left end)
 
 -- nothing was done
 pub advances-none : (a : AccessView) → Advances a a [] []
@@ -67,9 +59,9 @@ works-one a b s clock notes access serves = record {
   served = All-cons (IsStep a.access.frame a.access.by b.access.seen) s [] serves (All-nil (IsStep a.access.frame a.access.by b.access.seen));
 }
 
--- a place is told behind bytes as it was before them
-told_behind : (p place n : ℕ) → p ≡ told_place place → told_place (p + n) ≡ told_place (place + n)
-told_behind p place n e = omega arith
+-- an offset after n bytes more is reported as the one before them was
+told_after : (p place n : ℕ) → p ≡ told_place place → told_place (p + n) ≡ told_place (place + n)
+told_after p place n e = omega arith
 
 -- what was held was heard, and served
 pub heard_step : (limits : Limits) (place : ℕ) (a b : World) (r s : ReaderView) (left : ℕ) (event : Event) (result : Option End)
@@ -89,7 +81,7 @@ heard_step limits place a b r s left event None same at some is hears none acts 
   bytes = append-nil (unheard r) ∙ ap (λ (v : ReaderView). r.framer.held ++ unheard v) (sym is);
   hears = subst (λ (v : ReaderView). Hears limits r.framer.greeted place r.framer.held (event ∷ []) v.framer.greeted) (sym is) hears;
   limits_same = ap (λ (v : ReaderView). v.framer.limits) is ∙ same;
-  placed = ap (λ (v : ReaderView). v.framer.place) is ∙ told_behind r.framer.place place (length r.framer.held) at;
+  placed = ap (λ (v : ReaderView). v.framer.place) is ∙ told_after r.framer.place place (length r.framer.held) at;
   counted = none;
   idles = omega arith;
   some = some;
@@ -141,7 +133,7 @@ more_step limits place l l' k n a r s left same at some g =
       opened = opened_by l g.given g.opened;
     }
 
--- an idle hears no byte
+-- a read timeout hears no byte
 hears_idle : (limits : Limits) (g h : Bool) (place : ℕ) → h ≡ g → Hears limits g place [] (idled ∷ []) h
 hears_idle limits true h place e = (refl, e)
 hears_idle limits false h place e = (refl, e)
@@ -156,16 +148,16 @@ all_held r none = append-nil (unheard r) ∙ ap (λ l. r.framer.held ++ l) none 
 idle_link : (l : LinkView) (sent : List ℕ) → sent ≡ [] → record l { idles = counted l.idles 1 } ≡ moved l [] (sent ++ []) 1
 idle_link l sent none = rw (none, told-nil l.given, told-nil l.taken) refl
 
--- the link was idle, and that was served
-pub idle_step : (limits : Limits) (place : ℕ) (l l' : LinkView) (k k' : Option (List ℤ)) (n n' : Option (List Turn)) (a a' : AccessView) (r s : ReaderView) (left left' : ℕ) → r.framer.limits ≡ limits → r.framer.place ≡ told_place place → l' ≡ record l { idles = counted l.idles 1 } → l.ended ≡ false → Waits r s → IdlesBy a a' k k' n n' → left ≡ left' + 1 → 0 < left' → Runs limits place (world l k n a) (world l' k' n' a') r s left left'
-idle_step limits place l l' k k' n n' a a' r s left left' same at moved_on still w acts once some =
+-- a read timed out, and that was served
+pub idle_step : (limits : Limits) (place : ℕ) (l m l' : LinkView) (k k' : Option (List ℤ)) (n n' : Option (List Turn)) (a a' : AccessView) (r s : ReaderView) (left left' : ℕ) → r.framer.limits ≡ limits → r.framer.place ≡ told_place place → m ≡ record l { idles = counted l.idles 1 } → l.ended ≡ false → Waits r s → IdlesBy (world m k n a) (world l' k' n' a') → left ≡ left' + 1 → 0 < left' → Runs limits place (world l k n a) (world l' k' n' a') r s left left'
+idle_step limits place l m l' k k' n n' a a' r s left left' same at moved_on still w acts once some =
     let z : place ≡ place + 0 = omega arith in
     record {
       steps = record { event = idled; deed = acts.deed } ∷ [];
       heard = [];
       given = [];
       idled = 1;
-      link = moved_on ∙ idle_link l acts.deed.sent acts.done.unsent;
+      link = acts.link ∙ moved_on ∙ idle_link l acts.deed.sent acts.done.unsent;
       works = works-one (world l k n a) (world l' k' n' a') (record { event = idled; deed = acts.deed }) acts.clock acts.notes acts.access acts.done;
       bytes = append-nil (unheard r) ∙ ap unheard (sym w.same);
       hears = hears_idle limits r.framer.greeted s.framer.greeted place (ap (λ (v : ReaderView). v.framer.greeted) w.same);
@@ -177,9 +169,9 @@ idle_step limits place l l' k k' n n' a a' r s left left' same at moved_on still
       opened = inr still;
     }
 
--- the last idle
-pub idle_end : (limits : Limits) (place : ℕ) (l l' : LinkView) (k k' : Option (List ℤ)) (n n' : Option (List Turn)) (a a' : AccessView) (r s : ReaderView) (left left' : ℕ) → r.framer.limits ≡ limits → l' ≡ record l { idles = counted l.idles 1 } → l.ended ≡ false → Waits r s → IdlesBy a a' k k' n n' → left ≡ left' + 1 → left' ≡ 0 → Converses limits place (world l k n a) (world l' k' n' a') r left e.Idle
-idle_end limits place l l' k k' n n' a a' r s left left' same moved_on still w acts once last =
+-- the last read timeout
+pub idle_end : (limits : Limits) (place : ℕ) (l m l' : LinkView) (k k' : Option (List ℤ)) (n n' : Option (List Turn)) (a a' : AccessView) (r s : ReaderView) (left left' : ℕ) → r.framer.limits ≡ limits → m ≡ record l { idles = counted l.idles 1 } → l.ended ≡ false → Waits r s → IdlesBy (world m k n a) (world l' k' n' a') → left ≡ left' + 1 → left' ≡ 0 → Converses limits place (world l k n a) (world l' k' n' a') r left e.Idle
+idle_end limits place l m l' k k' n n' a a' r s left left' same moved_on still w acts once last =
     record {
       steps = record { event = idled; deed = acts.deed } ∷ [];
       heard = [];
@@ -188,7 +180,7 @@ idle_end limits place l l' k k' n n' a a' r s left left' same moved_on still w a
       written = [];
       idled = 1;
       greeted = r.framer.greeted;
-      link = moved_on ∙ rw (told-nil l.given, told-nil l.taken) refl;
+      link = acts.link ∙ moved_on ∙ rw (told-nil l.given, told-nil l.taken) refl;
       works = works-one (world l k n a) (world l' k' n' a') (record { event = idled; deed = acts.deed }) acts.clock acts.notes acts.access acts.done;
       bytes = all_held r w.taken;
       hears = hears_idle limits r.framer.greeted r.framer.greeted place refl;
@@ -203,10 +195,10 @@ idle_end limits place l l' k k' n n' a a' r s left left' same moved_on still w a
 
 bad_rests : (limits : Limits) (greeted : Bool) (place p : ℕ) (held pending : List ℕ) (code : Bad) (at : ℕ) → p ≡ told_place place → HoldsFault (record { limits = limits; greeted = greeted; place = p; held = held }) code at → IsBad limits greeted (place + 0) (held ++ pending) code at
 bad_rests limits true place p held pending code at e h =
-    (h.0, front_stays limits held pending (fault code h.0) tt h.1, h.2 ∙ told_behind p place h.0 e ∙ let z : place + h.0 ≡ place + 0 + h.0 = omega arith in ap told_place z)
+    (h.0, front_stays limits held pending (fault code h.0) tt h.1, h.2 ∙ told_after p place h.0 e ∙ let z : place + h.0 ≡ place + 0 + h.0 = omega arith in ap told_place z)
 bad_rests limits false place p held pending code at e h =
     let size = h.0.long in
-    (too_long limits held pending h.0, omega (arith, length-append held pending, size), h.1, h.2 ∙ told_behind p place limits.greeting e ∙ let z : place + limits.greeting ≡ place + 0 + limits.greeting = omega arith in ap told_place z)
+    (too_long limits held pending h.0, omega (arith, length-append held pending, size), h.1, h.2 ∙ told_after p place limits.greeting e ∙ let z : place + limits.greeting ≡ place + 0 + limits.greeting = omega arith in ap told_place z)
 
 pub bad_end : (limits : Limits) (place : ℕ) (l l' : LinkView) (k : Option (List ℤ)) (n : Option (List Turn)) (a : AccessView) (r : ReaderView) (left : ℕ) (code : Bad) (at : ℕ) → r.framer.limits ≡ limits → r.framer.place ≡ told_place place → 0 < left → l' ≡ l → HoldsFault r.framer code at → Converses limits place (world l k n a) (world l' k n a) r left (e.BadMessage code at)
 bad_end limits place l l' k n a r left code at same told_at some moved_on held = record {
@@ -291,7 +283,7 @@ input_end limits place l l' k n a r s left false same some moved_on iff w = reco
   opened = inr tt;
 }
 
--- an idle was served, perhaps the last
-pub idle_goes : (limits : Limits) (place : ℕ) (l l' : LinkView) (k k' : Option (List ℤ)) (n n' : Option (List Turn)) (a a' : AccessView) (r s : ReaderView) (left left' : ℕ) (result : Option End) → r.framer.limits ≡ limits → r.framer.place ≡ told_place place → l' ≡ record l { idles = counted l.idles 1 } → l.ended ≡ false → Waits r s → IdlesBy a a' k k' n n' → left ≡ left' + 1 → MatchOption result (0 < left') (λ end. (end ≡ e.Idle) × (left' ≡ 0)) → Goes limits place (world l k n a) (world l' k' n' a') r s left left' result
-idle_goes limits place l l' k k' n n' a a' r s left left' None same at moved_on still w acts once some = idle_step limits place l l' k k' n n' a a' r s left left' same at moved_on still w acts once some
-idle_goes limits place l l' k k' n n' a a' r s left left' (Some end) same at moved_on still w acts once last = subst (λ x. Converses limits place (world l k n a) (world l' k' n' a') r left x) (sym last.0) (idle_end limits place l l' k k' n n' a a' r s left left' same moved_on still w acts once last.1)
+-- a read timeout was served, perhaps the last
+pub idle_goes : (limits : Limits) (place : ℕ) (l m l' : LinkView) (k k' : Option (List ℤ)) (n n' : Option (List Turn)) (a a' : AccessView) (r s : ReaderView) (left left' : ℕ) (result : Option End) → r.framer.limits ≡ limits → r.framer.place ≡ told_place place → m ≡ record l { idles = counted l.idles 1 } → l.ended ≡ false → Waits r s → IdlesBy (world m k n a) (world l' k' n' a') → left ≡ left' + 1 → MatchOption result (0 < left') (λ end. (end ≡ e.Idle) × (left' ≡ 0)) → Goes limits place (world l k n a) (world l' k' n' a') r s left left' result
+idle_goes limits place l m l' k k' n n' a a' r s left left' None same at moved_on still w acts once some = idle_step limits place l m l' k k' n n' a a' r s left left' same at moved_on still w acts once some
+idle_goes limits place l m l' k k' n n' a a' r s left left' (Some end) same at moved_on still w acts once last = subst (λ x. Converses limits place (world l k n a) (world l' k' n' a') r left x) (sym last.0) (idle_end limits place l m l' k k' n n' a a' r s left left' same moved_on still w acts once last.1)

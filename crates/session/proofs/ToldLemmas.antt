@@ -1,4 +1,4 @@
--- What is told in parts, and counts that rise in parts.
+-- What devices tell in two parts, and counts that rise in two steps.
 use Rattle.std.proofs.Common.{◌≡◌, ◌+◌, ℕ, zero, suc, List, [], ◌++◌, refl, sym, ap, ◌∙◌, arith, Option, Some, None, append_assoc}
 use Rattle.std.proofs.lemmas.List.{append-nil}
 use Rattle.outside_api.specs.Counts.{counted, next_count}

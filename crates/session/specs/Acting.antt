@@ -1,5 +1,5 @@
--- What is done with one event.
-use Rattle.std.specs.Prelude.{◌≡◌, ◌≤◌, ℕ, ℤ, Bool, if◌then◌else◌, List, [], ◌∷◌, length, take, codes, Option, Some, None}
+-- What a session does with one event.
+use Rattle.std.specs.Prelude.{◌≡◌, ◌≤◌, ℕ, Bool, if◌then◌else◌, List, [], ◌∷◌, length, take, codes, Option, Some, None}
 use Rattle.outside_api.specs.Counts.{counted}
 use Rattle.outside_api.specs.Link.{LinkView}
 use Rattle.outside_api.specs.Told.{told, Tells}
@@ -9,12 +9,11 @@ use Rattle.q_values.specs.declared.turn.Turn.{Turn}
 use Rattle.q_values.specs.declared.turn.Turn.TheVariants as t
 use Rattle.session.specs.Reply.{response, reply, replied}
 use Rattle.session.specs.Run.{World, Advances}
-use Rattle.plant_core.specs.Access.{AccessView}
 use Rattle.session.specs.Served.{Deed, ServesIdle}
 use Rattle.session.specs.declared.end.End.{End}
 use Rattle.session.specs.declared.end.End.TheVariants.{WriteFault}
 
--- the bytes were taken, or a front part of them, and then the session ends
+-- all the bytes were written; or a prefix of them, and then the session ends
 abbrev pub Finishes : LinkView → LinkView → List ℕ → Option End → Type 0
 Finishes old new sent None = new ≡ record old { taken = told old.taken sent }
 Finishes old new sent (Some end) =
@@ -35,22 +34,24 @@ NotesRoll old new None = new ≡ old
 NotesRoll old new (Some roll) = Tells old new (roll ∷ [])
 
 -- one turn was noted, and these bytes were sent
-pub record IsAnsweredBy (turn : Turn) (sent : List ℕ) (link_old link_new : LinkView) (notes_old notes_new : Option (List Turn)) (end : Option End) : Type 0 where
+pub record IsAnsweredBy (turn : Turn) (sent : List ℕ) (link_old link_new : LinkView)
+    (notes_old notes_new : Option (List Turn)) (end : Option End) : Type 0 where
   pub noted : Tells notes_old notes_new (turn ∷ [])
   pub finished : Finishes link_old link_new sent end
 
--- a message outside the profile was answered
+-- a message outside the profile was served
 abbrev pub IsUnservedBy : Limits → Bool → LinkView → LinkView → Option (List Turn) → Option (List Turn) → Option End → Type 0
 IsUnservedBy limits sync = IsAnsweredBy (if sync then t.Declined else t.Passed) (replied sync (reply limits (wrong (codes "nyi"))))
 
--- want of memory was answered
+-- a message for which the session was out of memory was served
 abbrev pub IsShortBy : Bool → LinkView → LinkView → Option (List Turn) → Option (List Turn) → Option End → Type 0
 IsShortBy sync = IsAnsweredBy t.Short (replied sync (response (wrong (codes "wsfull"))))
 
--- an idle was served: the clock was read, the access went on, and its turns were noted
-pub record IdlesBy (a b : AccessView) (clock_old clock_new : Option (List ℤ)) (notes_old notes_new : Option (List Turn)) : Type 0 where
+-- a read timeout was served: the clock was read, the access went on, and its turns were noted; nothing was sent
+pub record IdlesBy (a b : World) : Type 0 where
   pub deed : Deed
-  pub done : ServesIdle a.frame a.by b.seen deed
-  pub clock : clock_new ≡ told clock_old deed.readings
-  pub access : Advances a b deed.turns deed.made
-  pub notes : Tells notes_old notes_new deed.turns
+  pub done : ServesIdle a.access.frame a.access.by b.access.seen deed
+  pub clock : b.clock ≡ told a.clock deed.readings
+  pub access : Advances a.access b.access deed.turns deed.made
+  pub notes : Tells a.notes b.notes deed.turns
+  pub link : b.link ≡ a.link

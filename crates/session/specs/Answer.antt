@@ -16,7 +16,7 @@ use Rattle.q_values.specs.declared.kind.Kind.TheVariants as k
 abbrev pub select_from : List ℕ → List ℕ
 select_from name = codes "select from " ++ name
 
--- the virtual first column: the date of each row
+-- the virtual first column: the date of each row (KX, partitioned tables)
 abbrev pub dates_of_rows : List Row → Contents
 dates_of_rows rows = record { kind = k.Date; atoms = map (λ row. a.Date row.date) rows }
 
@@ -24,7 +24,7 @@ dates_of_rows rows = record { kind = k.Date; atoms = map (λ row. a.Date row.dat
 abbrev pub shown : Shape → List Row → Grid
 shown shape rows = record { names = codes "date" ∷ shape.names; columns = dates_of_rows rows ∷ columns_from 0 shape.kinds rows }
 
--- the table that a text asks for, with its place, counted from a place on
+-- the table that a text asks for, with its index, the first shape having this index
 abbrev pub table_asked : List ℕ → ℕ → List Shape → Option (ℕ × Shape)
 table_asked asked place [] = None
 table_asked asked place (shape ∷ shapes) = if bytes_eq asked (select_from shape.table) then Some (place, shape) else table_asked asked (place + 1) shapes

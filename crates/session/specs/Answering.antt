@@ -1,4 +1,4 @@
--- What answering a message changes, and its turns and bytes.
+-- What answering a message changes, notes and sends.
 use Rattle.std.specs.Prelude.{◌≡◌, ◌⊎◌, ℕ, ℤ, Bool, List, [], ◌∷◌, codes, slice_get, Option, Some, None}
 use Rattle.day_rows.specs.declared.entry.Entry.{Entry}
 use Rattle.outside_api.specs.Told.{told}
@@ -29,18 +29,18 @@ abbrev pub sent_by : Option Reply → List ℕ
 sent_by None = []
 sent_by (Some reply) = reply_bytes reply
 
--- the turn of a roll at a place
+-- the turn of a roll that stands at an index of the chronicle
 abbrev pub roll_turn : Option ℕ → ℤ → Option Turn
 roll_turn None now = None
 roll_turn (Some place) now = Some (t.Rolled place now)
 
--- the answer where memory was wanting
+-- the answer where the session was out of memory
 pub record AnswersShort (sync : Bool) (answer : Answer) : Type 0 where
   pub roll : answer.roll ≡ None
   pub turn : answer.turn ≡ t.Short
   pub reply : sent_by answer.reply ≡ replied sync (response (wrong (codes "wsfull")))
 
--- the answer to a refused update: the refusal's text; want of memory has none
+-- the answer to a refused update: the text of the refusal; out of memory has none
 pub record AnswersRefused (limits : Limits) (sync : Bool) (count : ℕ) (now : ℤ) (why : UpdRefusal) (answer : Answer) : Type 0 where
   pub roll : answer.roll ≡ None
   pub turn : answer.turn ≡ t.Refused count now
@@ -55,7 +55,7 @@ AnswersRefusal limits sync count now why answer = AnswersRefused limits sync cou
 abbrev pub deed_of : Answer → List ℤ → List Entry → Deed
 deed_of answer readings made = record { turns = turns_by answer.roll answer.turn; sent = sent_by answer.reply; readings = readings; made = made }
 
--- the clock was read, the access went on, and what was done with it is this
+-- the clock was read, the access went on, and the answer is part of a deed of this kind
 pub record Does (Done : Deed → Type 0) (clock_old clock_new : Option (List ℤ)) (old new : AccessView) (answer : Answer) : Type 0 where
   pub readings : List ℤ
   pub made : List Entry
@@ -67,7 +67,7 @@ pub record Does (Done : Deed → Type 0) (clock_old clock_new : Option (List ℤ
 abbrev pub ServesValue : Frame → ℕ → List Entry → Bool → Request → Deed → Type 0
 ServesValue frame by seen sync request deed = ServesRequest frame by seen sync request deed ⊎ IsShort sync deed
 
--- a table that a text asks for stands at this place of the schema; where none does, the text asks for none
+-- the text asks for the table at this index of the schema, or for none
 abbrev pub FindsTable : List Shape → List ℕ → Option ℕ → Type 0
 FindsTable schema bytes (Some place) = (shape : Shape) × (slice_get schema place ≡ Some shape) × (table_asked bytes 0 schema ≡ Some (place, shape))
 FindsTable schema bytes None = table_asked bytes 0 schema ≡ None

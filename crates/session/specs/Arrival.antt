@@ -1,4 +1,4 @@
--- What reading a link gives.
+-- What one step of reading a link gives.
 use Rattle.std.specs.Prelude.{◌≡◌, ◌<◌, ◌+◌, ◌⊎◌, ℕ, Bool, true, false, List, [], ◌++◌, length, MatchBool, IsTrue, ◌↔◌}
 use Rattle.outside_api.specs.Counts.{counted}
 use Rattle.outside_api.specs.Link.{LinkView}
@@ -12,20 +12,20 @@ use Rattle.session.specs.Run.{moved}
 use Rattle.session.specs.declared.reader.Arrival.{Arrival}
 use Rattle.session.specs.declared.reader.Arrival.TheVariants as r
 
--- a reader: what its framer shows, and the bytes that the link gave and the framer hasn't taken
+-- a reader: what its framer shows, and the bytes that were read and that the framer hasn't taken
 pub record ReaderView : Type 0 where
   pub framer : FramerView
   pub pending : List ℕ
 
--- all bytes that the link gave and that were not passed yet
+-- all bytes that were read and are not heard yet
 abbrev pub unheard : ReaderView → List ℕ
 unheard r = r.framer.held ++ r.pending
 
--- a reader whose held bytes were passed
+-- a reader after the bytes that its framer held were heard
 abbrev pub heard_by : ReaderView → ReaderView
 heard_by r = record r { framer = passed r.framer }
 
--- the link gave more, or the framer took more, and nothing was heard
+-- the link gave more bytes, or the framer took more, and nothing was heard
 pub record Gathers (old new : LinkView) (r s : ReaderView) : Type 0 where
   pub given : List ℕ
   pub link : new ≡ moved old given [] 0
@@ -36,7 +36,7 @@ pub record Gathers (old new : LinkView) (r s : ReaderView) : Type 0 where
   pub some : length r.framer.held < length s.framer.held + length given
   pub opened : (given ≡ []) ⊎ (old.ended ≡ false)
 
--- the bytes that are held are a whole message, or something outside the profile
+-- the bytes that are held are a whole message with this value, or one outside the profile
 abbrev pub HoldsMessage : FramerView → Bool → Tree → Type 0
 HoldsMessage f sync t = (f.greeted ≡ true) × (front_of f.limits f.held ≡ whole (length f.held) (record { sync = sync; content = built t }))
 
@@ -50,12 +50,13 @@ HoldsFault f code at =
     ((k : ℕ) × (front_of f.limits f.held ≡ fault code k) × (at ≡ told_place (f.place + k)))
     (IsTooLong f.limits f.held × (code ≡ b.Greeting) × (at ≡ told_place (f.place + f.limits.greeting)))
 
--- the bytes that are held are less than what stands next, and none is left to take
+-- the bytes that are held are a proper prefix of what comes next, and none is left to be taken
 pub record Waits (r s : ReaderView) : Type 0 where
   pub same : s ≡ r
   pub needed : IsNeeded r.framer.limits r.framer.greeted r.framer.held
   pub taken : r.pending ≡ []
 
+-- what a step of reading gives, with the link and the reader before and after it
 abbrev pub Arrives : LinkView → LinkView → ReaderView → ReaderView → Arrival → Type 0
 Arrives old new before after r.More = Gathers old new before after
 Arrives old new before after (r.Greeting capability) =

@@ -1,4 +1,4 @@
--- A chronicle's front parts, and what stands in it.
+-- Prefixes of a chronicle.
 use Rattle.std.specs.Prelude.{◌≡◌, ℕ, List, ◌++◌, length}
 use Rattle.day_rows.specs.declared.entry.Entry.{Entry}
 

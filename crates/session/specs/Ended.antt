@@ -1,5 +1,5 @@
--- How a session, or a part of it, ends.
-use Rattle.std.specs.Prelude.{◌≡◌, ◌≤◌, ◌<◌, ◌+◌, ◌⊎◌, ℕ, Bool, true, false, List, [], ◌∷◌, ◌++◌, length, map, take, MatchBool}
+-- How a session, or the rest of one, ends.
+use Rattle.std.specs.Prelude.{◌≡◌, ◌≤◌, ◌<◌, ◌+◌, ◌⊎◌, ℕ, Bool, true, false, List, [], ◌∷◌, ◌++◌, length, map, take, MatchBool, MatchOption, Option}
 use Rattle.std.specs.List.{flat_map}
 use Rattle.outside_api.specs.Counts.{counted}
 use Rattle.outside_api.specs.Link.{LinkView}
@@ -37,7 +37,7 @@ WasOpenAt WriteFault link = link.ended ≡ false
 WasOpenAt Idle link = link.ended ≡ false
 WasOpenAt NoMemory link = Unit {0}
 
--- the idles that were left are all spent at `Idle`, and else not all
+-- at `Idle` all the read timeouts that were left have come, at another end not all
 abbrev pub SpendsIdles : End → ℕ → ℕ → Type 0
 SpendsIdles Closed left idled = idled < left
 SpendsIdles Truncated left idled = idled < left
@@ -47,14 +47,14 @@ SpendsIdles WriteFault left idled = idled < left
 SpendsIdles Idle left idled = idled ≡ left
 SpendsIdles NoMemory left idled = idled < left
 
--- bytes from a place of the stream on begin with no greeting or message, and have a fault there
+-- the bytes from an offset of the stream on begin with no handshake or message; the fault is at this offset
 abbrev pub IsBad : Limits → Bool → ℕ → List ℕ → Bad → ℕ → Type 0
 IsBad limits greeted place rest code at =
     MatchBool greeted
     ((k : ℕ) × (front_of limits rest ≡ fault code k) × (at ≡ told_place (place + k)))
     (HasNoNul (take (limits.greeting + 1) rest) × (limits.greeting < length rest) × (code ≡ b.Greeting) × (at ≡ told_place (place + limits.greeting)))
 
--- the bytes that were read last and not heard, from a place of the stream on, at each end
+-- the bytes that were read and not heard, from an offset of the stream on, at each end
 abbrev pub Rests : End → Limits → Bool → ℕ → List ℕ → Type 0
 Rests Closed limits greeted place rest = rest ≡ []
 Rests Truncated limits greeted place rest = IsNeeded limits greeted rest × (0 < length rest)
@@ -64,7 +64,7 @@ Rests WriteFault limits greeted place rest = greeted ≡ true
 Rests Idle limits greeted place rest = IsNeeded limits greeted rest
 Rests NoMemory limits greeted place rest = ⊥
 
--- all but the last of the parts were written, and of the last a front part
+-- all parts but the last were written, and a prefix of the last
 pub record IsCut (parts : List (List ℕ)) (written : List ℕ) : Type 0 where
   pub whole : List (List ℕ)
   pub last : List ℕ
@@ -73,7 +73,7 @@ pub record IsCut (parts : List (List ℕ)) (written : List ℕ) : Type 0 where
   pub within : count ≤ length last
   pub taken : written ≡ flat_map (λ part. part) whole ++ take count last
 
--- the parts were written, one behind the other; at `WriteFault` the last of them not whole
+-- the parts were written in order; at `WriteFault` the last of them may be incomplete
 abbrev pub IsSent : End → List (List ℕ) → List ℕ → Type 0
 IsSent WriteFault parts written = IsCut parts written
 IsSent Closed parts written = written ≡ flat_map (λ part. part) parts
@@ -83,7 +83,7 @@ IsSent ReadFault parts written = written ≡ flat_map (λ part. part) parts
 IsSent Idle parts written = written ≡ flat_map (λ part. part) parts
 IsSent NoMemory parts written = written ≡ flat_map (λ part. part) parts
 
--- the end may come without a read more
+-- the end may come without another read
 abbrev pub NeedsNoRead : End → Type 0
 NeedsNoRead Closed = Unit {0}
 NeedsNoRead Truncated = Unit {0}
@@ -93,7 +93,7 @@ NeedsNoRead WriteFault = Unit {0}
 NeedsNoRead Idle = ⊥
 NeedsNoRead NoMemory = ⊥
 
--- some steps of a session, from a place of the stream on
+-- some steps of a session, from an offset of the stream on
 pub record Runs (limits : Limits) (place : ℕ) (a b : World) (r s : ReaderView) (left_old left_new : ℕ) : Type 0 where
   pub steps : List Step
   pub heard : List ℕ
@@ -101,7 +101,7 @@ pub record Runs (limits : Limits) (place : ℕ) (a b : World) (r s : ReaderView)
   pub idled : ℕ
   pub link : b.link ≡ moved a.link given (sent_in steps) idled
   pub works : Works a b steps
-  -- the bytes that were there and came are those that were heard and are left
+  -- the bytes that were left and those that came are those that were heard and those that are left
   pub bytes : unheard r ++ given ≡ heard ++ unheard s
   pub hears : Hears limits r.framer.greeted place heard (map (λ s. s.event) steps) s.framer.greeted
   pub limits_same : s.framer.limits ≡ limits
@@ -111,7 +111,7 @@ pub record Runs (limits : Limits) (place : ℕ) (a b : World) (r s : ReaderView)
   pub some : 0 < left_new
   pub opened : ((given ≡ []) × (idled ≡ 0)) ⊎ (a.link.ended ≡ false)
 
--- steps of a session from a place of the stream on, and then its end
+-- steps of a session from an offset of the stream on, and then its end
 pub record Converses (limits : Limits) (place : ℕ) (a b : World) (r : ReaderView) (left : ℕ) (end : End) : Type 0 where
   pub steps : List Step
   pub heard : List ℕ
@@ -129,3 +129,8 @@ pub record Converses (limits : Limits) (place : ℕ) (a b : World) (r : ReaderVi
   pub counted : idles_heard (map (λ s. s.event) steps) ≡ idled
   pub idles : SpendsIdles end left idled
   pub opened : ((given ≡ []) × (idled ≡ 0) × NeedsNoRead end) ⊎ WasOpenAt end a.link
+
+-- a session goes on after some steps, or ends
+abbrev pub Goes : Limits → ℕ → World → World → ReaderView → ReaderView → ℕ → ℕ → Option End → Type 0
+Goes limits place a b r s left_old left_new result =
+    MatchOption result (Runs limits place a b r s left_old left_new) (λ end. Converses limits place a b r left_old end)

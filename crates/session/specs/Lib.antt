@@ -4,6 +4,7 @@ pub mod Answering
 pub mod Asked
 pub mod Arrival
 pub mod Chronicle
+pub mod Devices
 pub mod Ended
 pub mod Heard
 pub mod Reading

@@ -1,16 +1,16 @@
--- What a reader keeps, and what its own steps give.
+-- What a reader keeps, and what it gives its framer.
 use Rattle.std.specs.Prelude.{◌≡◌, ◌≤◌, ◌<◌, ℕ, length}
 use Rattle.session.specs.Arrival.{ReaderView, unheard}
 use Rattle.session.specs.declared.reader.Arrival.{Arrival}
 use Rattle.session.specs.declared.reader.Arrival.TheVariants.{More}
 
--- a part of the piece is left, and the piece has room
+-- the part of the piece that is left, in a piece that has room
 pub record IsWithin (from to size : ℕ) : Type 0 where
   pub rising : from ≤ to
   pub within : to ≤ size
   pub some : 0 < size
 
--- the framer took bytes of the piece, and nothing was read
+-- the framer took bytes of the piece, and nothing was read from the link
 pub record Gathered (r s : ReaderView) (arrival : Arrival) : Type 0 where
   pub more : arrival ≡ More
   pub limits : s.framer.limits ≡ r.framer.limits

@@ -1,3 +1,4 @@
+-- The responses of the code.
 use Rattle.std.specs.Prelude.{◌≡◌, ℕ, nat_lt, if◌then◌else◌, List, length, codes}
 use Rattle.plant_core.specs.declared.refusal.UpdRefusal.{UpdRefusal}
 use Rattle.plant_core.specs.declared.refusal.UpdRefusal.TheVariants as r
@@ -7,7 +8,7 @@ use Rattle.session.specs.Reply.{response, reply}
 use Rattle.session.specs.declared.reply.Reply.{Reply}
 use Rattle.session.specs.declared.reply.Reply.TheVariants.{Fixed, Made}
 
--- the bytes of a response, wherever they lie
+-- the bytes of a response, constant or encoded
 abbrev pub reply_bytes : Reply → List ℕ
 reply_bytes (Fixed bytes) = bytes.now
 reply_bytes (Made bytes) = bytes.items
@@ -16,7 +17,7 @@ reply_bytes (Made bytes) = bytes.items
 abbrev pub fixed_reply : Limits → List ℕ → List ℕ
 fixed_reply limits bytes = if nat_lt limits.reply (length bytes) then response (wrong (codes "limit")) else bytes
 
--- the response is a refusal's text; want of memory has none
+-- the response is the text of a refusal; out of memory has none
 abbrev pub Refuses : Limits → UpdRefusal → Reply → Type 0
 Refuses limits (r.NoTable name) made = reply_bytes made ≡ reply limits (wrong name)
 Refuses limits r.Length made = reply_bytes made ≡ reply limits (wrong (codes "length"))

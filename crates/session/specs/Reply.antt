@@ -1,4 +1,4 @@
--- The bytes that answer a message.
+-- The bytes of a response (KX, IPC reference).
 use Rattle.std.specs.Prelude.{ℕ, ◌+◌, Bool, nat_lt, if◌then◌else◌, List, [], ◌∷◌, ◌++◌, length, codes}
 use Rattle.std.specs.Int.{w32, to_le_bytes}
 use Rattle.ipc_codec.specs.Written.{written}
@@ -15,7 +15,7 @@ response value = (1 ∷ 2 ∷ 0 ∷ 0 ∷ to_le_bytes w32 (8 + length (written v
 abbrev pub reply : Limits → Tree → List ℕ
 reply limits value = if nat_lt limits.reply (length (response value)) then response (wrong (codes "limit")) else response value
 
--- what is sent: nothing, where nobody waits for a response
+-- what is sent: the response to a sync message, nothing for an async one
 abbrev pub replied : Bool → List ℕ → List ℕ
 replied sync bytes = if sync then bytes else []
 

@@ -8,6 +8,7 @@ use Rattle.q_values.specs.declared.atom.Atom.TheVariants as a
 use Rattle.q_values.specs.declared.kind.Kind.{Kind}
 use Rattle.q_values.specs.declared.kind.Kind.TheVariants as k
 
+-- what a message asks for
 pub data Request : Type 0 where
   -- an update of a table with these items
   update : List ℕ → List Tree → Request
@@ -23,6 +24,7 @@ abbrev pub character_of : Atom → Option ℕ
 character_of (a.Character x) = Some x
 character_of x = None
 
+-- the bytes of a symbol
 abbrev pub name_of : Atom → Option (List ℕ)
 name_of (a.Symbol x) = Some x
 name_of x = None
@@ -54,7 +56,7 @@ abbrev pub update_of : Option (List ℕ) → Option (List Tree) → Request
 update_of (Some name) (Some items) = update name items
 update_of name items = mistyped
 
--- the function that updates call
+-- whether this is the function that an update calls
 abbrev pub is_upd : Option (List ℕ) → Bool
 is_upd None = false
 is_upd (Some function) = bytes_eq function (codes ".u.upd")
@@ -63,7 +65,7 @@ is_upd (Some function) = bytes_eq function (codes ".u.upd")
 abbrev pub call_of : Option (List ℕ) → Tree → Tree → Request
 call_of function second third = if is_upd function then update_of (symbol_of second) (items_in third) else other
 
--- three parts are a call
+-- a list of three items is a call
 abbrev pub parts_request : List Tree → Request
 parts_request (first ∷ second ∷ third ∷ []) = call_of (function_of first) second third
 parts_request parts = other
@@ -79,6 +81,7 @@ abbrev pub atom_request : Option ℕ → Request
 atom_request (Some byte) = text (byte ∷ [])
 atom_request None = other
 
+-- what a message with this value asks for
 abbrev pub request_of : Tree → Request
 request_of (atom x) = atom_request (character_of x)
 request_of (vector v) = vector_request v.kind v.atoms

@@ -1,4 +1,4 @@
--- A part of a session: what its devices showed before and behind it, and the steps in between.
+-- A part of a session: what its devices showed before and after it, and the steps in between.
 use Rattle.std.specs.Prelude.{◌≡◌, ◌≤◌, ℕ, ℤ, true, List, ◌++◌, length, All, count_by, Option}
 use Rattle.std.specs.List.{flat_map}
 use Rattle.day_rows.specs.declared.entry.Entry.{Entry}
@@ -17,16 +17,19 @@ pub record World : Type 0 where
   pub notes : Option (List Turn)
   pub access : AccessView
 
--- a link behind these bytes given, these taken, and so many idles
+abbrev pub world : LinkView → Option (List ℤ) → Option (List Turn) → AccessView → World
+world link clock notes access = record { link = link; clock = clock; notes = notes; access = access }
+
+-- a link after it gave and took these bytes, and timed out n times
 abbrev pub moved : LinkView → List ℕ → List ℕ → ℕ → LinkView
 moved link given taken idled = record link { given = told link.given given; taken = told link.taken taken; idles = counted link.idles idled }
 
--- an access that has seen more of the chronicle, made these entries, and asked so often for a snapshot and for a tick
+-- an access after it saw these entries more, made those, and asked for n snapshots and m ticks
 abbrev pub advanced : AccessView → List Entry → List Entry → ℕ → ℕ → AccessView
 advanced access gained made asked ticked =
     record access { seen = access.seen ++ gained; mine = access.mine ++ made; snapshots = counted access.snapshots asked; ticks = counted access.ticks ticked }
 
--- how the access went on while these turns were noted
+-- how the access changed while these turns were noted
 pub record Advances (a b : AccessView) (turns : List Turn) (made : List Entry) : Type 0 where
   pub gained : List Entry
   pub asked : ℕ
@@ -34,13 +37,13 @@ pub record Advances (a b : AccessView) (turns : List Turn) (made : List Entry) :
   pub after : b ≡ advanced a gained made asked ticked
   -- the lengths never fall, begin at no less than what was seen at first, and end within what is seen
   pub lengths : AreLengths (length a.seen) (length b.seen) turns
-  -- where nobody else makes entries, they are those that the turns made
+  -- where nobody else makes entries, each length is exact
   pub alone : a.alone ≡ true → AreExact (length a.seen) (length b.seen) turns
-  -- no text was answered but over a snapshot of its own, and no idle was quiet without a tick of its own
+  -- each text was answered over a snapshot of its own, and each quiet timeout had a tick of its own
   pub answered : count_by is_answered turns ≤ asked
   pub quiet : count_by is_quiet turns ≤ ticked
 
--- all that was noted, read and made in these steps
+-- all that was noted, read, made and sent in these steps
 abbrev pub turns_of : List Step → List Turn
 turns_of = flat_map (λ s. s.deed.turns)
 

@@ -16,13 +16,13 @@ use Rattle.session.specs.Chronicle.{IsFront}
 use Rattle.session.specs.Reply.{response, reply, replied, refusal_text}
 use Rattle.session.specs.Request.{Request, update, mistyped, text, other, request_of}
 
--- what a session hears: a greeting of this capability, a message, or an idle of its link
+-- what a session hears: a handshake with this capability, a message, or a read timeout
 pub data Event : Type 0 where
   greeted : ℕ → Event
   asked : Message → Event
   idled : Event
 
--- what was done: the turns noted, the bytes sent, the clock's readings, the entries made
+-- what was done with an event: the turns noted, the bytes sent, the readings of the clock, the entries made
 pub record Deed : Type 0 where
   pub turns : List Turn
   pub sent : List ℕ
@@ -34,39 +34,41 @@ pub record Step : Type 0 where
   pub event : Event
   pub deed : Deed
 
--- the entries stand in the chronicle behind this front part
-pub record StandsBehind (front made chronicle : List Entry) : Type 0 where
+-- these entries stand in the chronicle right after this prefix of it
+pub record StandsAfter (front made chronicle : List Entry) : Type 0 where
   pub more : List Entry
   pub whole : chronicle ≡ (front ++ made) ++ more
 
--- the turn of an entry that was made at a place
+-- the turn of an entry that was made at an index
 abbrev pub entry_turn : ℕ → ℤ → Entry → Turn
 entry_turn place now (e.Upd by table columns) = t.Logged place now
 entry_turn place now (e.Roll by date) = t.Rolled place now
 entry_turn place now (e.Fault by) = t.Failed place now
 
--- the turns of entries that were made one behind the other
+-- the turns of consecutive entries, the first at an index
 abbrev pub entry_turns : ℕ → ℤ → List Entry → List Turn
 entry_turns place now [] = []
 entry_turns place now (entry ∷ entries) = entry_turn place now entry ∷ entry_turns (place + 1) now entries
 
--- nothing was made, and no clock read
+-- nothing was made, and the clock was not read
 pub record IsStill (deed : Deed) : Type 0 where
   pub unread : deed.readings ≡ []
   pub unmade : deed.made ≡ []
 
--- an update was logged: what the verdict on it adds stands at its place, and the answer is `(::)`
-pub record IsLogged (frame : Frame) (by : ℕ) (seen : List Entry) (sync : Bool) (table : List ℕ) (items : List Tree) (deed : Deed) : Type 0 where
+-- an update was logged: what the verdict on it adds stands in the chronicle, and the answer is `(::)`
+pub record IsLogged (frame : Frame) (by : ℕ) (seen : List Entry) (sync : Bool)
+    (table : List ℕ) (items : List Tree) (deed : Deed) : Type 0 where
   pub front : List Entry
   pub now : ℤ
   pub accepted : verdict frame by front table items now ≡ accepts deed.made
-  pub stands : StandsBehind front deed.made seen
+  pub stands : StandsAfter front deed.made seen
   pub noted : deed.turns ≡ entry_turns (length front) now deed.made
   pub answered : deed.sent ≡ replied sync (reply frame.limits identity)
   pub read : deed.readings ≡ now ∷ []
 
 -- an update was refused: the answer is the text of the verdict's refusal, and nothing was made
-pub record IsRefused (frame : Frame) (by : ℕ) (seen : List Entry) (sync : Bool) (table : List ℕ) (items : List Tree) (deed : Deed) : Type 0 where
+pub record IsRefused (frame : Frame) (by : ℕ) (seen : List Entry) (sync : Bool)
+    (table : List ℕ) (items : List Tree) (deed : Deed) : Type 0 where
   pub count : ℕ
   pub front : List Entry
   pub is_front : IsFront count front seen
@@ -78,14 +80,14 @@ pub record IsRefused (frame : Frame) (by : ℕ) (seen : List Entry) (sync : Bool
   pub read : deed.readings ≡ now ∷ []
   pub unmade : deed.made ≡ []
 
--- memory was wanting: nothing was made, and the clock was read at most once
+-- out of memory: nothing was made, and the clock was read at most once
 pub record IsShort (sync : Bool) (deed : Deed) : Type 0 where
   pub noted : deed.turns ≡ t.Short ∷ []
   pub answered : deed.sent ≡ replied sync (response (wrong (codes "wsfull")))
   pub read : length deed.readings ≤ 1
   pub unmade : deed.made ≡ []
 
--- a text was answered over the first entries of the chronicle
+-- a text was answered over a prefix of the chronicle
 pub record IsAnswered (frame : Frame) (seen : List Entry) (bytes : List ℕ) (deed : Deed) : Type 0 where
   pub count : ℕ
   pub front : List Entry
@@ -96,47 +98,47 @@ pub record IsAnswered (frame : Frame) (seen : List Entry) (bytes : List ℕ) (de
   pub answered : deed.sent ≡ reply frame.limits value
   pub still : IsStill deed
 
--- what isn't served: an error with this text
+-- what isn't served is answered with this error
 pub record IsDeclined (frame : Frame) (sync : Bool) (error : List ℕ) (deed : Deed) : Type 0 where
   pub noted : deed.turns ≡ t.Declined ∷ []
   pub answered : deed.sent ≡ replied sync (reply frame.limits (wrong error))
   pub still : IsStill deed
 
--- an async message that asks for nothing
+-- an async message that asks for nothing that is served
 pub record IsPassed (deed : Deed) : Type 0 where
   pub noted : deed.turns ≡ t.Passed ∷ []
   pub unanswered : deed.sent ≡ []
   pub still : IsStill deed
 
--- what is no request is declined with `nyi`, or passed where nobody waits for a response
+-- a message that is no request is declined with `nyi` where it is sync, and else passed over
 abbrev pub IsUnserved : Frame → Bool → Deed → Type 0
 IsUnserved frame true deed = IsDeclined frame true (codes "nyi") deed
 IsUnserved frame false deed = IsPassed deed
 
--- a text is answered where it is one that is; an async text is never evaluated
+-- a sync text is answered where it is one that is served; an async text is never evaluated
 abbrev pub ServesText : Frame → List Entry → Bool → List ℕ → Deed → Type 0
 ServesText frame seen true bytes deed = IsAnswered frame seen bytes deed ⊎ ((table_asked bytes 0 frame.schema ≡ None) × IsUnserved frame true deed)
 ServesText frame seen false bytes deed = IsPassed deed
 
--- what is done with a request, memory aside
+-- what is done with a request, where there is memory
 abbrev pub ServesRequest : Frame → ℕ → List Entry → Bool → Request → Deed → Type 0
 ServesRequest frame by seen sync (update table items) deed = IsLogged frame by seen sync table items deed ⊎ IsRefused frame by seen sync table items deed
 ServesRequest frame by seen sync mistyped deed = IsDeclined frame sync (codes "type") deed
 ServesRequest frame by seen sync (text bytes) deed = ServesText frame seen sync bytes deed
 ServesRequest frame by seen sync other deed = IsUnserved frame sync deed
 
--- what is done with a message: one outside the profile is not served; for another memory may be wanting
+-- what is done with a message: one outside the profile is not served; with another the session may be out of memory
 abbrev pub ServesContent : Frame → ℕ → List Entry → Bool → Content → Deed → Type 0
 ServesContent frame by seen sync (unbuilt at) deed = IsUnserved frame sync deed
 ServesContent frame by seen sync (built value) deed = ServesRequest frame by seen sync (request_of value) deed ⊎ IsShort sync deed
 
--- the greeting is answered with one byte: its capability, of which 3 is the greatest that is told
+-- the handshake is answered with one byte: its capability, but 3 at most
 pub record IsGreeted (capability : ℕ) (deed : Deed) : Type 0 where
   pub noted : deed.turns ≡ t.Greeted capability ∷ []
   pub answered : deed.sent ≡ min capability 3 ∷ []
   pub still : IsStill deed
 
--- an idle at which no date ends
+-- a read timeout at which no date ends
 pub record IsQuiet (frame : Frame) (seen : List Entry) (deed : Deed) : Type 0 where
   pub count : ℕ
   pub front : List Entry
@@ -147,37 +149,38 @@ pub record IsQuiet (frame : Frame) (seen : List Entry) (deed : Deed) : Type 0 wh
   pub read : deed.readings ≡ now ∷ []
   pub unmade : deed.made ≡ []
 
--- an idle at which the open date is ended, and the next one, which is that of the clock, opened
+-- a read timeout at which the open date is ended, and the next one opened, which is that of the clock
 pub record IsRolled (frame : Frame) (by : ℕ) (seen : List Entry) (deed : Deed) : Type 0 where
   pub front : List Entry
   pub now : ℤ
   pub next : is_next_day (date_of frame.first front) now ≡ true
   pub rolled : deed.made ≡ next_roll frame.first front by ∷ []
-  pub stands : StandsBehind front deed.made seen
+  pub stands : StandsAfter front deed.made seen
   pub noted : deed.turns ≡ t.Rolled (length front) now ∷ []
   pub read : deed.readings ≡ now ∷ []
 
--- an idle for which memory was wanting
+-- a read timeout at which the session was out of memory
 pub record IsShortIdle (deed : Deed) : Type 0 where
   pub now : ℤ
   pub noted : deed.turns ≡ t.Short ∷ []
   pub read : deed.readings ≡ now ∷ []
   pub unmade : deed.made ≡ []
 
--- what an idle may come to
+-- what a read timeout may come to
 abbrev pub IsIdle : Frame → ℕ → List Entry → Deed → Type 0
 IsIdle frame by seen deed = IsQuiet frame seen deed ⊎ IsRolled frame by seen deed ⊎ IsShortIdle deed
 
--- an idle sends nothing
+-- a read timeout sends nothing
 pub record ServesIdle (frame : Frame) (by : ℕ) (seen : List Entry) (deed : Deed) : Type 0 where
   pub unsent : deed.sent ≡ []
   pub done : IsIdle frame by seen deed
 
--- what is done with what is heard, the chronicle being this in the end
+-- what is done with an event, where this is the chronicle in the end
 abbrev pub Serves : Frame → ℕ → List Entry → Event → Deed → Type 0
 Serves frame by seen (greeted capability) deed = IsGreeted capability deed
 Serves frame by seen (asked message) deed = ServesContent frame by seen message.sync message.content deed
 Serves frame by seen idled deed = ServesIdle frame by seen deed
 
+-- a step is served as its event asks
 abbrev pub IsStep : Frame → ℕ → List Entry → Step → Type 0
 IsStep frame by seen s = Serves frame by seen s.event s.deed

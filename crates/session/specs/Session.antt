@@ -1,4 +1,4 @@
--- What a session is: what was read of its link, and what it did of that.
+-- What a session is: what it read from its link, and what it did with that.
 use Rattle.std.specs.Prelude.{◌≡◌, ◌<◌, ◌⊎◌, ℕ, Bool, false, List, [], ◌++◌, map, All, min}
 use Rattle.outside_api.specs.Counts.{last_count}
 use Rattle.outside_api.specs.Told.{told, Tells}
@@ -15,7 +15,7 @@ use Rattle.session.specs.declared.end.End.TheVariants.{Closed, Truncated, BadMes
 abbrev pub HasNoFault : Ending → Type 0
 HasNoFault ending = (ending ≡ closed) ⊎ (ending ≡ truncated)
 
--- each end's cause: how the bytes read end, and how many idles came
+-- the cause of each end: how the bytes read end, and how many reads timed out
 abbrev pub HasCause : Limits → End → Ending → ℕ → Type 0
 HasCause limits Closed ending idled = (ending ≡ closed) × (idled < limits.idle)
 HasCause limits Truncated ending idled = (ending ≡ truncated) × (idled < limits.idle)
@@ -25,7 +25,7 @@ HasCause limits WriteFault ending idled = idled < limits.idle
 HasCause limits Idle ending idled = HasNoFault ending × (idled ≡ limits.idle)
 HasCause limits NoMemory ending idled = (ending ≡ closed) × (idled ≡ 0)
 
--- without memory for its buffers a session reads nothing
+-- a session without memory for its buffers reads nothing
 abbrev pub ReadsNothing : End → List ℕ → Type 0
 ReadsNothing NoMemory read = read ≡ []
 ReadsNothing Closed read = Unit {0}
@@ -35,7 +35,7 @@ ReadsNothing ReadFault read = Unit {0}
 ReadsNothing WriteFault read = Unit {0}
 ReadsNothing Idle read = Unit {0}
 
--- each message of the bytes read was served, but behind a write that failed
+-- each message of the bytes read was served, unless a write failed
 abbrev pub LeavesNone : End → List Message → Type 0
 LeavesNone WriteFault unserved = Unit {0}
 LeavesNone NoMemory unserved = unserved ≡ []
@@ -45,20 +45,20 @@ LeavesNone (BadMessage code at) unserved = unserved ≡ []
 LeavesNone ReadFault unserved = unserved ≡ []
 LeavesNone Idle unserved = unserved ≡ []
 
--- what was heard in steps
+-- what was heard in these steps
 abbrev pub events_of : List Step → List Event
 events_of = map (λ s. s.event)
 
--- A session between two moments, and its end.
+-- a whole session: its devices before and after it, and its end
 pub record IsSession (limits : Limits) (a b : World) (end : End) : Type 0 where
-  -- the bytes that the link gave and those that it took, and its idles
+  -- the bytes that were read and written, and how many reads timed out
   pub read : List ℕ
   pub written : List ℕ
   pub idled : ℕ
-  -- no other count of the link rose but that of the end's fault, and its input has ended only where the end says so
+  -- no count of faults rose but that of the end's fault, and the input has ended only where the end says so
   pub link : b.link ≡ ended_link end (moved a.link read written idled)
   pub opened : WasOpenAt end a.link
-  -- the bytes read are a greeting, messages, and an ending; the first of them were heard, in order, with the idles
+  -- the bytes read are a handshake, messages and an ending; they were heard in order from the first on, among the timeouts
   pub steps : List Step
   pub unserved : List Message
   pub ending : Ending
@@ -72,11 +72,11 @@ pub record IsSession (limits : Limits) (a b : World) (end : End) : Type 0 where
   pub all : LeavesNone end unserved
   pub cause : HasCause limits end ending idled
   pub nothing : ReadsNothing end read
-  -- what was heard was served, over front parts of the chronicle
+  -- what was heard was served, over prefixes of the chronicle
   pub served : All (IsStep a.access.frame a.access.by b.access.seen) steps
-  -- what was noted, what was sent, and the clock's readings
+  -- what was noted, what was written, and the readings of the clock
   pub notes : Tells a.notes b.notes (turns_of steps)
   pub sent : IsSent end (map (λ s. s.deed.sent) steps) written
   pub clock : b.clock ≡ told a.clock (readings_of steps)
-  -- the lengths told never fall; the entries made are those that the turns tell
+  -- the lengths that turns report never fall; the entries made are those of the turns
   pub access : Advances a.access b.access (turns_of steps) (made_in steps)

@@ -1,4 +1,4 @@
-//! Doing what an event asks for: the turns are noted, and then the bytes are sent.
+//! Acting on what was heard: the turns are noted, and then the bytes are sent.
 ghost use Rattle.std.specs.Prelude.{◌≡◌, ◌∷◌, [], ℕ, min};
 ghost use Rattle.ipc_frame.specs.Stream.{built};
 ghost use Rattle.outside_api.specs.Told.{Tells};
@@ -8,27 +8,28 @@ ghost use Rattle.session.specs.Acting.{Acts, Finishes, NotesRoll, IdlesBy, IsUns
 ghost use Rattle.session.specs.Answering.{turns_by, sent_by};
 ghost use Rattle.session.specs.Served.{ServesContent};
 
-use crate::answer::{Answer, answer_idle, answer_value, short, unserved};
+use crate::answer::{Answer, short, unserved};
 use crate::end::End;
+use crate::session::Session;
 use outside_api::{Clock, Gate, Link, Recorder};
 use plant_core::Access;
 use q_values::{Limits, Turn, Value};
 use std::alloc::Global;
 use std::sync::Wait;
 
-/// The greatest capability that a greeting is answered.
-const ANSWERED: u8 = 3;
+/// The highest capability that a handshake is answered with (KX, IPC reference: 3 stands for messages up to 2 GB).
+const MAX_CAPABILITY: u8 = 3;
 
 /// Notes the turn of a roll, if there was one.
-fn note_roll<N: Recorder>(turns: &mut N, roll: Option<Turn>)
-    ensures { NotesRoll (N.noted turns.old) (N.noted turns.new) roll }
+fn note_roll<N: Recorder>(recorder: &mut N, roll: Option<Turn>)
+    ensures { NotesRoll (N.noted recorder.old) (N.noted recorder.new) roll }
 {
     if let Some(roll) = roll {
-        turns.note(roll);
+        recorder.note(roll);
     }
 }
 
-/// Sends bytes, if there are any; a write that fails ends the session.
+/// Sends bytes, if there are any. A write that fails ends the session.
 fn send<L: Link>(link: &mut L, bytes: &[u8]) -> Option<End>
     ensures { Finishes (L.shown link.old) (L.shown link.new) bytes.now result }
 {
@@ -42,79 +43,77 @@ fn send<L: Link>(link: &mut L, bytes: &[u8]) -> Option<End>
 }
 
 /// Notes the turns of an answer, and then sends its bytes.
-fn finish<L: Link, N: Recorder>(link: &mut L, turns: &mut N, answer: &Answer) -> Option<End>
-    ensures noted { Tells (N.noted turns.old) (N.noted turns.new) (turns_by answer.now.roll answer.now.turn) }
+fn finish<L: Link, N: Recorder>(link: &mut L, recorder: &mut N, answer: &Answer) -> Option<End>
+    ensures noted { Tells (N.noted recorder.old) (N.noted recorder.new) (turns_by answer.now.roll answer.now.turn) }
     ensures sent { Finishes (L.shown link.old) (L.shown link.new) (sent_by answer.now.reply) result }
 {
-    note_roll(turns, answer.roll);
-    turns.note(answer.turn);
+    note_roll(recorder, answer.roll);
+    recorder.note(answer.turn);
     send(link, answer.bytes())
 }
 
-/// Answers the greeting.
-pub fn greet<L: Link, N: Recorder>(link: &mut L, turns: &mut N, capability: u8) -> Option<End>
-    ensures noted { Tells (N.noted turns.old) (N.noted turns.new) (Turn.Greeted capability ∷ []) }
+/// Answers the handshake with one byte: the client's capability, or the highest one that is served.
+pub fn greet<L: Link, N: Recorder>(link: &mut L, recorder: &mut N, capability: u8) -> Option<End>
+    ensures noted { Tells (N.noted recorder.old) (N.noted recorder.new) (Turn.Greeted capability ∷ []) }
     ensures sent { Finishes (L.shown link.old) (L.shown link.new) (min capability 3 ∷ []) result }
 {
-    turns.note(Turn::Greeted { capability });
-    send(link, &[capability.min(ANSWERED)])
+    recorder.note(Turn::Greeted { capability });
+    send(link, &[capability.min(MAX_CAPABILITY)])
 }
 
-/// Serves a message that has a value.
-pub fn serve_value<A: Access, L: Link, C: Clock, G: Gate, N: Recorder, R: Wait>(
-    rt: &R,
-    alloc: Global,
-    access: &mut A,
-    link: &mut L,
-    clock: &mut C,
-    gate: &mut G,
-    turns: &mut N,
-    limits: &Limits,
-    sync: bool,
-    value: Value,
-) -> Option<End>
-    requires limits { AreLimits limits.now }
-    requires same { (A.shown access.old).frame.limits ≡ limits.now }
-    ensures { Acts (ServesContent (A.shown access.old).frame (A.shown access.old).by (A.shown access.new).seen sync (built (tree value)))
-        (record { link = L.shown link.old; clock = C.readings clock.old; notes = N.noted turns.old; access = A.shown access.old })
-        (record { link = L.shown link.new; clock = C.readings clock.new; notes = N.noted turns.new; access = A.shown access.new })
-        result }
-{
-    let answer = answer_value(rt, alloc, access, clock, gate, limits, sync, value);
-    finish(link, turns, &answer)
-}
-
-/// Serves an idle of the link, for which nothing is sent.
-pub fn serve_idle<A: Access, C: Clock, G: Gate, N: Recorder, R: Wait>(
-    rt: &R,
-    alloc: Global,
-    access: &mut A,
-    clock: &mut C,
-    gate: &mut G,
-    turns: &mut N,
-)
-    ensures { IdlesBy (A.shown access.old) (A.shown access.new) (C.readings clock.old) (C.readings clock.new) (N.noted turns.old) (N.noted turns.new) }
-{
-    let answer = answer_idle(rt, alloc, access, clock, gate);
-    note_roll(turns, answer.roll);
-    turns.note(answer.turn);
-}
-
-/// Serves a message that is outside the profile.
+/// Serves a message whose object is outside the profile.
 pub fn serve_outside<L: Link, N: Recorder>(
     link: &mut L,
-    turns: &mut N,
+    recorder: &mut N,
     limits: &Limits,
     sync: bool,
 ) -> Option<End>
-    ensures { IsUnservedBy limits.now sync (L.shown link.old) (L.shown link.new) (N.noted turns.old) (N.noted turns.new) result }
+    ensures { IsUnservedBy limits.now sync (L.shown link.old) (L.shown link.new) (N.noted recorder.old) (N.noted recorder.new) result }
 {
-    finish(link, turns, &unserved(sync, limits))
+    finish(link, recorder, &unserved(sync, limits))
 }
 
-/// Serves a message for whose value memory was wanting.
-pub fn serve_short<L: Link, N: Recorder>(link: &mut L, turns: &mut N, sync: bool) -> Option<End>
-    ensures { IsShortBy sync (L.shown link.old) (L.shown link.new) (N.noted turns.old) (N.noted turns.new) result }
+/// Serves a message whose value could not be built: out of memory.
+pub fn serve_short<L: Link, N: Recorder>(link: &mut L, recorder: &mut N, sync: bool) -> Option<End>
+    ensures { IsShortBy sync (L.shown link.old) (L.shown link.new) (N.noted recorder.old) (N.noted recorder.new) result }
 {
-    finish(link, turns, &short(sync))
+    finish(link, recorder, &short(sync))
+}
+
+impl<A: Access, L: Link, C: Clock, G: Gate, N: Recorder> Session<'_, A, L, C, G, N> {
+    ghost use Rattle.session.specs.Devices.{world_of, HearsNothing};
+
+    /// Serves a message that has a value.
+    pub fn serve_value<R: Wait>(
+        &mut self,
+        rt: &R,
+        alloc: Global,
+        sync: bool,
+        value: Value,
+    ) -> Option<End>
+        requires limits { AreLimits self.old.limits.now }
+        requires same { (A.shown self.old.access.now).frame.limits ≡ self.old.limits.now }
+        ensures same { HearsNothing self.old self.new }
+        ensures acts { Acts
+            (ServesContent (A.shown self.old.access.now).frame (A.shown self.old.access.now).by
+            (A.shown self.new.access.now).seen sync (built (tree value)))
+            (world_of A.shown L.shown C.readings N.noted self.old)
+            (world_of A.shown L.shown C.readings N.noted self.new)
+            result }
+    {
+        let answer = self.answer_value(rt, alloc, sync, value);
+        finish(self.link, self.recorder, &answer)
+    }
+
+    /// Serves a read timeout of the link, for which nothing is sent.
+    pub fn serve_timeout<R: Wait>(&mut self, rt: &R, alloc: Global)
+        ensures same { HearsNothing self.old self.new }
+        ensures idled { IdlesBy
+            (world_of A.shown L.shown C.readings N.noted self.old)
+            (world_of A.shown L.shown C.readings N.noted self.new) }
+    {
+        let answer = self.answer_timeout(rt, alloc);
+        note_roll(self.recorder, answer.roll);
+        self.recorder.note(answer.turn);
+    }
 }

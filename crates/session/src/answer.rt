@@ -1,4 +1,4 @@
-//! Answering a message that has a value.
+//! Answers to messages and read timeouts.
 ghost use Rattle.std.specs.Prelude.{◌≡◌, ◌<◌, ◌∷◌, [], if◌then◌else◌, Option, Some, List, ℕ, ℤ, true, length, slice_get, codes, None};
 ghost use Rattle.day_rows.specs.declared.schema.Shape.{Shape};
 ghost use Rattle.q_values.specs.Limits.{AreLimits};
@@ -14,25 +14,26 @@ ghost use Rattle.session.specs.Served.{ServesIdle};
 use crate::reply::{Reply, done, mistyped, nyi, refuse, wsfull};
 use crate::request::{Asked, asked_by};
 use crate::select::{select_reply, table_asked};
-use outside_api::{Clock, Gate, Point};
+use crate::session::Session;
+use outside_api::{Clock, Gate, Link, Point, Recorder};
 use plant_core::{Access, TickTurn, UpdRefusal, UpdRequest, UpdTurn};
 use q_values::{Limits, Turn, Value};
 use std::alloc::Global;
 use std::sync::Wait;
 
-/// What a message is answered.
+/// The answer to a message or a read timeout: what is noted, and what is sent.
 #[derive(Drop)]
 pub struct Answer {
     /// The turn of the roll before it, if there was one.
     pub roll: Option<Turn>,
-    /// The message's turn.
+    /// The turn of the message or the timeout.
     pub turn: Turn,
-    /// What is sent, if anybody waits for it.
+    /// The response, if one is waited for.
     pub reply: Option<Reply>,
 }
 
 impl Answer {
-    /// The bytes that are sent.
+    /// The bytes that are sent: none where nothing is waited for.
     pub fn bytes(&self) -> &[u8]
         ensures { result.now ≡ sent_by self.now.reply }
     {
@@ -43,14 +44,14 @@ impl Answer {
     }
 }
 
-/// A response, where it is waited for.
+/// The response, if the message was sync.
 fn replying(sync: bool, reply: Reply) -> Option<Reply>
     ensures { sent_by result ≡ replied sync (reply_bytes reply) }
 {
     if sync { Some(reply) } else { None }
 }
 
-/// The answer where memory is wanting.
+/// The answer where the session is out of memory.
 pub fn short(sync: bool) -> Answer
     ensures roll { result.roll ≡ None }
     ensures turn { result.turn ≡ Turn.Short }
@@ -63,7 +64,7 @@ pub fn short(sync: bool) -> Answer
     }
 }
 
-/// The answer to what is no request.
+/// The answer to a message that is no request.
 pub fn unserved(sync: bool, limits: &Limits) -> Answer
     ensures roll { result.roll ≡ None }
     ensures turn { result.turn ≡ (if sync then Turn.Declined else Turn.Passed) }
@@ -76,7 +77,7 @@ pub fn unserved(sync: bool, limits: &Limits) -> Answer
     }
 }
 
-/// The answer to an update whose parts are of wrong kinds.
+/// The answer to an update whose parts are of the wrong kinds.
 fn declined(sync: bool, limits: &Limits) -> Answer
     ensures roll { result.roll ≡ None }
     ensures turn { result.turn ≡ Turn.Declined }
@@ -89,7 +90,7 @@ fn declined(sync: bool, limits: &Limits) -> Answer
     }
 }
 
-/// The answer to an update that was refused.
+/// The answer to an update that was refused at `now`, the chronicle having `length` entries.
 fn refused(
     alloc: Global,
     sync: bool,
@@ -111,7 +112,7 @@ fn refused(
     }
 }
 
-/// The answer to an update that was logged, behind a roll where there was one.
+/// The answer to an update that was logged as the entry `place`, after a roll where there was one.
 fn logged<G: Gate>(
     gate: &mut G,
     sync: bool,
@@ -138,141 +139,6 @@ fn logged<G: Gate>(
     }
 }
 
-/// Asks for an update.
-fn answer_update<A: Access, C: Clock, G: Gate, R: Wait>(
-    rt: &R,
-    alloc: Global,
-    access: &mut A,
-    clock: &mut C,
-    gate: &mut G,
-    limits: &Limits,
-    sync: bool,
-    request: &UpdRequest,
-) -> Answer
-    requires limits { AreLimits limits.now }
-    requires same { (A.shown access.old).frame.limits ≡ limits.now }
-    ensures { Does
-        (ServesValue (A.shown access.old).frame (A.shown access.old).by (A.shown access.new).seen sync (update request.now.table (trees request.now.items)))
-        (C.readings clock.old) (C.readings clock.new) (A.shown access.old) (A.shown access.new) result }
-{
-    let now = clock.now();
-    match access.upd(rt, alloc, request, now) {
-        UpdTurn::Logged { rolled, place } => logged(gate, sync, limits, rolled, place, now),
-        UpdTurn::Refused { length, why } => refused(alloc, sync, limits, length, now, why),
-    }
-}
-
-/// Asks for all of a table, over a snapshot of its own.
-fn answer_select<A: Access, G: Gate, R: Wait>(
-    rt: &R,
-    alloc: Global,
-    access: &mut A,
-    gate: &mut G,
-    limits: &Limits,
-    place: u32,
-) -> Answer
-    requires limits { AreLimits limits.now }
-    requires same { (A.shown access.old).frame.limits ≡ limits.now }
-    requires within { place < length (A.shown access.old).frame.schema }
-    ensures { (bytes : List ℕ) (shape : Shape) (k : Option (List ℤ)) → slice_get (A.shown access.old).frame.schema place ≡ Some shape
-        → table_asked bytes 0 (A.shown access.old).frame.schema ≡ Some (place, shape)
-        → Does (ServesValue (A.shown access.old).frame (A.shown access.old).by (A.shown access.new).seen true (text bytes))
-        k k (A.shown access.old) (A.shown access.new) result }
-{
-    match access.snapshot(rt, alloc) {
-        Ok(snapshot) => {
-            gate.pause(Point::Evaluating);
-            let length = snapshot.length();
-            match select_reply(alloc, access.schema(), &snapshot, place, limits) {
-                Ok(reply) => Answer {
-                    roll: None,
-                    turn: Turn::Answered { length },
-                    reply: Some(reply),
-                },
-                Err(_) => short(true),
-            }
-        }
-        Err(_) => short(true),
-    }
-}
-
-/// Answers a text, where anybody waits for it.
-fn answer_text<A: Access, G: Gate, R: Wait>(
-    rt: &R,
-    alloc: Global,
-    access: &mut A,
-    gate: &mut G,
-    limits: &Limits,
-    sync: bool,
-    asked: &[u8],
-) -> Answer
-    requires limits { AreLimits limits.now }
-    requires same { (A.shown access.old).frame.limits ≡ limits.now }
-    ensures { (k : Option (List ℤ)) → Does
-        (ServesValue (A.shown access.old).frame (A.shown access.old).by (A.shown access.new).seen sync (text asked.now))
-        k k (A.shown access.old) (A.shown access.new) result }
-{
-    if !sync {
-        return unserved(sync, limits);
-    }
-    match table_asked(access.schema(), asked) {
-        Some(place) => answer_select(rt, alloc, access, gate, limits, place),
-        None => unserved(sync, limits),
-    }
-}
-
-/// Answers what was asked for.
-fn answer_asked<A: Access, C: Clock, G: Gate, R: Wait>(
-    rt: &R,
-    alloc: Global,
-    access: &mut A,
-    clock: &mut C,
-    gate: &mut G,
-    limits: &Limits,
-    sync: bool,
-    asked: &Asked,
-) -> Answer
-    requires limits { AreLimits limits.now }
-    requires same { (A.shown access.old).frame.limits ≡ limits.now }
-    ensures { (request : Request) → Asks request asked.now → Does
-        (ServesValue (A.shown access.old).frame (A.shown access.old).by (A.shown access.new).seen sync request)
-        (C.readings clock.old) (C.readings clock.new) (A.shown access.old) (A.shown access.new) result }
-{
-    match asked {
-        Asked::Update(request) => {
-            answer_update(rt, alloc, access, clock, gate, limits, sync, request)
-        }
-        Asked::Mistyped => declined(sync, limits),
-        Asked::Text(bytes) => {
-            answer_text(rt, alloc, access, gate, limits, sync, bytes.as_slice())
-        }
-        Asked::Other => unserved(sync, limits),
-    }
-}
-
-/// Answers a message with this value.
-pub fn answer_value<A: Access, C: Clock, G: Gate, R: Wait>(
-    rt: &R,
-    alloc: Global,
-    access: &mut A,
-    clock: &mut C,
-    gate: &mut G,
-    limits: &Limits,
-    sync: bool,
-    value: Value,
-) -> Answer
-    requires limits { AreLimits limits.now }
-    requires same { (A.shown access.old).frame.limits ≡ limits.now }
-    ensures { Does
-        (ServesValue (A.shown access.old).frame (A.shown access.old).by (A.shown access.new).seen sync (request_of (tree value)))
-        (C.readings clock.old) (C.readings clock.new) (A.shown access.old) (A.shown access.new) result }
-{
-    match asked_by(alloc, value) {
-        Ok(asked) => answer_asked(rt, alloc, access, clock, gate, limits, sync, &asked),
-        Err(_) => short(sync),
-    }
-}
-
 /// A turn for which nothing is sent.
 fn unsent(turn: Turn) -> Answer
     ensures roll { result.roll ≡ None }
@@ -286,24 +152,145 @@ fn unsent(turn: Turn) -> Answer
     }
 }
 
-/// Serves an idle of the link: the clock is read, and the open date is ended where the next one has come.
-pub fn answer_idle<A: Access, C: Clock, G: Gate, R: Wait>(
-    rt: &R,
-    alloc: Global,
-    access: &mut A,
-    clock: &mut C,
-    gate: &mut G,
-) -> Answer
-    ensures { Does (ServesIdle (A.shown access.old).frame (A.shown access.old).by (A.shown access.new).seen)
-        (C.readings clock.old) (C.readings clock.new) (A.shown access.old) (A.shown access.new) result }
-{
-    let now = clock.now();
-    match access.tick(rt, alloc, now) {
-        TickTurn::Quiet { length } => unsent(Turn::Quiet { length, now }),
-        TickTurn::Rolled { place } => {
-            gate.pause(Point::Rolled);
-            unsent(Turn::Rolled { place, now })
+impl<A: Access, L: Link, C: Clock, G: Gate, N: Recorder> Session<'_, A, L, C, G, N> {
+    ghost use Rattle.session.specs.Devices.{OnlyAsks};
+
+    /// Logs an update, or refuses it.
+    fn answer_update<R: Wait>(
+        &mut self,
+        rt: &R,
+        alloc: Global,
+        sync: bool,
+        request: &UpdRequest,
+    ) -> Answer
+        requires limits { AreLimits self.old.limits.now }
+        requires same { (A.shown self.old.access.now).frame.limits ≡ self.old.limits.now }
+        ensures same { OnlyAsks self.old self.new }
+        ensures does { Does
+            (ServesValue (A.shown self.old.access.now).frame (A.shown self.old.access.now).by (A.shown self.new.access.now).seen
+            sync (update request.now.table (trees request.now.items)))
+            (C.readings self.old.clock.now) (C.readings self.new.clock.now)
+            (A.shown self.old.access.now) (A.shown self.new.access.now) result }
+    {
+        let now = self.clock.now();
+        match self.access.upd(rt, alloc, request, now) {
+            UpdTurn::Logged { rolled, place } => {
+                logged(self.gate, sync, self.limits, rolled, place, now)
+            }
+            UpdTurn::Refused { length, why } => refused(alloc, sync, self.limits, length, now, why),
         }
-        TickTurn::NoMemory => unsent(Turn::Short),
+    }
+
+    /// Answers with all rows of the table at an index of the schema, over a snapshot of its own.
+    fn answer_select<R: Wait>(&mut self, rt: &R, alloc: Global, index: u32) -> Answer
+        requires limits { AreLimits self.old.limits.now }
+        requires same { (A.shown self.old.access.now).frame.limits ≡ self.old.limits.now }
+        requires within { index < length (A.shown self.old.access.now).frame.schema }
+        ensures same { OnlyAsks self.old self.new }
+        ensures clock { self.new.clock.now ≡ self.old.clock.now }
+        ensures does { (bytes : List ℕ) (shape : Shape) (k : Option (List ℤ))
+            → slice_get (A.shown self.old.access.now).frame.schema index ≡ Some shape
+            → table_asked bytes 0 (A.shown self.old.access.now).frame.schema ≡ Some (index, shape)
+            → Does
+            (ServesValue (A.shown self.old.access.now).frame (A.shown self.old.access.now).by (A.shown self.new.access.now).seen
+            true (text bytes))
+            k k (A.shown self.old.access.now) (A.shown self.new.access.now) result }
+    {
+        match self.access.snapshot(rt, alloc) {
+            Ok(snapshot) => {
+                self.gate.pause(Point::Evaluating);
+                let length = snapshot.length();
+                match select_reply(alloc, self.access.schema(), &snapshot, index, self.limits) {
+                    Ok(reply) => Answer {
+                        roll: None,
+                        turn: Turn::Answered { length },
+                        reply: Some(reply),
+                    },
+                    Err(_) => short(true),
+                }
+            }
+            Err(_) => short(true),
+        }
+    }
+
+    /// Answers a text, if anybody waits for the response.
+    fn answer_text<R: Wait>(&mut self, rt: &R, alloc: Global, sync: bool, asked: &[u8]) -> Answer
+        requires limits { AreLimits self.old.limits.now }
+        requires same { (A.shown self.old.access.now).frame.limits ≡ self.old.limits.now }
+        ensures same { OnlyAsks self.old self.new }
+        ensures clock { self.new.clock.now ≡ self.old.clock.now }
+        ensures does { (k : Option (List ℤ)) → Does
+            (ServesValue (A.shown self.old.access.now).frame (A.shown self.old.access.now).by (A.shown self.new.access.now).seen
+            sync (text asked.now))
+            k k (A.shown self.old.access.now) (A.shown self.new.access.now) result }
+    {
+        if !sync {
+            return unserved(sync, self.limits);
+        }
+        match table_asked(self.access.schema(), asked) {
+            Some(index) => self.answer_select(rt, alloc, index),
+            None => unserved(sync, self.limits),
+        }
+    }
+
+    /// Answers what a message asks for.
+    fn answer_asked<R: Wait>(&mut self, rt: &R, alloc: Global, sync: bool, asked: &Asked) -> Answer
+        requires limits { AreLimits self.old.limits.now }
+        requires same { (A.shown self.old.access.now).frame.limits ≡ self.old.limits.now }
+        ensures same { OnlyAsks self.old self.new }
+        ensures does { (request : Request) → Asks request asked.now → Does
+            (ServesValue (A.shown self.old.access.now).frame (A.shown self.old.access.now).by (A.shown self.new.access.now).seen
+            sync request)
+            (C.readings self.old.clock.now) (C.readings self.new.clock.now)
+            (A.shown self.old.access.now) (A.shown self.new.access.now) result }
+    {
+        match asked {
+            Asked::Update(request) => self.answer_update(rt, alloc, sync, request),
+            Asked::Mistyped => declined(sync, self.limits),
+            Asked::Text(bytes) => self.answer_text(rt, alloc, sync, bytes.as_slice()),
+            Asked::Other => unserved(sync, self.limits),
+        }
+    }
+
+    /// Answers a message that has a value.
+    pub fn answer_value<R: Wait>(
+        &mut self,
+        rt: &R,
+        alloc: Global,
+        sync: bool,
+        value: Value,
+    ) -> Answer
+        requires limits { AreLimits self.old.limits.now }
+        requires same { (A.shown self.old.access.now).frame.limits ≡ self.old.limits.now }
+        ensures same { OnlyAsks self.old self.new }
+        ensures does { Does
+            (ServesValue (A.shown self.old.access.now).frame (A.shown self.old.access.now).by (A.shown self.new.access.now).seen
+            sync (request_of (tree value)))
+            (C.readings self.old.clock.now) (C.readings self.new.clock.now)
+            (A.shown self.old.access.now) (A.shown self.new.access.now) result }
+    {
+        match asked_by(alloc, value) {
+            Ok(asked) => self.answer_asked(rt, alloc, sync, &asked),
+            Err(_) => short(sync),
+        }
+    }
+
+    /// Answers a read timeout: the clock is read, and the open date is ended where the next one has come.
+    pub fn answer_timeout<R: Wait>(&mut self, rt: &R, alloc: Global) -> Answer
+        ensures same { OnlyAsks self.old self.new }
+        ensures does { Does
+            (ServesIdle (A.shown self.old.access.now).frame (A.shown self.old.access.now).by (A.shown self.new.access.now).seen)
+            (C.readings self.old.clock.now) (C.readings self.new.clock.now)
+            (A.shown self.old.access.now) (A.shown self.new.access.now) result }
+    {
+        let now = self.clock.now();
+        match self.access.tick(rt, alloc, now) {
+            TickTurn::Quiet { length } => unsent(Turn::Quiet { length, now }),
+            TickTurn::Rolled { place } => {
+                self.gate.pause(Point::Rolled);
+                unsent(Turn::Rolled { place, now })
+            }
+            TickTurn::NoMemory => unsent(Turn::Short),
+        }
     }
 }

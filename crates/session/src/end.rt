@@ -1,27 +1,29 @@
 //! How a session ends.
 use ipc_frame::Bad;
 
-/// The end of a session.
+/// Why a session ended.
 #[derive(Clone, Copy, Debug, PartialEq, Eq)]
 pub enum End {
-    /// The input ended before its first byte or between messages.
+    /// The input ended before its first byte or between two messages.
     Closed,
-    /// The input ended within the greeting or a message.
+    /// The input ended within the handshake or within a message.
     Truncated,
-    /// The bytes at this place, counted from the session's first, are no greeting or message.
+    /// The bytes at the offset `at`, counted from the session's first byte, are no handshake or message; `code` is the
+    /// rule of the protocol that they break.
     BadMessage { code: Bad, at: u64 },
     /// A read failed.
     ReadFault,
-    /// A write failed.
+    /// A write failed. A prefix of the response may have been written.
     WriteFault,
-    /// The idles reached their limit.
+    /// As many reads timed out as the limits allow.
     Idle,
     /// There was no memory for the buffers; nothing was read or written.
     NoMemory,
 }
 
-/// What is told of a session that ended.
+/// What is reported of a session that ended.
 #[derive(Clone, Copy, Debug, PartialEq, Eq)]
 pub struct Report {
+    /// Why it ended.
     pub end: End,
 }

@@ -1,4 +1,28 @@
-//! A session: the bytes of one link, served from its greeting to its end.
+//! One session of the tick plant: a connection served from its handshake to its end (KX, IPC reference).
+//!
+//! `serve_session` is the one call that the layers above use. It reads a `Link`, finds the handshake and the messages in
+//! its bytes, and answers each sync message with one response. It reaches the plant through `Access` alone. Its contract,
+//! `IsSession`, says which bytes were read and written, what was noted, and why the session ended.
+//!
+//! - `Session` is the state of a session: its devices, its limits, its reader and the number of read timeouts left.
+//! - `Reader` reads the link in large pieces and gives one `Arrival` after the other.
+//! - `Answer` is what a message or a read timeout comes to: the turns to be noted and the response.
+//!
+//! ```text
+//! client                                    session
+//! user:pwd 03 00                            notes Greeted 3,   writes 03
+//! sync (".u.upd";`trade;(..))               notes Logged 0,    writes (::)
+//! sync "select from trade"                  notes Answered 1,  writes the table, its column `date` first
+//! sync "1+1"                                notes Declined,    writes 'nyi
+//! nothing until the read times out          notes Quiet 1,     writes nothing
+//! end of input                              ends with End::Closed
+//! ```
+//!
+//! A message goes `Session::serve_next` -> `Session::serve_value` -> `asked_by` (what it asks for) ->
+//! `Session::answer_asked` -> `Access::upd` or `select_reply` -> `finish` (the turns, then the bytes).
+//!
+//! It opens no socket, starts no thread and writes no journal: those are devices that its caller passes. It evaluates no
+//! text but `select from` with the name of a table.
 #![tactic(auto)]
 
 mod act;

@@ -1,4 +1,4 @@
-//! Reading a link in large pieces, and telling what its stream says.
+//! Reading a link in large pieces, and finding the messages in its stream.
 ghost use Rattle.std.specs.Prelude.{◌≡◌, ◌≤◌, ◌<◌, [], length, IfOk};
 ghost use Rattle.outside_api.specs.Link.{Reads};
 ghost use Rattle.q_values.specs.Limits.{AreLimits};
@@ -10,38 +10,42 @@ use q_values::{Limits, NoMemory};
 use std::alloc::Global;
 use std::marker::Model;
 
-/// The bytes that one read asks for.
-const PIECE: usize = 65_536;
+/// The most bytes that one read gives.
+const READ_SIZE: usize = 65_536;
 
-/// What reading a link gives.
+/// What one step of reading a link gives.
 #[derive(Drop)]
 pub enum Arrival {
-    /// Nothing yet: more bytes were read or taken.
+    /// Nothing to serve yet: bytes were read, or given to the framer.
     More,
-    /// The greeting.
+    /// The handshake, with the capability that the client asks for.
     Greeting { capability: u8 },
     /// A message.
     Message(Message),
-    /// A message whose object is outside the profile.
+    /// A message whose object is outside the profile; `sync` where it waits for a response.
     Outside { sync: bool },
-    /// A message for whose value memory was wanting.
+    /// A message whose value could not be built, out of memory; `sync` where it waits for a response.
     Skipped { sync: bool },
-    /// The bytes at this place are no greeting or message.
+    /// The bytes at the offset `at` of the stream are no handshake or message; `code` is the rule that they break.
     Bad { code: Bad, at: u64 },
-    /// Nothing came within the link's time.
+    /// The read timed out.
     Idle,
-    /// The input ended, between messages or within one.
+    /// The input ended: `between` messages, or within one.
     Ended { between: bool },
     /// The read failed.
     Failed,
 }
 
-/// What reads a link: the stream's framer, and the last piece that was read.
+/// Reads a link: the framer of its stream, and the last piece that was read.
 #[derive(Drop)]
 pub struct Reader {
+    /// Finds the handshake and the messages in the stream, and holds the bytes of the one that is not whole yet.
     framer: Framer,
+    /// The buffer of one read, `READ_SIZE` bytes and never empty.
     piece: Vec<u8>,
+    /// The offset in `piece` of the first byte that the framer has not taken, at most `to`.
     from: usize,
+    /// The offset in `piece` where the bytes of the last read end, at most its length.
     to: usize,
 }
 
@@ -63,13 +67,14 @@ impl Reader {
     ghost use Rattle.ipc_frame.specs.View.{fresh};
     ghost use Rattle.session.specs.Reading.{Gathered};
 
-    /// A reader that has read nothing. All the memory that reading needs, but for the messages' values, is taken here.
+    /// A reader that has read nothing. It takes all the memory that reading needs but for the values of messages, or fails
+    /// with `NoMemory`.
     pub fn new(alloc: Global, limits: &Limits) -> Result<Reader, NoMemory>
         requires { AreLimits limits.now }
         ensures { IfOk result (λ r. r ≡ record { framer = fresh limits.now; pending = [] }) }
     {
         let framer = Framer::new(alloc, limits)?;
-        let piece = vec![in alloc; 0u8; PIECE]?;
+        let piece = vec![in alloc; 0u8; READ_SIZE]?;
         Ok(Reader {
             framer,
             piece,
@@ -78,7 +83,7 @@ impl Reader {
         })
     }
 
-    /// Tells what stands next in the stream, or reads on.
+    /// The next handshake or message of the stream; where it isn't whole yet, one step of reading on.
     pub fn arrive<L: Link>(&mut self, link: &mut L) -> Arrival
         ensures { Arrives (L.shown link.old) (L.shown link.new) self.old self.new result }
     {
@@ -93,7 +98,7 @@ impl Reader {
         }
     }
 
-    /// Gives the framer what it takes of the piece.
+    /// Gives the framer the part of the piece that it takes.
     fn take(&mut self) -> Arrival
         requires needed { IsNeeded self.old.framer.limits self.old.framer.greeted self.old.framer.held }
         requires some { 0 < length self.old.pending }
@@ -104,7 +109,7 @@ impl Reader {
         Arrival::More
     }
 
-    /// Reads a piece, all of the last one being taken.
+    /// Reads the next piece, where the framer has taken all of the last one.
     fn read<L: Link>(&mut self, link: &mut L) -> Arrival
         requires needed { IsNeeded self.old.framer.limits self.old.framer.greeted self.old.framer.held }
         requires taken { self.old.pending ≡ [] }

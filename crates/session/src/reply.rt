@@ -1,4 +1,4 @@
-//! The bytes that answer a message.
+//! Responses: the bytes that answer a message.
 ghost use Rattle.std.specs.Prelude.{◌≡◌, ◌∷◌, [], IfOk, IfErr, codes};
 ghost use Rattle.ipc_codec.specs.Written.{IsPlain};
 ghost use Rattle.q_values.specs.Limits.{AreLimits};
@@ -12,14 +12,17 @@ use plant_core::UpdRefusal;
 use q_values::{Limits, NoMemory, Text, Value};
 use std::alloc::Global;
 
-/// A response's bytes.
+/// A whole response, header and value.
 #[derive(Drop)]
 pub enum Reply {
-    /// Bytes that take no memory.
+    /// One of the constants of this file, which need no memory.
     Fixed(&'static [u8]),
-    /// Bytes that were made for this response.
+    /// A response that was encoded for this message.
     Made(Vec<u8>),
 }
+
+// Each constant is a whole message (KX, IPC reference): little-endian, a response, uncompressed, a zero, the length of
+// the message in four bytes, and then the value: `(::)`, or the type 0x80 of an error with its text up to a zero.
 
 /// The response `(::)`.
 static DONE: [u8; 10] = [1, 2, 0, 0, 10, 0, 0, 0, 0x65, 0];
@@ -37,7 +40,7 @@ static LIMIT: [u8; 15] = *b"\x01\x02\x00\x00\x0f\x00\x00\x00\x80limit\x00";
 static WSFULL: [u8; 16] = *b"\x01\x02\x00\x00\x10\x00\x00\x00\x80wsfull\x00";
 
 impl Reply {
-    /// The bytes.
+    /// The bytes of the response.
     pub fn as_slice(&self) -> &[u8]
         ensures { result.now ≡ reply_bytes self.now }
     {
@@ -48,7 +51,7 @@ impl Reply {
     }
 }
 
-/// The bytes, or the error `limit` where they are longer than the limit.
+/// A constant response, or the error `limit` where it is longer than the limit.
 fn fixed(limits: &Limits, bytes: &'static [u8]) -> Reply
     ensures { reply_bytes result ≡ fixed_reply limits.now bytes.now }
 {
@@ -66,28 +69,29 @@ pub fn done(limits: &Limits) -> Reply
     fixed(limits, &DONE)
 }
 
-/// The error `nyi`, for what isn't served.
+/// The error `nyi`, for a message that isn't served.
 pub fn nyi(limits: &Limits) -> Reply
     ensures { reply_bytes result ≡ reply limits.now (wrong (codes "nyi")) }
 {
     fixed(limits, &NYI)
 }
 
-/// The error `type`, for an update whose parts are of wrong kinds.
+/// The error `type`, for an update whose parts are of the wrong kinds.
 pub fn mistyped(limits: &Limits) -> Reply
     ensures { reply_bytes result ≡ reply limits.now (wrong (codes "type")) }
 {
     fixed(limits, &TYPE)
 }
 
-/// The error `wsfull`, for want of memory.
+/// The error `wsfull`: out of memory.
 pub fn wsfull() -> Reply
     ensures { reply_bytes result ≡ response (wrong (codes "wsfull")) }
 {
     Reply::Fixed(&WSFULL)
 }
 
-/// The response with a value, or the error `limit` where it would be longer than the limit.
+/// The response with a value, or the error `limit` where it would be longer than `limits.reply` bytes. Fails with
+/// `NoMemory` where it can't be encoded.
 pub fn respond(alloc: Global, value: &Value, limits: &Limits) -> Result<Reply, NoMemory>
     requires plain { IsPlain (tree value.now) }
     requires limits { AreLimits limits.now }
@@ -103,7 +107,7 @@ pub fn respond(alloc: Global, value: &Value, limits: &Limits) -> Result<Reply, N
     Ok(Reply::Made(bytes))
 }
 
-/// The error with a refusal's text. There is none for want of memory.
+/// The error with the text of a refusal. A refusal that is out of memory has no text of its own: it fails with `NoMemory`.
 pub fn refuse(alloc: Global, why: UpdRefusal, limits: &Limits) -> Result<Reply, NoMemory>
     requires { AreLimits limits.now }
     ensures { IfOk result (Refuses limits.now why) }
@@ -118,7 +122,7 @@ pub fn refuse(alloc: Global, why: UpdRefusal, limits: &Limits) -> Result<Reply, 
     }
 }
 
-/// The error with this text.
+/// The error with this text, which has no zero byte.
 fn respond_wrong(alloc: Global, text: &[u8], limits: &Limits) -> Result<Reply, NoMemory>
     requires no_nul { HasNoNul text.now }
     requires limits { AreLimits limits.now }

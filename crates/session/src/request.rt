@@ -1,8 +1,9 @@
-//! What a message asks for.
+//! Reading what a message asks for (KX, tick.q: `.u.upd`).
 ghost use Rattle.std.specs.Prelude.{◌≡◌, [], ◌∷◌, IfOk, map, option_map, Option, Some};
 ghost use Rattle.q_values.specs.Tree.{tree, trees, atom};
 ghost use Rattle.session.specs.Asked.{Asks, AreCharacters, AreParts};
-ghost use Rattle.session.specs.Request.{parts_request, vector_request, atom_request, request_of, character_of, call_of, update_of, function_of, symbol_of, items_in, is_upd};
+ghost use Rattle.session.specs.Request.{parts_request, vector_request, atom_request, request_of, character_of};
+ghost use Rattle.session.specs.Request.{call_of, update_of, function_of, symbol_of, items_in, is_upd};
 
 use plant_core::UpdRequest;
 use q_values::{Atom, ByteKind, Column, NoMemory, Sym, Symbols, Text, Value, Values, Vector};
@@ -11,20 +12,20 @@ use std::alloc::Global;
 /// What a message asks for.
 #[derive(Drop)]
 pub enum Asked {
-    /// An update.
+    /// An update: a call of `.u.upd` with a symbol and a list or vector.
     Update(UpdRequest),
-    /// An update whose parts are of wrong kinds.
+    /// A call of `.u.upd` whose arguments are of the wrong kinds.
     Mistyped,
-    /// A text.
+    /// A text to be evaluated.
     Text(Text),
-    /// Nothing that is served.
+    /// Something that isn't served.
     Other,
 }
 
-/// The function that updates call.
+/// The function that an update calls.
 const UPD: [u8; 6] = *b".u.upd";
 
-/// The bytes of a vector of characters.
+/// The bytes of a vector, if it is one of characters.
 fn characters_of(vector: &Vector) -> Option<&[u8]>
     ensures { AreCharacters vector.now.kind vector.now.atoms result }
 {
@@ -37,7 +38,7 @@ fn characters_of(vector: &Vector) -> Option<&[u8]>
     }
 }
 
-/// Whether a value names the function that updates call.
+/// Whether a value names the function that an update calls: as a symbol or as characters.
 fn is_upd(value: &Value) -> bool
     ensures { result ≡ is_upd (function_of (tree value.now)) }
 {
@@ -51,6 +52,7 @@ fn is_upd(value: &Value) -> bool
     }
 }
 
+/// The symbol that a value is, if it is one.
 fn symbol_in(value: Value) -> Option<Sym>
     ensures { option_map (λ s. s) result ≡ symbol_of (tree value) }
 {
@@ -60,7 +62,7 @@ fn symbol_in(value: Value) -> Option<Sym>
     }
 }
 
-/// The atoms of a vector, each a value.
+/// The atoms of a vector, each as a value.
 fn atoms_in(alloc: Global, vector: &Vector) -> Result<Values, NoMemory>
     ensures { IfOk result (λ values. trees values ≡ map atom vector.now.atoms) }
 {
@@ -71,7 +73,7 @@ fn atoms_in(alloc: Global, vector: &Vector) -> Result<Values, NoMemory>
     Ok(Values::from_vec(atoms))
 }
 
-/// The items of a list, or the atoms of a vector.
+/// The items of a list or the atoms of a vector; another value has none.
 fn items_in(alloc: Global, value: Value) -> Result<Option<Values>, NoMemory>
     ensures { IfOk result (λ found. option_map (λ v. trees v) found ≡ items_in (tree value)) }
 {
@@ -82,7 +84,7 @@ fn items_in(alloc: Global, value: Value) -> Result<Option<Values>, NoMemory>
     }
 }
 
-/// The three parts of a list that has three.
+/// The three items of a list that has exactly three.
 fn parts_of(items: Values) -> Option<(Value, Value, Value)>
     ensures { AreParts (trees items) result }
 {
@@ -96,7 +98,7 @@ fn parts_of(items: Values) -> Option<(Value, Value, Value)>
     Some((first, second, third))
 }
 
-/// An update by its table and its items.
+/// The update of a table with these items, where the call has both.
 fn update_of(table: Option<Sym>, items: Option<Values>) -> Asked
     ensures { Asks (update_of table (option_map (λ v. trees v) items)) result }
 {
@@ -109,6 +111,7 @@ fn update_of(table: Option<Sym>, items: Option<Values>) -> Asked
     Asked::Update(UpdRequest { table, items })
 }
 
+/// What a call of the function `first` with two arguments asks for.
 fn call_in(alloc: Global, first: &Value, second: Value, third: Value) -> Result<Asked, NoMemory>
     ensures { IfOk result (Asks (call_of (function_of (tree first.now)) (tree second) (tree third))) }
 {
@@ -129,7 +132,7 @@ fn call_of_list(alloc: Global, items: Values) -> Result<Asked, NoMemory>
     }
 }
 
-/// What a vector of symbols asks for.
+/// What a vector of symbols asks for: three of them are a call whose last argument is no list.
 fn call_of_symbols(symbols: &Symbols) -> Asked
     ensures { Asks (parts_request (map atom (map (λ s. Atom.Symbol s) symbols.now))) result }
 {
@@ -157,7 +160,7 @@ fn vector_asked(alloc: Global, vector: &Vector) -> Result<Asked, NoMemory>
     }
 }
 
-/// The byte of a character.
+/// The byte of an atom, if it is a character.
 fn character_in(atom: &Atom) -> Option<u8>
     ensures { result ≡ character_of atom.now }
 {
@@ -177,7 +180,7 @@ fn atom_asked(alloc: Global, atom: &Atom) -> Result<Asked, NoMemory>
     }
 }
 
-/// What a message with this value asks for.
+/// What a message with this value asks for. Fails with `NoMemory` where the request can't be copied out of it.
 pub fn asked_by(alloc: Global, value: Value) -> Result<Asked, NoMemory>
     ensures { IfOk result (Asks (request_of (tree value))) }
 {

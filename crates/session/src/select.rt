@@ -1,4 +1,4 @@
-//! Answering a text over a snapshot.
+//! Answers to texts, each over a snapshot of the chronicle.
 ghost use Rattle.std.specs.Prelude.{◌≡◌, ◌<◌, ◌≤◌, ◌∷◌, [], true, codes, IfOk, Some, slice_get, length, ◌++◌, OnOk};
 ghost use Rattle.std.specs.Str.{bytes_eq};
 ghost use Rattle.day_rows.specs.Chronicle.{view};
@@ -22,13 +22,13 @@ use q_values::{
 };
 use std::alloc::Global;
 
-/// What the texts that are answered begin with.
+/// The start of each text that is answered.
 const SELECT: [u8; 12] = *b"select from ";
 
-/// The greatest count in an answer.
-const MOST: usize = 2_147_483_647;
+/// The most rows or columns that a table in a message can have: counts are signed 32-bit numbers (KX, IPC reference).
+const MAX_ENCODED_COUNT: usize = 2_147_483_647;
 
-/// Whether a text asks for all of the table of this name.
+/// Whether a text asks for all rows of the table of this name.
 fn asks_for(text: &[u8], name: &[u8]) -> bool
     ensures { result ≡ bytes_eq text.now (select_from name.now) }
 {
@@ -38,19 +38,19 @@ fn asks_for(text: &[u8], name: &[u8]) -> bool
     }
 }
 
-/// The place of the table that a text asks for.
+/// The index in the schema of the table that a text asks for.
 pub fn table_asked(schema: &Schema, text: &[u8]) -> Option<u32>
     ensures { FindsTable schema.now text.now result }
 {
-    for place in 0..schema.len() {
-        if asks_for(text, schema.at(place).table.bytes()) {
-            return Some(place as u32);
+    for index in 0..schema.len() {
+        if asks_for(text, schema.at(index).table.bytes()) {
+            return Some(index as u32);
         }
     }
     None
 }
 
-/// The names of an answer's columns: `date`, and then those of the table.
+/// The names of an answer's columns: `date`, and then those of the table's columns.
 fn names_of(alloc: Global, shape: &Shape) -> Result<Names, NoMemory>
     ensures { IfOk result (λ names. names ≡ codes "date" ∷ shape.now.names) }
 {
@@ -62,30 +62,30 @@ fn names_of(alloc: Global, shape: &Shape) -> Result<Names, NoMemory>
     Ok(names)
 }
 
-/// The dates of a table's rows on the date at a place.
-fn dates_at(alloc: Global, snapshot: &Snapshot, k: usize, place: u32) -> Result<Vector, NoMemory>
+/// The column `date` of a table's rows on the date at the index `k`.
+fn dates_at(alloc: Global, snapshot: &Snapshot, k: usize, index: u32) -> Result<Vector, NoMemory>
     requires date { k < length (dates_of snapshot.now.frame.first snapshot.now.entries) }
-    requires table { place < length snapshot.now.frame.schema }
-    ensures { IfOk result (λ part. part ≡ dates_of_rows (rows_at snapshot.now.frame.first snapshot.now.entries k place)) }
+    requires table { index < length snapshot.now.frame.schema }
+    ensures { IfOk result (λ part. part ≡ dates_of_rows (rows_at snapshot.now.frame.first snapshot.now.entries k index)) }
 {
-    let rows = snapshot.rows_at(k, place) as usize;
+    let rows = snapshot.rows_at(k, index) as usize;
     let dates = vec![in alloc; snapshot.date_at(k); rows]?;
     Ok(Vector::from_column(Column::Integers(IntegerKind::Date, dates)))
 }
 
-/// The date of each row of a table.
-fn date_column(alloc: Global, snapshot: &Snapshot, place: u32) -> Result<Vector, NoMemory>
-    requires { place < length snapshot.now.frame.schema }
-    ensures { IfOk result (λ whole. whole ≡ dates_of_rows (view snapshot.now.frame.first snapshot.now.entries place)) }
+/// The column `date` of all of a table's rows.
+fn date_column(alloc: Global, snapshot: &Snapshot, index: u32) -> Result<Vector, NoMemory>
+    requires { index < length snapshot.now.frame.schema }
+    ensures { IfOk result (λ whole. whole ≡ dates_of_rows (view snapshot.now.frame.first snapshot.now.entries index)) }
 {
     let mut whole = Vector::new(alloc, Kind::Date);
     for k in 0..snapshot.dates() {
-        append(&mut whole, &dates_at(alloc, snapshot, k, place)?)?;
+        append(&mut whole, &dates_at(alloc, snapshot, k, index)?)?;
     }
     Ok(whole)
 }
 
-/// A vector's atoms behind those of another of its kind.
+/// Appends a vector to another one of its kind.
 fn append(whole: &mut Vector, part: &Vector) -> Result<(), NoMemory>
     requires { part.now.kind ≡ whole.old.kind }
     ensures { OnOk result (whole.new ≡ record whole.old { atoms = whole.old.atoms ++ part.now.atoms }) }
@@ -100,18 +100,18 @@ fn append(whole: &mut Vector, part: &Vector) -> Result<(), NoMemory>
 fn whole_column(
     alloc: Global,
     snapshot: &Snapshot,
-    place: u32,
+    index: u32,
     column: u32,
     kind: Kind,
 ) -> Result<Vector, NoMemory>
-    requires table { place < length snapshot.now.frame.schema }
-    requires exists { HasColumn snapshot.now.frame.schema place column kind }
-    ensures { IfOk result (λ whole. whole ≡ column_of kind column (view snapshot.now.frame.first snapshot.now.entries place)) }
+    requires table { index < length snapshot.now.frame.schema }
+    requires exists { HasColumn snapshot.now.frame.schema index column kind }
+    ensures { IfOk result (λ whole. whole ≡ column_of kind column (view snapshot.now.frame.first snapshot.now.entries index)) }
 {
     let mut whole = Vector::new(alloc, kind);
     for k in 0..snapshot.dates() {
-        let rows = snapshot.rows_at(k, place);
-        let part = snapshot.column(alloc, k, place, column, 0, rows)?;
+        let rows = snapshot.rows_at(k, index);
+        let part = snapshot.column(alloc, k, index, column, 0, rows)?;
         append(&mut whole, &part)?;
     }
     Ok(whole)
@@ -122,64 +122,64 @@ fn columns_of(
     alloc: Global,
     shape: &Shape,
     snapshot: &Snapshot,
-    place: u32,
+    index: u32,
 ) -> Result<Columns, NoMemory>
-    requires shape { slice_get snapshot.now.frame.schema place ≡ Some shape.now }
+    requires shape { slice_get snapshot.now.frame.schema index ≡ Some shape.now }
     requires few { length shape.now.kinds ≤ 48 }
     ensures { IfOk result (λ columns. columns ≡
-        dates_of_rows (view snapshot.now.frame.first snapshot.now.entries place)
-        ∷ columns_from 0 shape.now.kinds (view snapshot.now.frame.first snapshot.now.entries place)) }
+        dates_of_rows (view snapshot.now.frame.first snapshot.now.entries index)
+        ∷ columns_from 0 shape.now.kinds (view snapshot.now.frame.first snapshot.now.entries index)) }
 {
     let mut columns = Columns::new(alloc);
-    columns.push(date_column(alloc, snapshot, place)?)?;
+    columns.push(date_column(alloc, snapshot, index)?)?;
     for i in 0..shape.kinds.len() {
         let kind = *shape.kinds.at(i);
-        columns.push(whole_column(alloc, snapshot, place, i as u32, kind)?)?;
+        columns.push(whole_column(alloc, snapshot, index, i as u32, kind)?)?;
     }
     Ok(columns)
 }
 
-/// All of a table in the documented order, its date first.
+/// All rows of a table in the documented order, its first column the date.
 fn whole_table(
     alloc: Global,
     schema: &Schema,
     snapshot: &Snapshot,
-    place: u32,
+    index: u32,
 ) -> Result<TableValue, NoMemory>
     requires same { snapshot.now.frame.schema ≡ schema.now }
-    requires within { place < length schema.now }
-    ensures { IfOk result (λ t. (shape : _) → slice_get schema.now place ≡ Some shape →
-        (record { names = t.names; columns = t.columns }) ≡ shown shape (view snapshot.now.frame.first snapshot.now.entries place)) }
+    requires within { index < length schema.now }
+    ensures { IfOk result (λ t. (shape : _) → slice_get schema.now index ≡ Some shape →
+        (record { names = t.names; columns = t.columns }) ≡ shown shape (view snapshot.now.frame.first snapshot.now.entries index)) }
 {
-    let shape = schema.at(place as usize);
+    let shape = schema.at(index as usize);
     let names = names_of(alloc, shape)?;
-    let columns = columns_of(alloc, shape, snapshot, place)?;
+    let columns = columns_of(alloc, shape, snapshot, index)?;
     Ok(TableValue { names, columns })
 }
 
-/// Whether a table's counts fit in an answer.
+/// Whether a table's counts fit in a message.
 fn can_be_sent(table: &TableValue) -> bool
     ensures columns { result ≡ true → length table.now.columns ≤ 2147483647 }
     ensures rows { result ≡ true → rows_of table.now.columns ≤ 2147483647 }
 {
-    table.columns.len() <= MOST && table.columns.at(0).len() <= MOST
+    table.columns.len() <= MAX_ENCODED_COUNT && table.columns.at(0).len() <= MAX_ENCODED_COUNT
 }
 
-/// The response with all of a table.
+/// The response with all rows of the table at an index of the schema.
 pub fn select_reply(
     alloc: Global,
     schema: &Schema,
     snapshot: &Snapshot,
-    place: u32,
+    index: u32,
     limits: &Limits,
 ) -> Result<Reply, NoMemory>
     requires limits { AreLimits limits.now }
     requires same { snapshot.now.frame.schema ≡ schema.now }
-    requires within { place < length schema.now }
-    ensures { IfOk result (λ r. (shape : _) → slice_get schema.now place ≡ Some shape →
-        reply_bytes r ≡ reply limits.now (table (shown shape (view snapshot.now.frame.first snapshot.now.entries place)))) }
+    requires within { index < length schema.now }
+    ensures { IfOk result (λ r. (shape : _) → slice_get schema.now index ≡ Some shape →
+        reply_bytes r ≡ reply limits.now (table (shown shape (view snapshot.now.frame.first snapshot.now.entries index)))) }
 {
-    let table = whole_table(alloc, schema, snapshot, place)?;
+    let table = whole_table(alloc, schema, snapshot, index)?;
     if !can_be_sent(&table) {
         return Err(NoMemory);
     }

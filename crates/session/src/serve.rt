@@ -1,127 +1,93 @@
-//! Serving what is heard of a link, one event after the other.
+//! Serving what a session hears, one event after the other.
 ghost use Rattle.std.specs.Prelude.{◌≡◌, ◌<◌, ◌+◌, if◌then◌else◌, MatchOption, ℕ};
 ghost use Rattle.ipc_frame.specs.View.{told_place};
 ghost use Rattle.q_values.specs.Limits.{AreLimits};
 ghost use Rattle.session.specs.Acting.{IdlesBy};
-ghost use Rattle.session.specs.Ended.{Runs, Converses};
+ghost use Rattle.session.specs.Ended.{Converses, Goes};
 
-use crate::act::{greet, serve_idle, serve_outside, serve_short, serve_value};
+use crate::act::{greet, serve_outside, serve_short};
 use crate::end::End;
-use crate::reader::{Arrival, Reader};
+use crate::reader::Arrival;
+use crate::session::Session;
 use outside_api::{Clock, Gate, Link, Recorder};
 use plant_core::Access;
-use q_values::Limits;
 use std::alloc::Global;
 use std::sync::Wait;
 
-/// The end of a session whose input ended, between messages or within one.
-fn ended(between: bool) -> End
+/// Why a session ends whose input ended between messages, or within one.
+fn end_of_input(between: bool) -> End
     ensures { result ≡ (if between then End.Closed else End.Truncated) }
 {
     if between { End::Closed } else { End::Truncated }
 }
 
-/// Serves an idle of the link, and tells whether it was the last.
-fn idle<A: Access, C: Clock, G: Gate, N: Recorder, R: Wait>(
-    rt: &R,
-    alloc: Global,
-    access: &mut A,
-    clock: &mut C,
-    gate: &mut G,
-    turns: &mut N,
-    left: &mut u64,
-) -> Option<End>
-    requires { 0 < left.old }
-    ensures idled { IdlesBy (A.shown access.old) (A.shown access.new) (C.readings clock.old) (C.readings clock.new) (N.noted turns.old) (N.noted turns.new) }
-    ensures left { left.old ≡ left.new + 1 }
-    ensures end { MatchOption result (0 < left.new) (λ end. (end ≡ End.Idle) × (left.new ≡ 0)) }
-{
-    serve_idle(rt, alloc, access, clock, gate, turns);
-    *left -= 1;
-    if *left == 0 { Some(End::Idle) } else { None }
-}
+impl<A: Access, L: Link, C: Clock, G: Gate, N: Recorder> Session<'_, A, L, C, G, N> {
+    ghost use Rattle.session.specs.Devices.{world_of, HasSameDevices};
 
-/// Hears what comes next of a link and serves it, or tells how the session ends.
-pub fn serve_next<A: Access, L: Link, C: Clock, G: Gate, N: Recorder, R: Wait>(
-    rt: &R,
-    alloc: Global,
-    access: &mut A,
-    link: &mut L,
-    clock: &mut C,
-    gate: &mut G,
-    turns: &mut N,
-    limits: &Limits,
-    reader: &mut Reader,
-    left: &mut u64,
-) -> Option<End>
-    requires limits { AreLimits limits.now }
-    requires same { (A.shown access.old).frame.limits ≡ limits.now }
-    requires known { reader.old.framer.limits ≡ limits.now }
-    requires some { 0 < left.old }
-    ensures { (place : ℕ) → reader.old.framer.place ≡ told_place place → MatchOption result
-        (Runs limits.now place
-        (record { link = L.shown link.old; clock = C.readings clock.old; notes = N.noted turns.old; access = A.shown access.old })
-        (record { link = L.shown link.new; clock = C.readings clock.new; notes = N.noted turns.new; access = A.shown access.new })
-        reader.old reader.new left.old left.new)
-        (λ end. Converses limits.now place
-        (record { link = L.shown link.old; clock = C.readings clock.old; notes = N.noted turns.old; access = A.shown access.old })
-        (record { link = L.shown link.new; clock = C.readings clock.new; notes = N.noted turns.new; access = A.shown access.new })
-        reader.old left.old end) }
-{
-    match reader.arrive(link) {
-        Arrival::More => None,
-        Arrival::Greeting { capability } => greet(link, turns, capability),
-        Arrival::Message(message) => serve_value(
-            rt,
-            alloc,
-            access,
-            link,
-            clock,
-            gate,
-            turns,
-            limits,
-            message.sync,
-            message.value,
-        ),
-        Arrival::Outside { sync } => serve_outside(link, turns, limits, sync),
-        Arrival::Skipped { sync } => serve_short(link, turns, sync),
-        Arrival::Bad { code, at } => Some(End::BadMessage { code, at }),
-        Arrival::Idle => idle(rt, alloc, access, clock, gate, turns, left),
-        Arrival::Ended { between } => Some(ended(between)),
-        Arrival::Failed => Some(End::ReadFault),
-    }
-}
-
-/// Hears and serves until the session ends.
-pub fn serve_all<A: Access, L: Link, C: Clock, G: Gate, N: Recorder, R: Wait>(
-    rt: &R,
-    alloc: Global,
-    access: &mut A,
-    link: &mut L,
-    clock: &mut C,
-    gate: &mut G,
-    turns: &mut N,
-    limits: &Limits,
-    reader: &mut Reader,
-) -> End
-    requires limits { AreLimits limits.now }
-    requires same { (A.shown access.old).frame.limits ≡ limits.now }
-    requires known { reader.old.framer.limits ≡ limits.now }
-    requires first { reader.old.framer.place ≡ 0 }
-    ensures { Converses limits.now 0
-        (record { link = L.shown link.old; clock = C.readings clock.old; notes = N.noted turns.old; access = A.shown access.old })
-        (record { link = L.shown link.new; clock = C.readings clock.new; notes = N.noted turns.new; access = A.shown access.new })
-        reader.old limits.now.idle result }
-{
-    let mut left = limits.idle;
-    for _ in rt.forever() {
-        let served = serve_next(
-            rt, alloc, access, link, clock, gate, turns, limits, reader, &mut left,
-        );
-        match served {
-            Some(end) => return end,
-            None => {}
+    /// Serves a read timeout of the link, and ends the session where it was the last one that the limits allow.
+    fn time_out<R: Wait>(&mut self, rt: &R, alloc: Global) -> Option<End>
+        requires { 0 < self.old.idles_left }
+        ensures same { HasSameDevices self.old self.new }
+        ensures reader { self.new.reader.now ≡ self.old.reader.now }
+        ensures idled { IdlesBy
+            (world_of A.shown L.shown C.readings N.noted self.old)
+            (world_of A.shown L.shown C.readings N.noted self.new) }
+        ensures left { self.old.idles_left ≡ self.new.idles_left + 1 }
+        ensures end { MatchOption result (0 < self.new.idles_left) (λ end. (end ≡ End.Idle) × (self.new.idles_left ≡ 0)) }
+    {
+        self.serve_timeout(rt, alloc);
+        self.idles_left -= 1;
+        if self.idles_left == 0 {
+            Some(End::Idle)
+        } else {
+            None
         }
     }
-    unreachable!()
+
+    /// Reads the link and serves what it hears, if anything; the answer is why the session ends, where it does.
+    fn serve_next<R: Wait>(&mut self, rt: &R, alloc: Global) -> Option<End>
+        requires limits { AreLimits self.old.limits.now }
+        requires same { (A.shown self.old.access.now).frame.limits ≡ self.old.limits.now }
+        requires known { self.old.reader.now.framer.limits ≡ self.old.limits.now }
+        requires some { 0 < self.old.idles_left }
+        ensures same { HasSameDevices self.old self.new }
+        ensures goes { (place : ℕ) → self.old.reader.now.framer.place ≡ told_place place → Goes self.old.limits.now place
+            (world_of A.shown L.shown C.readings N.noted self.old)
+            (world_of A.shown L.shown C.readings N.noted self.new)
+            self.old.reader.now self.new.reader.now self.old.idles_left self.new.idles_left result }
+    {
+        match self.reader.arrive(self.link) {
+            Arrival::More => None,
+            Arrival::Greeting { capability } => greet(self.link, self.recorder, capability),
+            Arrival::Message(message) => self.serve_value(rt, alloc, message.sync, message.value),
+            Arrival::Outside { sync } => serve_outside(self.link, self.recorder, self.limits, sync),
+            Arrival::Skipped { sync } => serve_short(self.link, self.recorder, sync),
+            Arrival::Bad { code, at } => Some(End::BadMessage { code, at }),
+            Arrival::Idle => self.time_out(rt, alloc),
+            Arrival::Ended { between } => Some(end_of_input(between)),
+            Arrival::Failed => Some(End::ReadFault),
+        }
+    }
+
+    /// Reads and serves until the session ends.
+    pub fn serve_all<R: Wait>(&mut self, rt: &R, alloc: Global) -> End
+        requires limits { AreLimits self.old.limits.now }
+        requires same { (A.shown self.old.access.now).frame.limits ≡ self.old.limits.now }
+        requires known { self.old.reader.now.framer.limits ≡ self.old.limits.now }
+        requires first { self.old.reader.now.framer.place ≡ 0 }
+        requires some { 0 < self.old.idles_left }
+        ensures same { HasSameDevices self.old self.new }
+        ensures converses { Converses self.old.limits.now 0
+            (world_of A.shown L.shown C.readings N.noted self.old)
+            (world_of A.shown L.shown C.readings N.noted self.new)
+            self.old.reader.now self.old.idles_left result }
+    {
+        for _ in rt.forever() {
+            match self.serve_next(rt, alloc) {
+                Some(end) => return end,
+                None => {}
+            }
+        }
+        unreachable!()
+    }
 }

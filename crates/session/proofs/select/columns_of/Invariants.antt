@@ -5,4 +5,4 @@ use Rattle.session.specs.Answer.{dates_of_rows}
 use Rattle.session.proofs.select.columns_of.Given as goal
 
 abbrev pub invariant-loop-i : goal.invariant-loop-i
-invariant-loop-i l = l.columns ≡ dates_of_rows (view l.snapshot.frame.first l.snapshot.entries l.place) ∷ take l.i (columns_from 0 l.shape.kinds (view l.snapshot.frame.first l.snapshot.entries l.place))
+invariant-loop-i l = l.columns ≡ dates_of_rows (view l.snapshot.frame.first l.snapshot.entries l.index) ∷ take l.i (columns_from 0 l.shape.kinds (view l.snapshot.frame.first l.snapshot.entries l.index))

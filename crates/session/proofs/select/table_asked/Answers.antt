@@ -4,8 +4,8 @@ use Rattle.session.proofs.select.table_asked.Goals as goal
 
 pub returns-then-asks_for : goal.returns-then-asks_for
 returns-then-asks_for c =
-    (c.at.result.now, c.at.ensures.value, c.loop-place.invariant ∙ asked_here c.args.text.now c.args.schema.now c.loop-place.place c.at.result.now c.at.ensures.value (rw c.bytes.ensures.value at (sym c.asks_for.ensures ∙ c.if-asks_for.true)))
+    (c.at.result.now, c.at.ensures.value, c.loop-index.invariant ∙ asked_here c.args.text.now c.args.schema.now c.loop-index.index c.at.result.now c.at.ensures.value (rw c.bytes.ensures.value at (sym c.asks_for.ensures ∙ c.if-asks_for.true)))
 
-pub loop-place-preserved : goal.loop-place-preserved
-loop-place-preserved c =
-    c.loop-place.invariant ∙ not_asked_here c.args.text.now c.args.schema.now c.loop-place.place c.at.result.now c.at.ensures.value (rw c.bytes.ensures.value at (sym c.asks_for.ensures ∙ c.if-asks_for.false))
+pub loop-index-preserved : goal.loop-index-preserved
+loop-index-preserved c =
+    c.loop-index.invariant ∙ not_asked_here c.args.text.now c.args.schema.now c.loop-index.index c.at.result.now c.at.ensures.value (rw c.bytes.ensures.value at (sym c.asks_for.ensures ∙ c.if-asks_for.false))

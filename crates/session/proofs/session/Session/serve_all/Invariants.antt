@@ -1,0 +1,10 @@
+use Rattle.session.specs.Devices.{HasSameDevices, world_of}
+use Rattle.session.specs.Ended.{Runs}
+use Rattle.session.proofs.session.Session.serve_all.Given as goal
+
+abbrev pub invariant-loop : goal.invariant-loop
+invariant-loop g l =
+    (goal.iterator-loop g).can_next l.iterator' × (goal.iterator-loop g).is_finite l.iterator' × HasSameDevices l.fn.self l.self × Runs l.fn.self.limits.now 0
+    (world_of g.A.Access.shown g.L.Link.shown g.C.Clock.readings g.N.Recorder.noted l.fn.self)
+    (world_of g.A.Access.shown g.L.Link.shown g.C.Clock.readings g.N.Recorder.noted l.self)
+    l.fn.self.reader.now l.self.reader.now l.fn.self.idles_left l.self.idles_left
