@@ -1,2 +1,2 @@
+pub mod ArgumentsLemmas
 pub mod TimestampLemmas
-pub mod WordsLemmas

@@ -11,7 +11,7 @@ use Rattle.std.proofs.Math.Nat.{pow-suc}
 use Rattle.std.proofs.lemmas.Nat.{div-mul-add, mod-mul-add}
 use Rattle.std.proofs.lemmas.Str.{digit_value_digit}
 use Rattle.std.proofs.lemmas.Bool.Decides.{nat_tests}
-use Rattle.plant_edge.specs.Words.{is_decimal_digit, number_below, part, has_clock_marks, moment_at, clock_moment, asked}
+use Rattle.plant_edge.specs.Arguments.{is_decimal_digit, number_below, part, has_clock_marks, moment_at, clock_moment, asked}
 use Rattle.plant_edge.specs.Timestamp.{decimal_digits, TimeOfDay, IsTimeOfDay, timestamp, moment_of_time, AsksFor}
 
 last_digit : (n : ℕ) → digit_value (48 + n % 10) ≡ n % 10

@@ -1,4 +1,4 @@
+pub mod Arguments
 pub mod Link
 pub mod Outside
 pub mod Timestamp
-pub mod Words

@@ -1,4 +1,4 @@
--- What the adapter of a reader and a writer shows.
+-- What the link of a reader and a writer shows.
 use Rattle.std.specs.Prelude.{ℕ, List, [], Option, None, take}
 use Rattle.std.specs.Io.KnownBytes.{Consumes}
 use Rattle.outside_api.specs.Link.{LinkView}
@@ -17,15 +17,15 @@ link_shown link = record {
   idles = link.idles;
 }
 
--- the bytes that its writer holds, where that tells them
+-- the bytes that its writer holds, where the writer tells them
 abbrev pub sent_by : {I O : Type 0} → (O → Option (List ℕ)) → StandardLink I O → Option (List ℕ)
 sent_by contents link = contents link.output
 
--- the bytes that its reader has left, where that tells them
+-- the bytes that its reader has left, where the reader tells them
 abbrev pub coming_by : {I O : Type 0} → (I → Option (List ℕ)) → StandardLink I O → Option (List ℕ)
 coming_by remaining link = remaining link.input
 
--- what a read gave came from the reader, and nothing else was taken from it
+-- what a read gave is what it took from the reader
 abbrev pub Came : Option (List ℕ) → Option (List ℕ) → List ℕ → Got → Type 0
 Came old new buf (Bytes n) = Consumes old new (take n buf)
 Came old new buf End = Consumes old new []

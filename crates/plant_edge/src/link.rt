@@ -1,14 +1,22 @@
+//! A link over a reader and a writer.
 use outside_api::{Got, Link, LinkFault};
 use std::io::{ErrorKind, Read, Write};
 
-/// The link of a reader and a writer, as standard input and output. It tells no bytes; it counts its errors.
+/// The link of a reader and a writer, such as standard input and output. It counts its faults and its read timeouts, and
+/// keeps no bytes. Each count saturates at 2^64 - 1.
 #[derive(Drop)]
 pub struct StandardLink<I, O> {
+    /// Where bytes are read from.
     input: I,
+    /// Where bytes are written to.
     output: O,
+    /// Whether a read found the end of the input. Each later read finds it again.
     ended: bool,
+    /// How many reads failed.
     read_faults: u64,
+    /// How many writes failed.
     write_faults: u64,
+    /// How many reads timed out.
     idles: u64,
 }
 
@@ -16,7 +24,7 @@ impl<I: Read, O: Write> StandardLink<I, O> {
     ghost use Rattle.outside_api.specs.Outside.{IsFresh};
     ghost use Rattle.plant_edge.specs.Link.{link_shown};
 
-    /// A link that reads from the one and writes to the other.
+    /// A link that reads from `input` and writes to `output`, its counts 0.
     pub fn new(input: I, output: O) -> StandardLink<I, O>
         ensures { IsFresh (link_shown result) }
     {
@@ -75,7 +83,7 @@ impl<I: Read, O: Write> Link for StandardLink<I, O> {
     }
 }
 
-// Whether the error says that nothing came in time.
+/// Whether an error means that the read timed out.
 fn is_idle(kind: ErrorKind) -> bool {
     matches!(
         kind,

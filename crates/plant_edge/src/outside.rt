@@ -1,3 +1,4 @@
+//! The devices of a program over its runtime.
 use crate::link::StandardLink;
 use crate::recorder::SilentRecorder;
 use outside_api::{MakeFault, Outside};
@@ -5,11 +6,11 @@ use outside_mem::NoGate;
 use std::io;
 use std::io::{Input, Printer, Write};
 
-/// The outside of a program over its runtime: standard input and output are its link, warnings go to the writer, which
-/// is standard error. It tells nothing.
+/// The devices of a program over its runtime: standard input and output are its link, and warnings go to a writer, which
+/// is standard error. What passes through them isn't kept.
 #[derive(Drop)]
 pub struct StandardOutside<'a, R, E> {
-    /// The runtime.
+    /// The runtime, whose standard input and output are the link.
     pub rt: &'a R,
     /// Where warnings go.
     pub errors: E,
@@ -48,7 +49,8 @@ impl<'a, R: Input + Print, E: Write + Drop> Outside for StandardOutside<'a, R, E
     }
 
     fn back(&mut self, link: Option<Self::Link>, recorder: Option<SilentRecorder>)
-        ensures { silent_outside ≡ handed_back silent_outside (option_map (λ l. link_shown l) link.entry) (option_map (λ r. silent_recorder r) recorder) }
+        ensures { silent_outside ≡ handed_back silent_outside
+            (option_map (λ l. link_shown l) link.entry) (option_map (λ r. silent_recorder r) recorder) }
     {
         let _handed = (link, recorder);
     }

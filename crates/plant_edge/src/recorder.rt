@@ -1,7 +1,8 @@
+//! A recorder that keeps nothing.
 use outside_api::Recorder;
 use q_values::Turn;
 
-/// A recorder that keeps and tells nothing.
+/// A recorder that forgets each turn.
 #[derive(Clone, Copy, Debug, PartialEq, Eq)]
 pub struct SilentRecorder;
 

@@ -1,3 +1,4 @@
+//! The link and the devices of the runtime, and the arguments that ask for a clock.
 use crate::{StandardLink, StandardOutside, clock_of};
 use outside_api::{Got, Link, LinkFault, Outside, Recorder};
 use q_values::{NoMemory, Turn};
@@ -6,7 +7,7 @@ use std::io;
 use std::io::{ErrorKind, Read, Write};
 use std::test::Fail;
 
-// Gives an interruption, a fault, one byte and the end, in this order.
+/// Gives an interruption, a fault, one byte and the end, in this order.
 #[derive(Drop)]
 struct FaultyReader {
     reads: u32,
@@ -27,7 +28,7 @@ impl Read for FaultyReader {
     }
 }
 
-// Takes no byte.
+/// Takes no byte.
 #[derive(Drop)]
 struct FullWriter;
 
@@ -80,7 +81,7 @@ fn use_once<O: Outside>(outside: &mut O) -> bool {
     written
 }
 
-// Keeps what is written to it.
+/// Keeps what is written to it.
 #[derive(Drop)]
 struct Kept {
     bytes: Vec<u8>,
@@ -120,12 +121,12 @@ fn standard_output_takes_bytes(rt: HostRuntime) {
     assert!(rt; use_once(&mut outside));
 }
 
-fn words(alloc: Global, text: &str) -> Result<Vec<String>, NoMemory> {
-    let mut words = Vec::new(alloc);
-    for word in text.split(' ') {
-        words.push(String::from_str(alloc, word)?)?;
+fn arguments_of(alloc: Global, text: &str) -> Result<Vec<String>, NoMemory> {
+    let mut arguments = Vec::new(alloc);
+    for argument in text.split(' ') {
+        arguments.push(String::from_str(alloc, argument)?)?;
     }
-    Ok(words)
+    Ok(arguments)
 }
 
 #[test]
@@ -151,8 +152,8 @@ fn first_update_answered(rt: HostRuntime) -> Result<(), Fail> {
         ("once", None),
     ];
     for (text, moment) in cases {
-        let words = words(rt.alloc(), text)?;
-        assert_eq!(rt; clock_of(&words), moment, "{text}");
+        let arguments = arguments_of(rt.alloc(), text)?;
+        assert_eq!(rt; clock_of(&arguments), moment, "{text}");
     }
     Ok(())
 }

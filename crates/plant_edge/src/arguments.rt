@@ -1,20 +1,22 @@
+//! Reading the arguments of the program.
 ghost use Rattle.std.specs.Prelude.{◌≡◌, ◌+◌, ◌<◌, ◌≤◌, ◌↔◌, IfSome, Some, length, map, string_bytes};
 ghost use Rattle.plant_edge.specs.Timestamp.{AsksFor};
-ghost use Rattle.plant_edge.specs.Words.{asked, clock_moment, number_below, has_clock_marks, part};
+ghost use Rattle.plant_edge.specs.Arguments.{asked, clock_moment, number_below, has_clock_marks, part};
 
-/// The moment of the clock that the words ask for, in nanoseconds since 2000.01.01, exactly where they are `once`,
-/// `--clock` and a timestamp `2024.01.02Dhh:mm:ss.nnnnnnnnn`. The words are those behind the program's name.
-pub fn clock_of(words: &[String]) -> Option<i64>
-    ensures asked { result ≡ asked (map string_bytes words.now) }
-    ensures timestamp { (moment : _) → (result ≡ Some moment) ↔ AsksFor (map string_bytes words.now) moment }
+/// The moment of the clock that the arguments ask for, in nanoseconds since 2000.01.01: exactly where they are `once`,
+/// `--clock` and a timestamp `2024.01.02Dhh:mm:ss.nnnnnnnnn`. The arguments are those after the program's name.
+pub fn clock_of(arguments: &[String]) -> Option<i64>
+    ensures asked { result ≡ asked (map string_bytes arguments.now) }
+    ensures timestamp { (moment : _) → (result ≡ Some moment) ↔ AsksFor (map string_bytes arguments.now) moment }
 {
-    moment_asked(words)
+    moment_asked(arguments)
 }
 
-fn moment_asked(words: &[String]) -> Option<i64>
-    ensures { result ≡ asked (map string_bytes words.now) }
+/// The moment that the three arguments `once --clock TIMESTAMP` ask for.
+fn moment_asked(arguments: &[String]) -> Option<i64>
+    ensures { result ≡ asked (map string_bytes arguments.now) }
 {
-    let [command, option, text] = words else {
+    let [command, option, text] = arguments else {
         return None;
     };
     if command.as_str() != "once" || option.as_str() != "--clock" {
@@ -23,6 +25,7 @@ fn moment_asked(words: &[String]) -> Option<i64>
     moment_of(text.as_bytes())
 }
 
+/// The moment of a timestamp of 2024.01.02, which is the day 8767 since 2000.01.01.
 fn moment_of(text: &[u8]) -> Option<i64>
     ensures { result ≡ clock_moment text.now }
 {
@@ -37,7 +40,7 @@ fn moment_of(text: &[u8]) -> Option<i64>
     Some((whole * 1_000_000_000 + nanoseconds) as i64)
 }
 
-// Whether all but the numbers of the time is as in a timestamp of the day.
+/// Whether a text is a timestamp of the day but for the digits of its time.
 fn has_marks(text: &[u8]) -> bool
     ensures { result ≡ has_clock_marks text.now }
 {
@@ -48,7 +51,7 @@ fn has_marks(text: &[u8]) -> bool
         && text[19] == b'.'
 }
 
-// The number that so many digits from a place on write, if it is below the limit.
+/// The number that the `count` digits at the offset `from` write, if it is below the limit.
 fn number_at(text: &[u8], from: usize, count: usize, limit: u64) -> Option<u64>
     requires within { from + count ≤ length text.now }
     requires short { count ≤ 9 }
@@ -58,6 +61,7 @@ fn number_at(text: &[u8], from: usize, count: usize, limit: u64) -> Option<u64>
     number(&text[from..][..count], limit)
 }
 
+/// The number that decimal digits write, if it is below the limit.
 fn number(digits: &[u8], limit: u64) -> Option<u64>
     requires { length digits.now ≤ 9 }
     ensures value { result ≡ number_below limit digits.now }

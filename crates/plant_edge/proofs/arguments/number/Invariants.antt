@@ -1,8 +1,8 @@
 use Rattle.std.proofs.Common.{◌≡◌, ◌^◌, ◌<◌, drop}
 use Rattle.std.specs.List.{list_all}
 use Rattle.std.specs.Str.Parse.{digits_value, digits_value_after}
-use Rattle.plant_edge.specs.Words.{is_decimal_digit}
-use Rattle.plant_edge.proofs.words.number.Given as goal
+use Rattle.plant_edge.specs.Arguments.{is_decimal_digit}
+use Rattle.plant_edge.proofs.arguments.number.Given as goal
 
 abbrev pub invariant-loop-digit : goal.invariant-loop-digit
 invariant-loop-digit l = record {
