@@ -36,6 +36,21 @@ pub mistyped_is : (limits : Limits) (made : List ℕ) → made ≡ fixed_reply l
 unfolding written
 mistyped_is limits made e = e
 
+pub length_is : (limits : Limits) (made : List ℕ) → made ≡ fixed_reply limits (1 ∷ 2 ∷ 0 ∷ 0 ∷ 16 ∷ 0 ∷ 0 ∷ 0 ∷ 128 ∷ 108 ∷ 101 ∷ 110 ∷ 103 ∷ 116 ∷ 104 ∷ 0 ∷ [])
+    → made ≡ reply limits (wrong (codes "length"))
+unfolding written
+length_is limits made e = e
+
+pub limit_is : (limits : Limits) (made : List ℕ) → made ≡ fixed_reply limits (1 ∷ 2 ∷ 0 ∷ 0 ∷ 15 ∷ 0 ∷ 0 ∷ 0 ∷ 128 ∷ 108 ∷ 105 ∷ 109 ∷ 105 ∷ 116 ∷ 0 ∷ [])
+    → made ≡ reply limits (wrong (codes "limit"))
+unfolding written
+limit_is limits made e = e
+
+pub more_than_one_day_is : (limits : Limits) (made : List ℕ) → made ≡ fixed_reply limits (1 ∷ 2 ∷ 0 ∷ 0 ∷ 28 ∷ 0 ∷ 0 ∷ 0 ∷ 128 ∷ 109 ∷ 111 ∷ 114 ∷ 101 ∷ 32 ∷ 116 ∷ 104 ∷ 97 ∷ 110 ∷ 32 ∷ 111 ∷ 110 ∷ 101 ∷ 32 ∷ 100 ∷ 97 ∷ 121 ∷ 63 ∷ 0 ∷ [])
+    → made ≡ reply limits (wrong (codes "more than one day?"))
+unfolding written
+more_than_one_day_is limits made e = e
+
 -- a response that is longer than the limit
 pub too_long : (limits : Limits) (t : Tree) (bytes : List ℕ) (front : List ℕ) → bytes ≡ front ++ written t → length front ≡ 8 → limits.reply < length bytes → 1 ∷ 2 ∷ 0 ∷ 0 ∷ 15 ∷ 0 ∷ 0 ∷ 0 ∷ 128 ∷ 108 ∷ 105 ∷ 109 ∷ 105 ∷ 116 ∷ 0 ∷ [] ≡ reply limits t
 too_long limits t bytes front e size long =

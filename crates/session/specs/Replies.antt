@@ -25,3 +25,9 @@ Refuses limits (r.WrongType column) made = reply_bytes made ≡ reply limits (wr
 Refuses limits r.MoreThanOneDay made = reply_bytes made ≡ reply limits (wrong (codes "more than one day?"))
 Refuses limits r.Limit made = reply_bytes made ≡ reply limits (wrong (codes "limit"))
 Refuses limits r.NoMemory made = ⊥
+
+-- the response to this refusal takes memory, or there was none to find out why the update is refused
+abbrev pub NeedsMemory : UpdRefusal → Type 0
+NeedsMemory (r.NoTable name) = Unit {0}
+NeedsMemory r.NoMemory = Unit {0}
+NeedsMemory why = ⊥

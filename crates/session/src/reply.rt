@@ -1,11 +1,11 @@
 //! Responses: the bytes that answer a message.
-ghost use Rattle.std.specs.Prelude.{◌≡◌, ◌∷◌, [], IfOk, IfErr, codes};
+ghost use Rattle.std.specs.Prelude.{◌≡◌, ◌∷◌, [], IfOk, IfErr, OnErr, codes};
 ghost use Rattle.ipc_codec.specs.Written.{IsPlain};
 ghost use Rattle.q_values.specs.Limits.{AreLimits};
 ghost use Rattle.q_values.specs.Tree.{tree, identity, wrong};
 ghost use Rattle.session.specs.Reply.{response, reply, refusal_text};
 ghost use Rattle.q_values.specs.Bytes.{HasNoNul};
-ghost use Rattle.session.specs.Replies.{reply_bytes, fixed_reply, Refuses};
+ghost use Rattle.session.specs.Replies.{reply_bytes, fixed_reply, Refuses, NeedsMemory};
 
 use ipc_codec::encode;
 use plant_core::UpdRefusal;
@@ -35,6 +35,12 @@ static TYPE: [u8; 14] = *b"\x01\x02\x00\x00\x0e\x00\x00\x00\x80type\x00";
 
 /// The response of the error `limit`.
 static LIMIT: [u8; 15] = *b"\x01\x02\x00\x00\x0f\x00\x00\x00\x80limit\x00";
+
+/// The response of the error `length`.
+static LENGTH: [u8; 16] = *b"\x01\x02\x00\x00\x10\x00\x00\x00\x80length\x00";
+
+/// The response of the error `more than one day?`.
+static MORE_THAN_ONE_DAY: [u8; 28] = *b"\x01\x02\x00\x00\x1c\x00\x00\x00\x80more than one day?\x00";
 
 /// The response of the error `wsfull`.
 static WSFULL: [u8; 16] = *b"\x01\x02\x00\x00\x10\x00\x00\x00\x80wsfull\x00";
@@ -83,6 +89,27 @@ pub fn mistyped(limits: &Limits) -> Reply
     fixed(limits, &TYPE)
 }
 
+/// The error `length`, for an update whose items don't fit its table or each other.
+fn wrong_length(limits: &Limits) -> Reply
+    ensures { reply_bytes result ≡ reply limits.now (wrong (codes "length")) }
+{
+    fixed(limits, &LENGTH)
+}
+
+/// The error `more than one day?`, for an update two days or more after the open date.
+fn more_than_one_day(limits: &Limits) -> Reply
+    ensures { reply_bytes result ≡ reply limits.now (wrong (codes "more than one day?")) }
+{
+    fixed(limits, &MORE_THAN_ONE_DAY)
+}
+
+/// The error `limit`, for what is longer or more than the limits allow.
+fn over_the_limit(limits: &Limits) -> Reply
+    ensures { reply_bytes result ≡ reply limits.now (wrong (codes "limit")) }
+{
+    fixed(limits, &LIMIT)
+}
+
 /// The error `wsfull`: out of memory.
 pub fn wsfull() -> Reply
     ensures { reply_bytes result ≡ response (wrong (codes "wsfull")) }
@@ -107,17 +134,19 @@ pub fn respond(alloc: Global, value: &Value, limits: &Limits) -> Result<Reply, N
     Ok(Reply::Made(bytes))
 }
 
-/// The error with the text of a refusal. A refusal that is out of memory has no text of its own: it fails with `NoMemory`.
+/// The error with the text of a refusal. Only the text of an unknown table takes memory; a refusal that is out of memory
+/// has no text of its own. These two may fail with `NoMemory`, and no other refusal does.
 pub fn refuse(alloc: Global, why: UpdRefusal, limits: &Limits) -> Result<Reply, NoMemory>
     requires { AreLimits limits.now }
-    ensures { IfOk result (Refuses limits.now why) }
+    ensures refuses { IfOk result (Refuses limits.now why) }
+    ensures memory { OnErr result (NeedsMemory why) }
 {
     match why {
         UpdRefusal::NoTable(name) => respond_wrong(alloc, name.bytes(), limits),
-        UpdRefusal::Length => respond_wrong(alloc, b"length", limits),
-        UpdRefusal::WrongType { .. } => respond_wrong(alloc, b"type", limits),
-        UpdRefusal::MoreThanOneDay => respond_wrong(alloc, b"more than one day?", limits),
-        UpdRefusal::Limit => respond_wrong(alloc, b"limit", limits),
+        UpdRefusal::Length => Ok(wrong_length(limits)),
+        UpdRefusal::WrongType { .. } => Ok(mistyped(limits)),
+        UpdRefusal::MoreThanOneDay => Ok(more_than_one_day(limits)),
+        UpdRefusal::Limit => Ok(over_the_limit(limits)),
         UpdRefusal::NoMemory => Err(NoMemory),
     }
 }
