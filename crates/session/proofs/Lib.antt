@@ -13,3 +13,4 @@ pub mod ServedLemmas
 pub mod ShownLemmas
 pub mod StepLemmas
 pub mod ToldLemmas
+mod SizeLemmas

@@ -110,6 +110,13 @@ fn over_the_limit(limits: &Limits) -> Reply
     fixed(limits, &LIMIT)
 }
 
+/// The error `limit`, for a response that is longer than the limit.
+pub fn limit() -> Reply
+    ensures { reply_bytes result ≡ response (wrong (codes "limit")) }
+{
+    Reply::Fixed(&LIMIT)
+}
+
 /// The error `wsfull`: out of memory.
 pub fn wsfull() -> Reply
     ensures { reply_bytes result ≡ response (wrong (codes "wsfull")) }

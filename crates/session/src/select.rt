@@ -1,5 +1,6 @@
 //! Answers to texts, each over a snapshot of the chronicle.
 ghost use Rattle.std.specs.Prelude.{◌≡◌, ◌<◌, ◌≤◌, ◌∷◌, [], true, codes, IfOk, Some, slice_get, length, ◌++◌, OnOk};
+ghost use Rattle.std.specs.Bool.{MatchBool};
 ghost use Rattle.std.specs.Str.{bytes_eq};
 ghost use Rattle.day_rows.specs.Chronicle.{view};
 ghost use Rattle.day_rows.specs.Day.{columns_from};
@@ -14,7 +15,7 @@ ghost use Rattle.session.specs.Answering.{FindsTable};
 ghost use Rattle.session.specs.Replies.{reply_bytes};
 ghost use Rattle.session.specs.Reply.{reply};
 
-use crate::reply::{Reply, respond};
+use crate::reply::{Reply, limit, respond};
 use day_rows::{Schema, Shape};
 use plant_core::Snapshot;
 use q_values::{
@@ -25,8 +26,8 @@ use std::alloc::Global;
 /// The start of each text that is answered.
 const SELECT: [u8; 12] = *b"select from ";
 
-/// The most rows or columns that a table in a message can have: counts are signed 32-bit numbers (KX, IPC reference).
-const MAX_ENCODED_COUNT: usize = 2_147_483_647;
+/// The most rows that a table in a message can have: counts are signed 32-bit numbers (KX, IPC reference).
+const MAX_ENCODED_ROWS: usize = 2_147_483_647;
 
 /// Whether a text asks for all rows of the table of this name.
 fn asks_for(text: &[u8], name: &[u8]) -> bool
@@ -126,7 +127,8 @@ fn columns_of(
 ) -> Result<Columns, NoMemory>
     requires shape { slice_get snapshot.now.frame.schema index ≡ Some shape.now }
     requires few { length shape.now.kinds ≤ 48 }
-    ensures { IfOk result (λ columns. columns ≡
+    ensures few { IfOk result (λ columns. length columns ≤ 49) }
+    ensures shown { IfOk result (λ columns. columns ≡
         dates_of_rows (view snapshot.now.frame.first snapshot.now.entries index)
         ∷ columns_from 0 shape.now.kinds (view snapshot.now.frame.first snapshot.now.entries index)) }
 {
@@ -148,7 +150,8 @@ fn whole_table(
 ) -> Result<TableValue, NoMemory>
     requires same { snapshot.now.frame.schema ≡ schema.now }
     requires within { index < length schema.now }
-    ensures { IfOk result (λ t. (shape : _) → slice_get schema.now index ≡ Some shape →
+    ensures few { IfOk result (λ t. length t.columns ≤ 49) }
+    ensures shown { IfOk result (λ t. (shape : _) → slice_get schema.now index ≡ Some shape →
         (record { names = t.names; columns = t.columns }) ≡ shown shape (view snapshot.now.frame.first snapshot.now.entries index)) }
 {
     let shape = schema.at(index as usize);
@@ -157,15 +160,15 @@ fn whole_table(
     Ok(TableValue { names, columns })
 }
 
-/// Whether a table's counts fit in a message.
+/// Whether a message can count a table's rows.
 fn can_be_sent(table: &TableValue) -> bool
-    ensures columns { result ≡ true → length table.now.columns ≤ 2147483647 }
-    ensures rows { result ≡ true → rows_of table.now.columns ≤ 2147483647 }
+    ensures { MatchBool result (rows_of table.now.columns ≤ 2147483647) (2147483647 < rows_of table.now.columns) }
 {
-    table.columns.len() <= MAX_ENCODED_COUNT && table.columns.at(0).len() <= MAX_ENCODED_COUNT
+    table.columns.at(0).len() <= MAX_ENCODED_ROWS
 }
 
-/// The response with all rows of the table at an index of the schema.
+/// The response with all rows of the table at an index of the schema; a table with more rows than a message can count is
+/// longer than any limit on responses.
 pub fn select_reply(
     alloc: Global,
     schema: &Schema,
@@ -181,7 +184,7 @@ pub fn select_reply(
 {
     let table = whole_table(alloc, schema, snapshot, index)?;
     if !can_be_sent(&table) {
-        return Err(NoMemory);
+        return Ok(limit());
     }
     respond(alloc, &Value::Table(table), limits)
 }
