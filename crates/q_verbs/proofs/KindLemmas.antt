@@ -1,4 +1,4 @@
--- A storage's kind tells its tag.
+-- The kind of a storage decides its tag.
 use Rattle.std.proofs.Common.{◌≡◌, refl, sym, ap, ◌∙◌}
 use Rattle.q_values.specs.Column.{byte_kind, integer_kind, long_kind}
 use Rattle.q_values.specs.declared.kind.Kind.{Kind}

@@ -4,10 +4,11 @@ use Rattle.q_values.specs.declared.kind.Kind.{Kind}
 use Rattle.q_values.specs.declared.kind.Kind.TheVariants as k
 use Rattle.q_verbs.specs.declared.verb.Verb.{Verb}
 use Rattle.q_verbs.specs.declared.verb.Verb.TheVariants as v
-use Rattle.q_verbs.specs.Kinds.{type_number, is, is_number, is_computed, result_kind_of}
+use Rattle.q_values.specs.Kind.{type_number, kinds, is}
+use Rattle.q_verbs.specs.Kinds.{is_number, is_computed, result_kind_of}
 use Rattle.q_verbs.specs.Places.{is_comparison, is_choice, is_by_place, computes}
 
--- a kind's number tells the kind
+-- a kind's number decides the kind
 kind_of_number : ℕ → Kind
 kind_of_number n =
     if n == 1 then k.Boolean else (if n == 4 then k.Byte else (if n == 5 then k.Short else (if n == 6 then k.Integer
@@ -36,9 +37,6 @@ pub is-same : (x y : Kind) → is x y ≡ true → x ≡ y
 is-same x y e = let n : type_number x ≡ type_number y = grind arith in sym (kind_of_number-type x) ∙ ap kind_of_number n ∙ kind_of_number-type y
 
 -- a test of every kind
-abbrev kinds : List Kind
-kinds = k.Boolean ∷ k.Byte ∷ k.Short ∷ k.Integer ∷ k.Long ∷ k.Character ∷ k.Symbol ∷ k.Timestamp ∷ k.Month ∷ k.Date ∷ k.Timespan ∷ k.Minute ∷ k.Second ∷ k.Time ∷ []
-
 abbrev each : (Kind → Bool) → List Kind → Bool
 each p [] = true
 each p (x ∷ xs) = p x && each p xs

@@ -1,4 +1,4 @@
--- What a value is worth to a verb, and how a number is given in a kind.
+-- What a value is worth to a verb, and the atom of a number in a kind.
 use Rattle.std.specs.Prelude.{ℕ, ℤ, pos, negsuc, List, [], if◌then◌else◌, Option, Some, None}
 use Rattle.std.specs.Int.{Width, w16, w32, w64, int_wrap}
 use Rattle.std.specs.Int.RustNames.{int_lt}
@@ -18,7 +18,7 @@ least w32 = negsuc 2147483647
 least w64 = negsuc 9223372036854775807
 least _ = pos 0
 
--- what stands for a number in so many bits: a number above the least, or the null
+-- the number that a signed number of this width is: itself, or none where it is the least one, the null
 abbrev pub number_in : Width → ℤ → Option ℤ
 number_in w z = if int_lt (least w) z then Some z else None
 
@@ -58,7 +58,7 @@ number_cmp (Some x) (Some y) = int_cmp x y
 abbrev pub worth_cmp : Worth → Worth → Ordering
 worth_cmp x y = ordering_then (number_cmp x.number y.number) (slice_cmp nat_cmp x.text y.text)
 
--- the number reduced to so many bits in two's complement; none as the null
+-- the number reduced to this width in two's complement; the null for none
 abbrev pub reduced : Width → Option ℤ → ℤ
 reduced w None = least w
 reduced w (Some z) = int_wrap w z

@@ -1,4 +1,4 @@
-//! Verbs that compute a number at each place.
+//! Verbs that compute a number for each item.
 ghost use Rattle.std.specs.Prelude.{◌≡◌, ◌≢◌, IsTrue, length, map, neg_ℤ, option_map, IfOk};
 ghost use Rattle.std.specs.Simd.Lanes.{zip2};
 ghost use Rattle.q_values.specs.Column.{contents, integer_kind, long_kind};
@@ -19,7 +19,7 @@ use crate::wide::Wide;
 use q_values::{Column, IntegerKind, Kind, LongKind, NoMemory, Vector};
 use std::alloc::{AllocError, Global};
 
-// A verb and the numbers of its two sides, which come from columns of these kinds.
+// A verb, the numbers of its two sides, and the kinds of the columns that they come from.
 #[derive(Drop)]
 struct Task<'a> {
     verb: Verb,
@@ -137,7 +137,7 @@ impl Task<'_> {
     }
 }
 
-/// What the verb computes at each place, in this kind.
+/// The verb's results for two columns, item by item, in this kind.
 pub(crate) fn arithmetic(
     alloc: Global,
     verb: Verb,
