@@ -9,7 +9,10 @@ use Rattle.std.specs.Cmp.Lexicographic.{slice_cmp}
 use Rattle.q_values.specs.declared.atom.Atom.{Atom}
 use Rattle.q_values.specs.declared.atom.Atom.TheVariants as a
 use Rattle.q_values.specs.declared.kind.Kind.{Kind}
-use Rattle.q_values.specs.declared.kind.Kind.TheVariants as k
+use Rattle.q_values.specs.declared.kind.Storage.{Storage}
+use Rattle.q_values.specs.declared.kind.Storage.TheVariants as st
+use Rattle.q_values.specs.Column.{integer_atom, long_atom}
+use Rattle.q_values.specs.Kind.{storage_of}
 
 -- the least values of 16, 32 and 64 bits, which are the nulls (KX, Datatypes reference)
 abbrev pub least : Width → ℤ
@@ -63,15 +66,13 @@ abbrev pub reduced : Width → Option ℤ → ℤ
 reduced w None = least w
 reduced w (Some z) = int_wrap w z
 
+-- a number, or the null, of what is stored so; in 64 bits where no verb computes in it
+abbrev pub stored_number : Storage → Option ℤ → Atom
+stored_number st.Short n = a.Short (reduced w16 n)
+stored_number (st.Integer kind) n = integer_atom kind (reduced w32 n)
+stored_number (st.Long kind) n = long_atom kind (reduced w64 n)
+stored_number _ n = a.Long (reduced w64 n)
+
 -- a number, or the null, in a kind that verbs compute in
 abbrev pub written : Kind → Option ℤ → Atom
-written k.Short n = a.Short (reduced w16 n)
-written k.Integer n = a.Integer (reduced w32 n)
-written k.Month n = a.Month (reduced w32 n)
-written k.Date n = a.Date (reduced w32 n)
-written k.Minute n = a.Minute (reduced w32 n)
-written k.Second n = a.Second (reduced w32 n)
-written k.Time n = a.Time (reduced w32 n)
-written k.Timestamp n = a.Timestamp (reduced w64 n)
-written k.Timespan n = a.Timespan (reduced w64 n)
-written _ n = a.Long (reduced w64 n)
+written kind n = stored_number (storage_of kind) n
