@@ -1,6 +1,6 @@
 //! Reading values. Each reader takes the bytes from the current one on, and returns what it read and the bytes after it.
 //! `room` is the number of levels that may still be opened; `left` the number of bytes from the type byte of the
-//! current object on, which tells where a fault is.
+//! current object on, from which the offset of a fault follows.
 ghost use Rattle.std.specs.Prelude.{◌≡◌, ◌<◌, ◌^◌, ◌≤◌, ℕ, length, take, map, nat_eq, Ok, IfOk, IfErr};
 ghost use Rattle.q_values.specs.Bytes.{HasNoNul};
 ghost use Rattle.q_values.specs.Column.{contents};

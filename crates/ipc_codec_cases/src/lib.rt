@@ -1,6 +1,6 @@
 //! Tests of `ipc_codec`: published objects, one of each type in both byte orders, and each refusal with its offset.
 //!
-//! They stand in a crate of their own, since a crate with tests in it is proved twice. Each test is a table: a name, the
+//! They are a crate of their own, since a crate with tests in it is proved twice. Each test is a table: a name, the
 //! bytes, and what is expected.
 //!
 //! - `objects` reads, measures and writes each object again, and compares the bytes with its canonical encoding.

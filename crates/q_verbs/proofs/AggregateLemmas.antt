@@ -5,8 +5,11 @@ use Rattle.std.proofs.lemmas.Int.{int_wrap_fits, SFits-int_wrap}
 use Rattle.q_values.specs.declared.atom.Atom.{Atom}
 use Rattle.q_values.specs.declared.atom.Atom.TheVariants as a
 use Rattle.q_values.specs.declared.kind.Kind.{Kind}
-use Rattle.q_values.specs.declared.kind.Kind.TheVariants as k
-use Rattle.q_verbs.specs.Numbers.{written}
+use Rattle.q_values.specs.declared.kind.Storage.{Storage}
+use Rattle.q_values.specs.declared.kind.Storage.TheVariants as st
+use Rattle.q_values.specs.Column.{integer_atom, long_atom}
+use Rattle.q_values.specs.Kind.{storage_of}
+use Rattle.q_verbs.specs.Numbers.{written, stored_number}
 use Rattle.q_verbs.specs.Aggregates.{last_of}
 use Rattle.q_verbs.proofs.WrapLemmas.{int_wrap-16, int_wrap-32}
 
@@ -24,19 +27,15 @@ last_at (y ∷ z ∷ xs) (suc i) x h e = last_at (z ∷ xs) i x (omega arith) e
 wrapped_twice : (z : ℤ) → int_wrap w64 (int_wrap w64 z) ≡ int_wrap w64 z
 wrapped_twice z = int_wrap_fits w64 (int_wrap w64 z) (SFits-int_wrap w64 z)
 
--- a number that was wrapped to 64 bits, in a kind
+-- a number that was wrapped to 64 bits, of what is stored so
+stored_number-wrapped : (storage : Storage) (z : ℤ) → stored_number storage (Some (int_wrap w64 z)) ≡ stored_number storage (Some z)
+stored_number-wrapped st.Boolean z = ap (λ n. a.Long n) (wrapped_twice z)
+stored_number-wrapped (st.Byte kind) z = ap (λ n. a.Long n) (wrapped_twice z)
+stored_number-wrapped st.Short z = ap (λ n. a.Short n) (int_wrap-16 z)
+stored_number-wrapped (st.Integer kind) z = ap (integer_atom kind) (int_wrap-32 z)
+stored_number-wrapped (st.Long kind) z = ap (long_atom kind) (wrapped_twice z)
+stored_number-wrapped st.Symbol z = ap (λ n. a.Long n) (wrapped_twice z)
+
+-- the same in a kind
 pub written-wrapped : (kind : Kind) (z : ℤ) → written kind (Some (int_wrap w64 z)) ≡ written kind (Some z)
-written-wrapped k.Boolean z = ap (λ n. a.Long n) (wrapped_twice z)
-written-wrapped k.Byte z = ap (λ n. a.Long n) (wrapped_twice z)
-written-wrapped k.Short z = ap (λ n. a.Short n) (int_wrap-16 z)
-written-wrapped k.Integer z = ap (λ n. a.Integer n) (int_wrap-32 z)
-written-wrapped k.Long z = ap (λ n. a.Long n) (wrapped_twice z)
-written-wrapped k.Character z = ap (λ n. a.Long n) (wrapped_twice z)
-written-wrapped k.Symbol z = ap (λ n. a.Long n) (wrapped_twice z)
-written-wrapped k.Timestamp z = ap (λ n. a.Timestamp n) (wrapped_twice z)
-written-wrapped k.Month z = ap (λ n. a.Month n) (int_wrap-32 z)
-written-wrapped k.Date z = ap (λ n. a.Date n) (int_wrap-32 z)
-written-wrapped k.Timespan z = ap (λ n. a.Timespan n) (wrapped_twice z)
-written-wrapped k.Minute z = ap (λ n. a.Minute n) (int_wrap-32 z)
-written-wrapped k.Second z = ap (λ n. a.Second n) (int_wrap-32 z)
-written-wrapped k.Time z = ap (λ n. a.Time n) (int_wrap-32 z)
+written-wrapped kind z = stored_number-wrapped (storage_of kind) z

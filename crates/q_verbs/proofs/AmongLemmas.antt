@@ -35,7 +35,7 @@ pub among_same : (left items : List ℤ) → map (λ x. list_any (λ y. int_eq (
 among_same [] items = refl
 among_same (x ∷ xs) items = (λ i. any_same x items i ∷ among_same xs items i)
 
--- what a set of the items tells
+-- what a set of the items says
 pub set_told : (test : ℤ → Bool) (left items : List ℤ) → ((q : ℤ) → test q ≡ list_any (λ y. int_eq q (canonical y)) items) → map (λ x. test (canonical x)) left ≡ map (λ x. list_any (λ y. int_eq (canonical x) (canonical y)) items) left
 set_told test [] items e = refl
 set_told test (x ∷ xs) items e = (λ i. e (canonical x) i ∷ set_told test xs items e i)
@@ -67,7 +67,7 @@ among_through same g h left items us vs d e =
     ∙ ap (λ l. map (λ u. list_any (same (h u)) l) us) e
     ∙ map_same (λ u. list_any (same (h u)) (map h vs)) (λ u. list_any (λ v. same (h u) (h v)) vs) us (λ u. sym (any-mapped (same (h u)) h vs))
 
--- the same, where the items' test is another one and a set told it
+-- the same, where the test is another one that agrees with a set
 pub among_read : {X W : Type 0} (test : X → Bool) (eq : X → X → Bool) (same : W → W → Bool) (g : X → W) (left items : List X) (us vs : List W) → ((q : X) → test q ≡ list_any (eq q) items) → ((x y : X) → eq x y ≡ same (g x) (g y)) → map g left ≡ us → map g items ≡ vs → map test left ≡ map (λ u. list_any (same u) vs) us
 among_read test eq same g left items us vs t s d e =
     map_same test (λ x. list_any (same (g x)) (map g items)) left (λ x. t x ∙ any_alike eq (λ x y. same (g x) (g y)) s x items ∙ any-mapped (same (g x)) g items)
@@ -81,6 +81,6 @@ among_read test eq same g left items us vs t s d e =
 nat_ties : (x y : ℕ) → nat_eq x y ≡ is_eq (nat_cmp x y)
 nat_ties x y = grind arith
 
--- texts that are equal byte by byte are those that neither stands before the other
+-- texts are equal byte by byte where neither comes before the other
 pub text_ties : (xs ys : List ℕ) → pointwise nat_eq xs ys ≡ is_eq (slice_cmp nat_cmp xs ys)
 text_ties xs ys = lists_ties nat_cmp nat_ties xs ys

@@ -53,7 +53,7 @@ one_gathered xs places i x h e =
     let here : take 1 (drop i xs) ≡ get_or xs i x ∷ [] = rw (drop_more xs i x h) refl in
     gathered-append xs places (i ∷ []) ∙ ap (λ l. gathered xs places ++ l) (++-nil (take 1 (drop i xs)) ∙ here ∙ ap (λ y. y ∷ []) (sym e))
 
--- a place that is new
+-- an index that is new
 pub place_pushed : {X : Type 0} (same : X → X → Bool) (xs : List X) (places : List ℕ) (i : ℕ) (x : X) (b t : Bool) → i < length xs → x ≡ get_or xs i x → gathered xs places ≡ distinct same (take i xs) → t ≡ list_any (λ y. same y x) (take i xs) → b ≡ not t → b ≡ true → gathered xs (places ++ i ∷ []) ≡ distinct same (take (i + 1) xs)
 place_pushed same xs places i x b t h e before any is_not added =
     let none : list_any (λ y. same y x) (take i xs) ≡ false = sym any ∙ not_true t (sym is_not ∙ added) in
@@ -64,7 +64,7 @@ not_false : (b : Bool) → not b ≡ false → b ≡ true
 not_false true e = refl
 not_false false e = cc
 
--- a place that is not new
+-- an index that is not new
 pub place_passed : {X : Type 0} (same : X → X → Bool) (xs : List X) (places : List ℕ) (i : ℕ) (x : X) (b t : Bool) → i < length xs → x ≡ get_or xs i x → gathered xs places ≡ distinct same (take i xs) → t ≡ list_any (λ y. same y x) (take i xs) → b ≡ not t → b ≡ false → gathered xs places ≡ distinct same (take (i + 1) xs)
 place_passed same xs places i x b t h e before any is_not passed =
     let some : list_any (λ y. same y x) (take i xs) ≡ true = sym any ∙ not_false t (sym is_not ∙ passed) in
@@ -85,7 +85,7 @@ distinct_through same atom e (x ∷ xs) =
     filtered f p q d (a ∷ l) =
         kept f a (p a) (filter p l) ∙ (λ i. if sym (d a) i then f a ∷ filtered f p q d l i else filtered f p q d l i)
 
--- the atoms at places where items stand first
+-- the atoms at the indices of the first of equal items
 pub atoms_distinct : {X : Type 0} (same : X → X → Bool) (atom : X → Atom) (xs ys : List X) (places : List ℕ) → ((x y : X) → same_atom (atom x) (atom y) ≡ same x y) → ys ≡ xs → gathered ys places ≡ distinct same ys → gathered (map atom xs) places ≡ distinct same_atom (map atom xs)
 atoms_distinct same atom xs ys places e same_list d =
     let on_xs : gathered xs places ≡ distinct same xs = subst (λ l. gathered l places ≡ distinct same l) same_list d in

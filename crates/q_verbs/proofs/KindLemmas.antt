@@ -1,5 +1,6 @@
--- A storage's kind tells its tag.
-use Rattle.std.proofs.Common.{◌≡◌, refl, sym, ap, ◌∙◌}
+-- The kind of a storage decides its tag.
+use Rattle.std.proofs.Common.{◌≡◌, false, refl, sym, ap, ◌∙◌}
+use Rattle.q_verbs.specs.Kinds.{is_computed}
 use Rattle.q_values.specs.Column.{byte_kind, integer_kind, long_kind}
 use Rattle.q_values.specs.declared.kind.Kind.{Kind}
 use Rattle.q_values.specs.declared.kind.Kind.TheVariants as k
@@ -55,3 +56,8 @@ integer_kind-same x y e = sym (integer_tag-kind x) ∙ ap integer_tag e ∙ inte
 
 pub long_kind-same : (x y : LongKind) → long_kind x ≡ long_kind y → x ≡ y
 long_kind-same x y e = sym (long_tag-kind x) ∙ ap long_tag e ∙ long_tag-kind y
+
+-- no verb computes in 8 bits
+pub computed_of_bytes : (kind : ByteKind) → is_computed (byte_kind kind) ≡ false
+computed_of_bytes b.Byte = refl
+computed_of_bytes b.Character = refl

@@ -12,7 +12,7 @@ drop_end (b ∷ text) = drop_end text
 last_or_not : (k n : ℕ) → k ≤ n → (k < n) ⊎ (k ≡ n)
 last_or_not k n h = grind arith
 
--- a row is known by its places and its end
+-- a row is known by its items and its end
 row_of : (test : List ℕ → Bool) (text : List ℕ) (row : List Bool) → length row ≡ length text + 1 → ((k : ℕ) → k < length text → get_or row k false ≡ test (drop k text)) → get_or row (length text) false ≡ test [] → IsRow test text row
 row_of test text row size places end = record {
   size = size;
@@ -78,7 +78,7 @@ front_fits pattern text i below within other fits = two_bytes pattern text i bel
 pub front_other : (pattern text : List ℕ) (i : ℕ) → i < length pattern → i < length text → (get_or pattern i 0 == 42) ≡ false → fits_byte (get_or pattern i 0) (get_or text i 0) ≡ false → matches (drop i pattern) (drop i text) ≡ false
 front_other pattern text i below within other fits = two_bytes pattern text i below within other ∙ ap (λ b. b && matches (drop (i + 1) pattern) (drop (i + 1) text)) fits
 
--- nor does one behind the text's end
+-- nor does one past the text's end
 pub front_short : (pattern text : List ℕ) (i : ℕ) → i < length pattern → i ≡ length text → (get_or pattern i 0 == 42) ≡ false → matches (drop i pattern) (drop i text) ≡ false
 front_short pattern text i below end other = byte_at pattern text i below other ∙ ap (one_byte (get_or pattern i 0) (matches (drop (i + 1) pattern))) (ap (λ n. drop n text) end ∙ drop_end text)
 

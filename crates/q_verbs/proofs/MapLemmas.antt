@@ -10,7 +10,7 @@ map_more_read f xs i x h e =
     ∙ map_push f (take i xs) (get_or xs i x)
     ∙ ap (λ y. map f (take i xs) ++ f y ∷ []) (get_or_from_slice_get xs i x x e)
 
--- lists whose items are worth the same give the same
+-- lists whose items are worth the same have the same results
 pub map_through : {X Y W V : Type 0} (f : W → V) (g : X → W) (h : Y → W) (xs : List X) (us : List Y) → map g xs ≡ map h us → map (λ x. f (g x)) xs ≡ map (λ u. f (h u)) us
 map_through {W = W} f g h xs us d = mapped g xs ∙ ap (map f) d ∙ sym (mapped h us)
   where

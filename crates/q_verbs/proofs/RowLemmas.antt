@@ -1,44 +1,40 @@
 -- What the kinds of a row are, for every verb and every two kinds.
-use Rattle.std.proofs.Common.{◌≡◌, ◌≢◌, ℕ, zero, suc, ◌<◌, Bool, true, false, not, ◌&&◌, ◌==◌, if◌then◌else◌, List, [], ◌∷◌, length, get_or, Option, Some, None, refl, sym, ap, ◌∙◌, subst, arith, lit<}
+use Rattle.std.proofs.Common.{◌≡◌, ◌≢◌, ℕ, zero, suc, ◌<◌, Bool, true, false, not, ◌&&◌, if◌then◌else◌, List, [], ◌∷◌, length, get_or, Option, Some, None, refl, sym, ap, ◌∙◌, subst, arith, lit<}
 use Rattle.q_values.specs.declared.kind.Kind.{Kind}
 use Rattle.q_values.specs.declared.kind.Kind.TheVariants as k
 use Rattle.q_verbs.specs.declared.verb.Verb.{Verb}
 use Rattle.q_verbs.specs.declared.verb.Verb.TheVariants as v
-use Rattle.q_verbs.specs.Kinds.{type_number, is, is_number, is_computed, result_kind_of}
+use Rattle.q_values.specs.Kind.{type_number, kinds, kind_at, is}
+use Rattle.q_verbs.specs.Kinds.{is_number, is_computed, result_kind_of}
 use Rattle.q_verbs.specs.Places.{is_comparison, is_choice, is_by_place, computes}
 
--- a kind's number tells the kind
-kind_of_number : ℕ → Kind
-kind_of_number n =
-    if n == 1 then k.Boolean else (if n == 4 then k.Byte else (if n == 5 then k.Short else (if n == 6 then k.Integer
-    else (if n == 7 then k.Long else (if n == 10 then k.Character else (if n == 11 then k.Symbol else (if n == 12 then k.Timestamp
-    else (if n == 13 then k.Month else (if n == 14 then k.Date else (if n == 16 then k.Timespan else (if n == 17 then k.Minute
-    else (if n == 18 then k.Second else k.Time))))))))))))
+-- a kind's number decides the kind
+kind_at-type_number : (x : Kind) → kind_at (type_number x) ≡ Some x
+kind_at-type_number k.Boolean = refl
+kind_at-type_number k.Byte = refl
+kind_at-type_number k.Short = refl
+kind_at-type_number k.Integer = refl
+kind_at-type_number k.Long = refl
+kind_at-type_number k.Character = refl
+kind_at-type_number k.Symbol = refl
+kind_at-type_number k.Timestamp = refl
+kind_at-type_number k.Month = refl
+kind_at-type_number k.Date = refl
+kind_at-type_number k.Timespan = refl
+kind_at-type_number k.Minute = refl
+kind_at-type_number k.Second = refl
+kind_at-type_number k.Time = refl
 
-kind_of_number-type : (x : Kind) → kind_of_number (type_number x) ≡ x
-unfolding kind_of_number
-kind_of_number-type k.Boolean = refl
-kind_of_number-type k.Byte = refl
-kind_of_number-type k.Short = refl
-kind_of_number-type k.Integer = refl
-kind_of_number-type k.Long = refl
-kind_of_number-type k.Character = refl
-kind_of_number-type k.Symbol = refl
-kind_of_number-type k.Timestamp = refl
-kind_of_number-type k.Month = refl
-kind_of_number-type k.Date = refl
-kind_of_number-type k.Timespan = refl
-kind_of_number-type k.Minute = refl
-kind_of_number-type k.Second = refl
-kind_of_number-type k.Time = refl
+abbrev some : Kind → Option Kind
+some x = Some x
+
+some_is : (x y : Kind) → some x ≡ some y → x ≡ y
+some_is x y e = cc
 
 pub is-same : (x y : Kind) → is x y ≡ true → x ≡ y
-is-same x y e = let n : type_number x ≡ type_number y = grind arith in sym (kind_of_number-type x) ∙ ap kind_of_number n ∙ kind_of_number-type y
+is-same x y e = let n : type_number x ≡ type_number y = grind arith in some_is x y (sym (kind_at-type_number x) ∙ ap kind_at n ∙ kind_at-type_number y)
 
 -- a test of every kind
-abbrev kinds : List Kind
-kinds = k.Boolean ∷ k.Byte ∷ k.Short ∷ k.Integer ∷ k.Long ∷ k.Character ∷ k.Symbol ∷ k.Timestamp ∷ k.Month ∷ k.Date ∷ k.Timespan ∷ k.Minute ∷ k.Second ∷ k.Time ∷ []
-
 abbrev each : (Kind → Bool) → List Kind → Bool
 each p [] = true
 each p (x ∷ xs) = p x && each p xs

@@ -1,11 +1,11 @@
--- Which rule gives a verb's values.
+-- Which rule a verb's results come from.
 use Rattle.std.proofs.Common.{◌≡◌, true, false, ◌&&◌, if◌then◌else◌, List, sym}
 use Rattle.std.specs.Simd.Lanes.{zip2}
 use Rattle.q_values.specs.declared.atom.Atom.{Atom}
 use Rattle.q_values.specs.declared.atom.Atom.TheVariants as a
 use Rattle.q_values.specs.declared.kind.Kind.{Kind}
 use Rattle.q_verbs.specs.declared.verb.Verb.{Verb}
-use Rattle.q_verbs.specs.Kinds.{is}
+use Rattle.q_values.specs.Kind.{is}
 use Rattle.q_verbs.specs.Numbers.{worth, worth_cmp}
 use Rattle.q_verbs.specs.Places.{is_comparison, is_choice, holds, chosen, operation, value_of}
 use Rattle.q_verbs.specs.Loops.{given}

@@ -63,7 +63,7 @@ longs-given kind f xs ys =
     map-zip2 (long_atom kind) (λ x y. reduced w64 (computed f x y)) xs ys
     ∙ zip2_same (λ x y. long_atom kind (reduced w64 (computed f x y))) (λ x y. given (long_kind kind) f (worth_in_64 x) (worth_in_64 y)) xs ys (λ x y. ap (long_atom kind) (reduced-64 (of_both f (number_in w64 x) (number_in w64 y))) ∙ long-written kind (of_both f (number_in w64 x) (number_in w64 y)))
 
--- columns that are worth what the atoms are worth give what the atoms give
+-- columns that are worth what the atoms are worth have the results of the atoms
 pub values-given : (kind left right left' right' : Kind) (verb : Verb) (xs ys : List ℤ) (us vs : List Atom) → left ≡ left' → right ≡ right' → map worth_in_64 xs ≡ map worth us → map worth_in_64 ys ≡ map worth vs → zip2 (λ x y. given kind (operation verb left right) (worth_in_64 x) (worth_in_64 y)) xs ys ≡ zip2 (λ x y. given kind (operation verb left' right') (worth x) (worth y)) us vs
 values-given kind left right left' right' verb xs ys us vs p q d e =
     ap (λ l. zip2 (λ x y. given kind (operation verb l right) (worth_in_64 x) (worth_in_64 y)) xs ys) p

@@ -3,7 +3,7 @@ use Rattle.std.proofs.Common.{◌≡◌, ℕ, ◌+◌, ◌<◌, ◌++◌, List, 
 use Rattle.std.proofs.lemmas.Option.{get_or_from_slice_get}
 use Rattle.std.specs.Simd.Lanes.{zip2}
 
--- one more place
+-- one more index
 zip2_suc : {X Y Z : Type 0} (f : X → Y → Z) (xs : List X) (ys : List Y) (i : ℕ) (d : X) (e : Y) → i < length xs → i < length ys → zip2 f (take (suc i) xs) (take (suc i) ys) ≡ zip2 f (take i xs) (take i ys) ++ f (get_or xs i d) (get_or ys i e) ∷ []
 zip2_suc f [] ys i d e p q = absurd (omega arith)
 zip2_suc f (a ∷ xs) [] i d e p q = absurd (omega arith)
@@ -13,7 +13,7 @@ zip2_suc f (a ∷ xs) (b ∷ ys) (suc i) d e p q = ap (λ l. f a b ∷ l) (zip2_
 pub zip2_more : {X Y Z : Type 0} (f : X → Y → Z) (xs : List X) (ys : List Y) (i : ℕ) (d : X) (e : Y) → i < length xs → i < length ys → zip2 f (take (i + 1) xs) (take (i + 1) ys) ≡ zip2 f (take i xs) (take i ys) ++ f (get_or xs i d) (get_or ys i e) ∷ []
 zip2_more f xs ys i d e p q = rw add-one (zip2_suc f xs ys i d e p q)
 
--- lists whose items are worth the same give the same
+-- lists whose items are worth the same have the same results
 pub zip2_through : {X Y W V : Type 0} (f : W → W → V) (g : X → W) (h : Y → W) (xs ys : List X) (us vs : List Y) → map g xs ≡ map h us → map g ys ≡ map h vs → zip2 (λ x y. f (g x) (g y)) xs ys ≡ zip2 (λ u v. f (h u) (h v)) us vs
 zip2_through {W = W} f g h xs ys us vs d e = zip2_of_mapped g xs ys ∙ ap (λ l. zip2 f l (map g ys)) d ∙ ap (zip2 f (map h us)) e ∙ sym (zip2_of_mapped h us vs)
   where
@@ -32,7 +32,7 @@ zip2_same f g [] ys e = refl
 zip2_same f g (x ∷ xs) [] e = refl
 zip2_same f g (x ∷ xs) (y ∷ ys) e = ap (λ h. h ∷ zip2 f xs ys) (e x y) ∙ ap (λ l. g x y ∷ l) (zip2_same f g xs ys e)
 
--- one more place, where calls read the items
+-- one more index, where calls read the items
 pub zip2_more_read : {X Y Z : Type 0} (f : X → Y → Z) (xs : List X) (ys : List Y) (i : ℕ) (x : X) (y : Y) → i < length xs → i < length ys → slice_get xs i ≡ Some x → slice_get ys i ≡ Some y → zip2 f (take (i + 1) xs) (take (i + 1) ys) ≡ zip2 f (take i xs) (take i ys) ++ f x y ∷ []
 zip2_more_read f xs ys i x y p q d e =
     zip2_more f xs ys i x y p q
@@ -45,7 +45,7 @@ zip2-mapped f g [] ys = refl
 zip2-mapped f g (x ∷ xs) [] = refl
 zip2-mapped f g (x ∷ xs) (y ∷ ys) = ap (λ l. f (g x) (g y) ∷ l) (zip2-mapped f g xs ys)
 
--- one more place, where the items were read by their places
+-- one more index, where the items were read by their indices
 pub zip2_more_at : {X Y Z : Type 0} (f : X → Y → Z) (xs : List X) (ys : List Y) (i : ℕ) (x : X) (y : Y) → i < length xs → i < length ys → x ≡ get_or xs i x → y ≡ get_or ys i y → zip2 f (take (i + 1) xs) (take (i + 1) ys) ≡ zip2 f (take i xs) (take i ys) ++ f x y ∷ []
 zip2_more_at f xs ys i x y p q d e =
     zip2_more f xs ys i x y p q

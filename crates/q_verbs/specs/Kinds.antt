@@ -1,32 +1,12 @@
 -- Which kinds a verb takes, and the kind of its result.
-use Rattle.std.specs.Prelude.{ℕ, ◌==◌, nat_lt, Bool, not, ◌&&◌, ◌||◌, if◌then◌else◌, Option, Some, None}
+use Rattle.std.specs.Prelude.{nat_lt, Bool, not, ◌&&◌, ◌||◌, if◌then◌else◌, Option, Some, None}
 use Rattle.q_values.specs.declared.kind.Kind.{Kind}
 use Rattle.q_values.specs.declared.kind.Kind.TheVariants as k
+use Rattle.q_values.specs.Kind.{type_number, is}
 use Rattle.q_verbs.specs.declared.verb.Verb.{Verb}
 use Rattle.q_verbs.specs.declared.verb.Verb.TheVariants as v
 use Rattle.q_verbs.specs.declared.verb.Verb1.{Verb1}
 use Rattle.q_verbs.specs.declared.verb.Verb1.TheVariants as u
-
--- a kind's number (KX, Datatypes reference)
-abbrev pub type_number : Kind → ℕ
-type_number k.Boolean = 1
-type_number k.Byte = 4
-type_number k.Short = 5
-type_number k.Integer = 6
-type_number k.Long = 7
-type_number k.Character = 10
-type_number k.Symbol = 11
-type_number k.Timestamp = 12
-type_number k.Month = 13
-type_number k.Date = 14
-type_number k.Timespan = 16
-type_number k.Minute = 17
-type_number k.Second = 18
-type_number k.Time = 19
-
--- whether two kinds are one
-abbrev pub is : Kind → Kind → Bool
-is x y = type_number x == type_number y
 
 -- boolean, short, int, long
 abbrev pub is_num : Kind → Bool

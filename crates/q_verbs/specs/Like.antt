@@ -2,12 +2,12 @@
 use Rattle.std.specs.Prelude.{ℕ, ◌==◌, ◌≡◌, ◌+◌, ◌≤◌, Bool, true, false, ◌&&◌, ◌||◌, if◌then◌else◌, List, [], ◌∷◌, length, drop, slice_index_or}
 use Rattle.std.specs.List.{list_any}
 
--- what is left of a text behind each of its places, the last being its end
+-- what is left of a text from each index on, and at its end
 abbrev pub suffixes : List ℕ → List (List ℕ)
 suffixes [] = [] ∷ []
 suffixes (b ∷ text) = (b ∷ text) ∷ suffixes text
 
--- the byte of a pattern that stands for any one byte, `?`, or for itself
+-- a byte of a pattern fits a byte of a text: `?` fits any, another byte itself
 abbrev pub fits_byte : ℕ → ℕ → Bool
 fits_byte p b = p == 63 || p == b
 
@@ -22,12 +22,12 @@ matches [] [] = true
 matches [] (b ∷ text) = false
 matches (p ∷ pattern) text = if p == 42 then list_any (matches pattern) (suffixes text) else one_byte p (matches pattern) text
 
--- at each place of a text, and at its end, whether what is left passes the test
+-- for each index of a text, and for its end, whether what is left passes the test
 pub record IsRow (test : List ℕ → Bool) (text : List ℕ) (row : List Bool) : Type 0 where
   pub size : length row ≡ length text + 1
   pub value : (k : ℕ) → k ≤ length text → slice_index_or row k false ≡ test (drop k text)
 
--- so many bytes at the front of a pattern stand for as many bytes of a text, and the rest decides
+-- the n bytes at the front of a pattern fit those of a text, and the rest decides
 pub record IsFront (pattern text : List ℕ) (n : ℕ) : Type 0 where
   pub in_pattern : n ≤ length pattern
   pub in_text : n ≤ length text

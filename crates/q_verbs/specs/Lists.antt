@@ -1,4 +1,4 @@
--- Verbs with one side that give a list.
+-- Verbs with one side that make a list.
 use Rattle.std.specs.Prelude.{ℤ, pos, neg_ℤ, Bool, true, false, not, List, [], ◌∷◌, map, filter, Option, Some, None, option_map}
 use Rattle.std.specs.Ordering.{int_eq, is_eq}
 use Rattle.q_values.specs.Order.{atom_cmp}
@@ -18,19 +18,19 @@ is_zero (Some z) = int_eq z (pos 0)
 abbrev pub same_atom : Atom → Atom → Bool
 same_atom x y = is_eq (atom_cmp x y)
 
--- each item where it stands first
+-- the items, of equal ones the first
 abbrev pub distinct : {X : Type 0} → (X → X → Bool) → List X → List X
 distinct same [] = []
 distinct same (x ∷ xs) = x ∷ filter (λ y. not (same x y)) (distinct same xs)
 
--- the verbs that give a list
+-- the verbs that make a list
 abbrev pub is_unary : Verb1 → Bool
 is_unary u.Not = true
 is_unary u.Neg = true
 is_unary u.Distinct = true
 is_unary _ = false
 
--- what a verb gives of a list, in the kind of its result
+-- a verb's result for a list, in the kind of the result
 abbrev pub unary_of : Verb1 → Kind → List Atom → List Atom
 unary_of u.Not kind xs = map (λ x. a.Boolean (is_zero (worth x).number)) xs
 unary_of u.Neg kind xs = map (λ x. written kind (option_map neg_ℤ (worth x).number)) xs

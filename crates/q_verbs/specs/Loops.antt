@@ -1,4 +1,4 @@
--- Values beside one another, as the loops over columns of 64 bits take them.
+-- Values as the loops over columns of 64 bits see them.
 use Rattle.std.specs.Prelude.{ℤ, List, Option, option_map, if◌then◌else◌}
 use Rattle.std.specs.Int.RustNames.{int_lt}
 use Rattle.std.specs.Int.{w64, int_wrap}
@@ -9,7 +9,7 @@ use Rattle.q_verbs.specs.declared.wide.Wide.TheVariants.{Lent, Made}
 use Rattle.q_verbs.specs.Numbers.{Worth, numeric, number_in, written, least}
 use Rattle.q_verbs.specs.Places.{Operation, of_both}
 
--- an operation's result in 64 bits, of two numbers or nulls
+-- an operation's result in 64 bits, for two numbers or nulls
 abbrev pub computed : Operation → ℤ → ℤ → Option ℤ
 computed f x y = option_map (int_wrap w64) (of_both f (number_in w64 x) (number_in w64 y))
 
@@ -17,7 +17,7 @@ computed f x y = option_map (int_wrap w64) (of_both f (number_in w64 x) (number_
 abbrev pub worth_in_64 : ℤ → Worth
 worth_in_64 x = numeric (number_in w64 x)
 
--- what the operation makes of what two values are worth, in this kind
+-- the operation's result for two values, in this kind
 abbrev pub given : Kind → Operation → Worth → Worth → Atom
 given kind f x y = written kind (of_both f x.number y.number)
 

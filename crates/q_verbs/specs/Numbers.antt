@@ -1,4 +1,4 @@
--- What a value is worth to a verb, and how a number is given in a kind.
+-- What a value is worth to a verb, and the atom of a number in a kind.
 use Rattle.std.specs.Prelude.{ℕ, ℤ, pos, negsuc, List, [], if◌then◌else◌, Option, Some, None}
 use Rattle.std.specs.Int.{Width, w16, w32, w64, int_wrap}
 use Rattle.std.specs.Int.RustNames.{int_lt}
@@ -9,7 +9,10 @@ use Rattle.std.specs.Cmp.Lexicographic.{slice_cmp}
 use Rattle.q_values.specs.declared.atom.Atom.{Atom}
 use Rattle.q_values.specs.declared.atom.Atom.TheVariants as a
 use Rattle.q_values.specs.declared.kind.Kind.{Kind}
-use Rattle.q_values.specs.declared.kind.Kind.TheVariants as k
+use Rattle.q_values.specs.declared.kind.Storage.{Storage}
+use Rattle.q_values.specs.declared.kind.Storage.TheVariants as st
+use Rattle.q_values.specs.Column.{integer_atom, long_atom}
+use Rattle.q_values.specs.Kind.{storage_of}
 
 -- the least values of 16, 32 and 64 bits, which are the nulls (KX, Datatypes reference)
 abbrev pub least : Width → ℤ
@@ -18,7 +21,7 @@ least w32 = negsuc 2147483647
 least w64 = negsuc 9223372036854775807
 least _ = pos 0
 
--- what stands for a number in so many bits: a number above the least, or the null
+-- the number that a signed number of this width is: itself, or none where it is the least one, the null
 abbrev pub number_in : Width → ℤ → Option ℤ
 number_in w z = if int_lt (least w) z then Some z else None
 
@@ -58,20 +61,18 @@ number_cmp (Some x) (Some y) = int_cmp x y
 abbrev pub worth_cmp : Worth → Worth → Ordering
 worth_cmp x y = ordering_then (number_cmp x.number y.number) (slice_cmp nat_cmp x.text y.text)
 
--- the number reduced to so many bits in two's complement; none as the null
+-- the number reduced to this width in two's complement; the null for none
 abbrev pub reduced : Width → Option ℤ → ℤ
 reduced w None = least w
 reduced w (Some z) = int_wrap w z
 
+-- a number, or the null, of what is stored so; in 64 bits where no verb computes in it
+abbrev pub stored_number : Storage → Option ℤ → Atom
+stored_number st.Short n = a.Short (reduced w16 n)
+stored_number (st.Integer kind) n = integer_atom kind (reduced w32 n)
+stored_number (st.Long kind) n = long_atom kind (reduced w64 n)
+stored_number _ n = a.Long (reduced w64 n)
+
 -- a number, or the null, in a kind that verbs compute in
 abbrev pub written : Kind → Option ℤ → Atom
-written k.Short n = a.Short (reduced w16 n)
-written k.Integer n = a.Integer (reduced w32 n)
-written k.Month n = a.Month (reduced w32 n)
-written k.Date n = a.Date (reduced w32 n)
-written k.Minute n = a.Minute (reduced w32 n)
-written k.Second n = a.Second (reduced w32 n)
-written k.Time n = a.Time (reduced w32 n)
-written k.Timestamp n = a.Timestamp (reduced w64 n)
-written k.Timespan n = a.Timespan (reduced w64 n)
-written _ n = a.Long (reduced w64 n)
+written kind n = stored_number (storage_of kind) n

@@ -1,4 +1,4 @@
--- What a verb with two sides gives at one place.
+-- Verbs with two sides, at one index.
 use Rattle.std.specs.Prelude.{ℤ, pos, neg_ℤ, ◌+ℤ◌, ◌-ℤ◌, ◌*ℤ◌, Bool, true, false, ◌&&◌, if◌then◌else◌, Option, Some, None}
 use Rattle.std.specs.Int.{int_div_euclid, int_min, int_max}
 use Rattle.std.specs.Int.RustNames.{int_lt}
@@ -10,10 +10,12 @@ use Rattle.q_values.specs.declared.kind.Kind.{Kind}
 use Rattle.q_values.specs.declared.kind.Kind.TheVariants as k
 use Rattle.q_verbs.specs.declared.verb.Verb.{Verb}
 use Rattle.q_verbs.specs.declared.verb.Verb.TheVariants as v
-use Rattle.q_verbs.specs.Kinds.{is, are}
+use Rattle.q_values.specs.Kind.{is}
+use Rattle.q_values.specs.Time.{day_nanoseconds}
+use Rattle.q_verbs.specs.Kinds.{are}
 use Rattle.q_verbs.specs.Numbers.{worth, worth_cmp, written}
 
--- what a verb makes of two numbers: a number, or the null
+-- the result for two numbers: a number, or the null
 abbrev pub Operation : Type 0
 Operation = ℤ → ℤ → Option ℤ
 
@@ -28,7 +30,7 @@ product_of x y = Some (x *ℤ y)
 
 -- the nanoseconds of days
 abbrev pub nanoseconds : ℤ → ℤ
-nanoseconds days = pos 86400000000000 *ℤ days
+nanoseconds days = day_nanoseconds *ℤ days
 
 -- a date and a timespan
 abbrev pub days_and_span : Operation
@@ -60,7 +62,7 @@ lesser_of x y = Some (int_min x y)
 abbrev pub greater_of : Operation
 greater_of x y = Some (int_max x y)
 
--- what a verb that computes makes of the numbers of these kinds
+-- the operation of a verb that computes, for these kinds
 abbrev pub operation : Verb → Kind → Kind → Operation
 operation v.Add left right =
     if are k.Date k.Timespan left right then days_and_span
@@ -87,7 +89,7 @@ computes v.Lesser = true
 computes v.Greater = true
 computes _ = false
 
--- a null on a side gives the null
+-- a null on either side gives the null
 abbrev pub of_both : Operation → Option ℤ → Option ℤ → Option ℤ
 of_both f None y = None
 of_both f (Some x) None = None
@@ -103,7 +105,7 @@ is_comparison v.Le = true
 is_comparison v.Ge = true
 is_comparison _ = false
 
--- whether two values in this order stand in the relation that the verb names
+-- whether two values in this order are in the relation that the verb names
 abbrev pub holds : Verb → Ordering → Bool
 holds v.Eq o = is_eq o
 holds v.Ne o = is_ne o
@@ -125,14 +127,14 @@ chosen v.Lesser x y = if is_le (worth_cmp (worth x) (worth y)) then x else y
 chosen v.Greater x y = if is_ge (worth_cmp (worth x) (worth y)) then x else y
 chosen _ x y = x
 
--- the verbs that work place by place
+-- the verbs that work item by item
 abbrev pub is_by_place : Verb → Bool
 is_by_place v.In = false
 is_by_place v.Within = false
 is_by_place v.Like = false
 is_by_place _ = true
 
--- what the verb gives of two values of these kinds, in the kind of its result
+-- the verb's result for two values of these kinds, in the kind of the result
 abbrev pub value_of : Verb → Kind → Kind → Kind → Atom → Atom → Atom
 value_of verb left right kind x y =
     if is_comparison verb then a.Boolean (holds verb (worth_cmp (worth x) (worth y)))

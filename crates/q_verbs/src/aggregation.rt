@@ -1,26 +1,28 @@
-//! Verbs that give one value of a whole list.
-ghost use Rattle.std.specs.Prelude.{◌≡◌, IsTrue, IsSome, IfOk, unwrap_or, map, length, pos, Some};
+//! Verbs that make one atom of a column.
+ghost use Rattle.std.specs.Prelude.{◌≡◌, IsTrue, IsSome, IfOk, unwrap_or, map, length, pos, Some, if◌then◌else◌};
+ghost use Rattle.q_values.specs.declared.atom.Atom.{Atom};
+ghost use Rattle.q_values.specs.declared.kind.Kind.{Kind};
 ghost use Rattle.q_values.specs.declared.kind.Kind.TheVariants as k;
-ghost use Rattle.q_verbs.specs.declared.verb.Verb.TheVariants as v;
 ghost use Rattle.q_verbs.specs.Kinds.{result_kind1_of, is_number, total_kind};
-ghost use Rattle.q_verbs.specs.Numbers.{written};
-ghost use Rattle.q_verbs.specs.Places.{chosen};
-ghost use Rattle.q_verbs.specs.Aggregates.{is_aggregate, aggregate_of, first_of, last_of, null_of, greatest, lowest, chosen_of, number_of, total};
+ghost use Rattle.q_verbs.specs.Numbers.{worth, worth_cmp, written};
+ghost use Rattle.q_verbs.specs.Aggregates.{is_aggregate, aggregate_of, first_of, last_of, null_of, chosen_of, number_of, total};
 
-use crate::comparison::{AtLeast, AtMost};
+use crate::comparison::{AtLeast, AtMost, Relation};
 use crate::ends::{greatest_of, lowest_of, null_atom};
 use crate::kinds::result_kind1;
 use crate::totals::{chosen_of_column, total_atom, total_of};
 use crate::verb::Verb1;
-use q_values::{Atom, NoMemory, Vector};
+use q_values::{Atom, Kind, NoMemory, Vector};
 use std::alloc::Global;
 
+// The number of items.
 fn count(x: &Vector) -> Atom
     ensures { result ≡ written k.Long (Some (pos (length x.now.atoms))) }
 {
     Atom::Long((x.len() as u64).cast_signed())
 }
 
+// The sum of the items but the nulls.
 fn sum(x: &Vector) -> Atom
     requires { IsSome (total_kind x.now.kind) }
     ensures { result ≡ written (unwrap_or (total_kind x.now.kind) x.now.kind)
@@ -32,28 +34,51 @@ fn sum(x: &Vector) -> Atom
     }
 }
 
-fn least(alloc: Global, x: &Vector) -> Result<Atom, NoMemory>
-    requires { IsTrue (is_number x.now.kind) }
-    ensures { IfOk result (λ atom. atom
-        ≡ unwrap_or (chosen_of number_of (chosen v.Lesser) x.now.atoms) (greatest x.now.kind)) }
-{
-    match chosen_of_column::<AtMost>(x.column()) {
-        Some(atom) => Ok(atom),
-        None => greatest_of(alloc, x.kind()),
+// A relation that chooses an item, and the value of a column without numbers to choose from.
+trait Extreme: Relation {
+    ghost end: { Kind → Atom };
+
+    // That value, for a kind.
+    fn end_of(alloc: Global, kind: Kind) -> Result<Atom, NoMemory>
+        ensures { IfOk result (λ x. x ≡ end kind) };
+}
+
+// `min`
+impl Extreme for AtMost {
+    ghost use Rattle.q_verbs.specs.Aggregates.{greatest};
+
+    ghost end = { greatest };
+
+    fn end_of(alloc: Global, kind: Kind) -> Result<Atom, NoMemory> {
+        greatest_of(alloc, kind)
     }
 }
 
-fn most(alloc: Global, x: &Vector) -> Result<Atom, NoMemory>
-    requires { IsTrue (is_number x.now.kind) }
-    ensures { IfOk result (λ atom. atom
-        ≡ unwrap_or (chosen_of number_of (chosen v.Greater) x.now.atoms) (lowest x.now.kind)) }
-{
-    match chosen_of_column::<AtLeast>(x.column()) {
-        Some(atom) => Ok(atom),
-        None => lowest_of(alloc, x.kind()),
+// `max`
+impl Extreme for AtLeast {
+    ghost use Rattle.q_verbs.specs.Aggregates.{lowest};
+
+    ghost end = { lowest };
+
+    fn end_of(alloc: Global, kind: Kind) -> Result<Atom, NoMemory> {
+        lowest_of(alloc, kind)
     }
 }
 
+// The item that the relation chooses of all but the nulls, or else the end of the kind.
+fn chosen_or_end<P: Extreme>(alloc: Global, x: &Vector) -> Result<Atom, NoMemory>
+    requires { IsTrue (is_number x.now.kind) }
+    ensures { IfOk result (λ atom. atom ≡ unwrap_or
+        (chosen_of number_of (λ a b. if P.relates (worth_cmp (worth a) (worth b)) then a else b) x.now.atoms)
+        (P.end x.now.kind)) }
+{
+    match chosen_of_column::<P>(x.column()) {
+        Some(atom) => Ok(atom),
+        None => P::end_of(alloc, x.kind()),
+    }
+}
+
+// The first item, or the null.
 fn first(alloc: Global, x: &Vector) -> Result<Atom, NoMemory>
     ensures { IfOk result (λ atom. atom ≡ unwrap_or (first_of x.now.atoms) (null_of x.now.kind)) }
 {
@@ -64,6 +89,7 @@ fn first(alloc: Global, x: &Vector) -> Result<Atom, NoMemory>
     }
 }
 
+// The last item, or the null.
 fn last(alloc: Global, x: &Vector) -> Result<Atom, NoMemory>
     ensures { IfOk result (λ atom. atom ≡ unwrap_or (last_of x.now.atoms) (null_of x.now.kind)) }
 {
@@ -75,9 +101,9 @@ fn last(alloc: Global, x: &Vector) -> Result<Atom, NoMemory>
     }
 }
 
-/// What the verb gives of the whole list (KX, Reference card). `sum`, `min` and `max` pass nulls over, and a sum wraps
-/// at the width of its kind. Of no item a sum is 0, `min` the greatest value, `max` that value negated (of a boolean and
-/// a byte 0), `first` and `last` the null of the kind.
+/// The verb's result for a column, an atom of the kind that [`crate::result_kind1`] says (KX, Reference card). `sum`,
+/// `min` and `max` skip nulls, and a sum wraps at the width of its kind. Without items, a sum is 0, `min` the greatest
+/// value of the kind, `max` that value negated (0 for a boolean or a byte), and `first` and `last` are the null.
 pub fn aggregate(alloc: Global, verb: Verb1, x: &Vector) -> Result<Atom, NoMemory>
     requires verb { IsTrue (is_aggregate verb) }
     requires row { IsSome (result_kind1_of verb x.now.kind) }
@@ -86,8 +112,8 @@ pub fn aggregate(alloc: Global, verb: Verb1, x: &Vector) -> Result<Atom, NoMemor
     match verb {
         Verb1::Count => Ok(count(x)),
         Verb1::Sum => Ok(sum(x)),
-        Verb1::Min => least(alloc, x),
-        Verb1::Max => most(alloc, x),
+        Verb1::Min => chosen_or_end::<AtMost>(alloc, x),
+        Verb1::Max => chosen_or_end::<AtLeast>(alloc, x),
         Verb1::First => first(alloc, x),
         Verb1::Last => last(alloc, x),
         _ => unreachable!(),

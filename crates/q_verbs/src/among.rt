@@ -1,4 +1,4 @@
-//! Whether values are among a list's items.
+//! Whether items are among those of another column.
 ghost use Rattle.std.specs.Prelude.{◌≡◌, ◌≢◌, ℤ, List, ℕ, Bool, IsSome, length, map, IfOk};
 ghost use Rattle.std.specs.List.{list_any};
 ghost use Rattle.std.specs.HashSet.{contains};
@@ -19,10 +19,10 @@ use std::alloc::{AllocError, Global};
 use std::collections::HashSet;
 use std::hash::Hash;
 
-// So many items at most are compared one by one, which is quicker than a set.
+// The most items that are compared one by one, which is faster than a set for so few.
 const FEW: usize = 12;
 
-// A number that the prover knows to be the least where it is a null.
+// The number itself: the prover takes any number that stands for the null to be the least one.
 fn key_of(x: &i64) -> i64
     ensures { result ≡ canonical x.now }
 {
@@ -56,7 +56,7 @@ fn among_set(alloc: Global, left: &[i64], set: &HashSet<i64>) -> Result<Vec<bool
     Ok(values)
 }
 
-// Whether the number is one of few items, told with no branch for each.
+// Whether the number is one of few items, with no branch for each.
 fn is_one_of(items: &[i64], x: &i64) -> bool
     ensures { result ≡ list_any (λ y. int_eq (canonical x.now) (canonical y)) items.now }
 {
@@ -124,7 +124,7 @@ fn among_items<T: Eq + Hash + Copy>(
     Ok(values)
 }
 
-// Each symbol's bytes.
+/// Each symbol's bytes.
 pub(crate) fn texts_of(alloc: Global, symbols: &Symbols) -> Result<Vec<&[u8]>, AllocError>
     ensures { IfOk result (λ v. map (λ t. t.now) v.items ≡ symbols.now) }
 {
@@ -209,7 +209,7 @@ fn among_column(alloc: Global, left: &Column, items: &Column) -> Result<Vec<bool
     }
 }
 
-/// Whether each value is equal to one of the items (KX, in).
+/// Whether each item of the left side is equal to one of `items` (KX, in). A null is equal to a null.
 pub fn is_in(alloc: Global, left: &Vector, items: &Vector) -> Result<Vector, NoMemory>
     requires { IsSome (comparison_kind left.now.kind items.now.kind) }
     ensures { IfOk result (λ v. v ≡ record {

@@ -1,4 +1,4 @@
-//! Verbs that compute a number at each place.
+//! Verbs that compute a number for each item.
 ghost use Rattle.std.specs.Prelude.{◌≡◌, ◌≢◌, IsTrue, length, map, neg_ℤ, option_map, IfOk};
 ghost use Rattle.std.specs.Simd.Lanes.{zip2};
 ghost use Rattle.q_values.specs.Column.{contents, integer_kind, long_kind};
@@ -16,10 +16,10 @@ use crate::operation::{
 };
 use crate::verb::Verb;
 use crate::wide::Wide;
-use q_values::{Column, IntegerKind, Kind, LongKind, NoMemory, Vector};
+use q_values::{Column, IntegerKind, Kind, LongKind, NoMemory, Storage, Vector};
 use std::alloc::{AllocError, Global};
 
-// A verb and the numbers of its two sides, which come from columns of these kinds.
+// A verb, the numbers of its two sides, and the kinds of the columns that they come from.
 #[derive(Drop)]
 struct Task<'a> {
     verb: Verb,
@@ -109,6 +109,7 @@ impl Task<'_> {
     }
 
     // The result as a column of the kind.
+    #[tactic(auto, using(crate::proofs::KindLemmas::computed_of_bytes))]
     fn column(&self, alloc: Global, kind: Kind) -> Result<Column, NoMemory>
         requires verb { IsTrue (computes self.now.verb) }
         requires kind { IsTrue (is_computed kind) }
@@ -121,23 +122,16 @@ impl Task<'_> {
               self.now.left.now self.now.right.now;
         }) }
     {
-        match kind {
-            Kind::Short => self.shorts(alloc),
-            Kind::Integer => self.integers(alloc, IntegerKind::Integer),
-            Kind::Month => self.integers(alloc, IntegerKind::Month),
-            Kind::Date => self.integers(alloc, IntegerKind::Date),
-            Kind::Minute => self.integers(alloc, IntegerKind::Minute),
-            Kind::Second => self.integers(alloc, IntegerKind::Second),
-            Kind::Time => self.integers(alloc, IntegerKind::Time),
-            Kind::Long => self.longs(alloc, LongKind::Long),
-            Kind::Timestamp => self.longs(alloc, LongKind::Timestamp),
-            Kind::Timespan => self.longs(alloc, LongKind::Timespan),
-            _ => unreachable!(),
+        match kind.storage() {
+            Storage::Short => self.shorts(alloc),
+            Storage::Integer(own) => self.integers(alloc, own),
+            Storage::Long(own) => self.longs(alloc, own),
+            Storage::Boolean | Storage::Byte(_) | Storage::Symbol => unreachable!(),
         }
     }
 }
 
-/// What the verb computes at each place, in this kind.
+/// The verb's results for two columns, item by item, in this kind.
 pub(crate) fn arithmetic(
     alloc: Global,
     verb: Verb,

@@ -1,13 +1,14 @@
-//! Verbs with two sides, place by place.
+//! Verbs with two sides, item by item.
 ghost use Rattle.std.specs.Prelude.{◌≡◌, ◌&&◌, IsTrue, IsSome, Some, length, IfOk};
 ghost use Rattle.std.specs.Simd.Lanes.{zip2};
-ghost use Rattle.q_verbs.specs.Kinds.{is, result_kind_of};
+ghost use Rattle.q_values.specs.Kind.{is};
+ghost use Rattle.q_verbs.specs.Kinds.{result_kind_of};
 ghost use Rattle.q_verbs.specs.Places.{is_comparison, is_choice, is_by_place, value_of};
 
 use crate::arithmetic::arithmetic;
 use crate::choice::choice;
 use crate::comparison::comparison;
-use crate::kinds::{is_same, result_kind};
+use crate::kinds::result_kind;
 use crate::verb::Verb;
 use q_values::{Kind, NoMemory, Vector};
 use std::alloc::Global;
@@ -30,12 +31,12 @@ fn chooses(verb: Verb) -> bool
 fn chooses_of_one_kind(verb: Verb, left: Kind, right: Kind) -> bool
     ensures { result ≡ (is_choice verb && is left right) }
 {
-    chooses(verb) && is_same(left, right)
+    chooses(verb) && left == right
 }
 
-/// What the verb gives of the two values at each place, in the kind that [`crate::result_kind`] tells (KX, Reference
-/// card). A null on a side of `+ - * div mod xbar` gives the null, and so does a zero divisor; sums, differences and
-/// products wrap at the width of the result.
+/// The verb's result for two columns of one length, item by item, in the kind that [`crate::result_kind`] says (KX,
+/// Reference card). For `+ - * div mod xbar` a null on either side gives the null, and so does a zero divisor; sums,
+/// differences and products wrap at the width of the result.
 pub fn binary(alloc: Global, verb: Verb, left: &Vector, right: &Vector) -> Result<Vector, NoMemory>
     requires verb { IsTrue (is_by_place verb) }
     requires row { IsSome (result_kind_of verb left.now.kind right.now.kind) }
@@ -50,6 +51,7 @@ pub fn binary(alloc: Global, verb: Verb, left: &Vector, right: &Vector) -> Resul
     }
 }
 
+// The verb's result in this kind.
 fn binary_of_kind(
     alloc: Global,
     verb: Verb,

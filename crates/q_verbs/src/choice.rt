@@ -1,4 +1,4 @@
-//! The lesser and the greater of two values of one kind.
+//! The lesser and the greater of two items of one kind.
 ghost use Rattle.std.specs.Prelude.{◌≡◌, IsTrue, if◌then◌else◌, length, IfOk};
 ghost use Rattle.std.specs.Simd.Lanes.{zip2};
 ghost use Rattle.q_values.specs.Column.{contents};
@@ -12,6 +12,7 @@ use crate::verb::Verb;
 use q_values::{Column, NoMemory, Vector};
 use std::alloc::{AllocError, Global};
 
+/// The first item where it is in the relation to the second one, and else the second one.
 pub(crate) fn choose_item<P: Relation, T: Number>(x: T, y: T) -> T
     ensures { result ≡ (if P.relates (worth_cmp (numeric (T.number x)) (numeric (T.number y))) then x else y) }
 {
@@ -22,7 +23,7 @@ pub(crate) fn choose_item<P: Relation, T: Number>(x: T, y: T) -> T
     }
 }
 
-// At each place the left item where it stands in the relation to the right one, else the right one.
+// At each index the left item where it is in the relation to the right one, and else the right one.
 fn choose_items<P: Relation, T: Number>(
     alloc: Global,
     left: &[T],
@@ -74,7 +75,7 @@ fn choose_columns<P: Relation>(
     }
 }
 
-/// The lesser or the greater of the two values at each place, which have one kind.
+/// The lesser or the greater of the two items at each index, which have one kind.
 pub(crate) fn choice(
     alloc: Global,
     verb: Verb,

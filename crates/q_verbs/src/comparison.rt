@@ -1,4 +1,4 @@
-//! Verbs that compare at each place.
+//! Verbs that compare two columns item by item.
 ghost use Rattle.std.specs.Prelude.{◌≡◌, ◌≢◌, Bool, IsTrue, length, map, IfOk};
 ghost use Rattle.std.specs.declared.cmp.Ordering.{Ordering};
 ghost use Rattle.std.specs.Ordering.{nat_cmp};
@@ -7,7 +7,7 @@ ghost use Rattle.std.specs.Simd.Lanes.{zip2};
 ghost use Rattle.q_values.specs.Column.{contents};
 ghost use Rattle.q_values.specs.declared.atom.Atom.TheVariants as a;
 ghost use Rattle.q_values.specs.declared.kind.Kind.TheVariants as k;
-ghost use Rattle.q_verbs.specs.Kinds.{is};
+ghost use Rattle.q_values.specs.Kind.{is};
 ghost use Rattle.q_verbs.specs.Numbers.{worth, worth_cmp};
 ghost use Rattle.q_verbs.specs.Places.{is_comparison, holds};
 ghost use Rattle.q_verbs.specs.Loops.{worth_in_64};
@@ -18,10 +18,11 @@ use q_values::{Column, NoMemory, Symbols, Vector};
 use std::alloc::{AllocError, Global};
 use std::cmp::Ordering;
 
-// A relation between two values, told by their order.
+/// A relation between two values, which their order decides.
 pub(crate) trait Relation {
     ghost relates: { Ordering → Bool };
 
+    /// Whether two values in this order are in the relation.
     fn holds(order: Ordering) -> bool
         ensures { result ≡ relates order };
 }
@@ -74,6 +75,7 @@ impl Relation for Above {
     }
 }
 
+/// `<=`
 pub(crate) struct AtMost;
 
 impl Relation for AtMost {
@@ -86,6 +88,7 @@ impl Relation for AtMost {
     }
 }
 
+/// `>=`
 pub(crate) struct AtLeast;
 
 impl Relation for AtLeast {
@@ -98,7 +101,7 @@ impl Relation for AtLeast {
     }
 }
 
-// The order of two numbers of 64 bits, the least being the null.
+/// The order of two numbers of 64 bits, where the least one is the null.
 pub(crate) fn order_of(x: &i64, y: &i64) -> Ordering
     ensures { result ≡ worth_cmp (worth_in_64 x.now) (worth_in_64 y.now) }
 {
@@ -176,6 +179,7 @@ fn compare_wide<P: Relation>(
     Ok(values)
 }
 
+/// A vector of booleans.
 pub(crate) fn booleans(values: Vec<bool>) -> Vector
     ensures { result ≡ record { kind = k.Boolean; atoms = map (λ x. a.Boolean x) values.items } }
 {
@@ -195,7 +199,7 @@ fn compare<P: Relation>(alloc: Global, left: &Vector, right: &Vector) -> Result<
     Ok(booleans(values))
 }
 
-/// Whether the two values at each place stand in the relation that the verb names.
+/// Whether the two items at each index are in the relation that the verb names.
 pub(crate) fn comparison(
     alloc: Global,
     verb: Verb,

@@ -1,4 +1,4 @@
-//! The items of a list where they stand first.
+//! The first of equal items.
 ghost use Rattle.std.specs.Prelude.{◌≡◌, ◌<◌, length, map, All, IfOk};
 ghost use Rattle.q_values.specs.Column.{contents};
 ghost use Rattle.q_values.specs.Lists.{gathered};
@@ -10,7 +10,7 @@ use std::alloc::{AllocError, Global};
 use std::collections::HashSet;
 use std::hash::Hash;
 
-// The places where items stand first.
+// The index of the first of each set of equal items, in order.
 fn first_places<T: Eq + Hash + Copy>(alloc: Global, items: &[T]) -> Result<Vec<usize>, AllocError>
     ensures items { IfOk result (λ v. gathered items.now v.items ≡ distinct T.eq items.now) }
     ensures within { IfOk result (λ v. All (λ p. p < length items.now) v.items) }
@@ -43,7 +43,7 @@ fn first_places_of(alloc: Global, column: &Column) -> Result<Vec<usize>, NoMemor
     }
 }
 
-/// The items, each where it stands first.
+/// The items, of equal ones the first, in order.
 pub(crate) fn distinct_items(alloc: Global, x: &Vector) -> Result<Vector, NoMemory>
     ensures { IfOk result (λ v. v ≡ record x.now { atoms = distinct same_atom x.now.atoms }) }
 {

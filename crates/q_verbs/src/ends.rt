@@ -1,80 +1,83 @@
-//! The ends and the nulls of the kinds.
-ghost use Rattle.std.specs.Prelude.{◌≡◌, [], IfOk};
-ghost use Rattle.q_verbs.specs.Aggregates.{greatest, lowest, null_of};
+//! The greatest and least values and the nulls of the kinds.
+ghost use Rattle.std.specs.Prelude.{◌≡◌, IfOk};
+ghost use Rattle.q_values.specs.Kind.{storage_of};
+ghost use Rattle.q_verbs.specs.Aggregates.{stored_atom, greatest, lowest, null_of};
 
-use q_values::{Atom, Kind, NoMemory, Sym};
+use q_values::{Atom, Kind, NoMemory, Storage, Sym};
 use std::alloc::Global;
 
+/// The character that is used as a null.
 const BLANK: u8 = 32;
 
-fn empty_symbol(alloc: Global) -> Result<Atom, NoMemory>
-    ensures { IfOk result (λ x. x ≡ Atom.Symbol []) }
-{
-    Ok(Atom::Symbol(Sym::copied(alloc, &[])?))
+/// One value for each width that atoms are stored in.
+#[derive(Clone, Copy)]
+pub(crate) struct Ends {
+    /// Of a boolean.
+    pub boolean: bool,
+    /// Of a byte or a character.
+    pub byte: u8,
+    /// Of 16 bits.
+    pub short: i16,
+    /// Of 32 bits.
+    pub integer: i32,
+    /// Of 64 bits.
+    pub long: i64,
 }
 
-/// The greatest value of a kind.
+impl Ends {
+    // The atom of a kind with the value of its width; of a symbol the empty one.
+    fn atom(&self, alloc: Global, kind: Kind) -> Result<Atom, NoMemory>
+        ensures { IfOk result (λ x. x ≡ stored_atom self.now (storage_of kind)) }
+    {
+        match kind.storage() {
+            Storage::Boolean => Ok(Atom::Boolean(self.boolean)),
+            Storage::Byte(own) => Ok(own.atom(self.byte)),
+            Storage::Short => Ok(Atom::Short(self.short)),
+            Storage::Integer(own) => Ok(own.atom(&self.integer)),
+            Storage::Long(own) => Ok(own.atom(&self.long)),
+            Storage::Symbol => Ok(Atom::Symbol(Sym::copied(alloc, &[])?)),
+        }
+    }
+}
+
+/// The greatest value of a kind; of a symbol the empty one.
 pub(crate) fn greatest_of(alloc: Global, kind: Kind) -> Result<Atom, NoMemory>
     ensures { IfOk result (λ x. x ≡ greatest kind) }
 {
-    match kind {
-        Kind::Boolean => Ok(Atom::Boolean(true)),
-        Kind::Byte => Ok(Atom::Byte(u8::MAX)),
-        Kind::Short => Ok(Atom::Short(i16::MAX)),
-        Kind::Integer => Ok(Atom::Integer(i32::MAX)),
-        Kind::Long => Ok(Atom::Long(i64::MAX)),
-        Kind::Character => Ok(Atom::Character(u8::MAX)),
-        Kind::Symbol => empty_symbol(alloc),
-        Kind::Timestamp => Ok(Atom::Timestamp(i64::MAX)),
-        Kind::Month => Ok(Atom::Month(i32::MAX)),
-        Kind::Date => Ok(Atom::Date(i32::MAX)),
-        Kind::Timespan => Ok(Atom::Timespan(i64::MAX)),
-        Kind::Minute => Ok(Atom::Minute(i32::MAX)),
-        Kind::Second => Ok(Atom::Second(i32::MAX)),
-        Kind::Time => Ok(Atom::Time(i32::MAX)),
-    }
+    let ends = Ends {
+        boolean: true,
+        byte: u8::MAX,
+        short: i16::MAX,
+        integer: i32::MAX,
+        long: i64::MAX,
+    };
+    ends.atom(alloc, kind)
 }
 
-/// The greatest value of a kind negated, or 0 of a boolean and a byte.
+/// The greatest value of a kind negated; 0 for a boolean, a byte or a character.
 pub(crate) fn lowest_of(alloc: Global, kind: Kind) -> Result<Atom, NoMemory>
     ensures { IfOk result (λ x. x ≡ lowest kind) }
 {
-    match kind {
-        Kind::Boolean => Ok(Atom::Boolean(false)),
-        Kind::Byte => Ok(Atom::Byte(0)),
-        Kind::Short => Ok(Atom::Short(-i16::MAX)),
-        Kind::Integer => Ok(Atom::Integer(-i32::MAX)),
-        Kind::Long => Ok(Atom::Long(-i64::MAX)),
-        Kind::Character => Ok(Atom::Character(0)),
-        Kind::Symbol => empty_symbol(alloc),
-        Kind::Timestamp => Ok(Atom::Timestamp(-i64::MAX)),
-        Kind::Month => Ok(Atom::Month(-i32::MAX)),
-        Kind::Date => Ok(Atom::Date(-i32::MAX)),
-        Kind::Timespan => Ok(Atom::Timespan(-i64::MAX)),
-        Kind::Minute => Ok(Atom::Minute(-i32::MAX)),
-        Kind::Second => Ok(Atom::Second(-i32::MAX)),
-        Kind::Time => Ok(Atom::Time(-i32::MAX)),
-    }
+    let ends = Ends {
+        boolean: false,
+        byte: 0,
+        short: -i16::MAX,
+        integer: -i32::MAX,
+        long: -i64::MAX,
+    };
+    ends.atom(alloc, kind)
 }
 
-/// The null of a kind, or what stands for one.
+/// The null of a kind, or the value that is used as one.
 pub(crate) fn null_atom(alloc: Global, kind: Kind) -> Result<Atom, NoMemory>
     ensures { IfOk result (λ x. x ≡ null_of kind) }
 {
-    match kind {
-        Kind::Boolean => Ok(Atom::Boolean(false)),
-        Kind::Byte => Ok(Atom::Byte(0)),
-        Kind::Short => Ok(Atom::Short(i16::MIN)),
-        Kind::Integer => Ok(Atom::Integer(i32::MIN)),
-        Kind::Long => Ok(Atom::Long(i64::MIN)),
-        Kind::Character => Ok(Atom::Character(BLANK)),
-        Kind::Symbol => empty_symbol(alloc),
-        Kind::Timestamp => Ok(Atom::Timestamp(i64::MIN)),
-        Kind::Month => Ok(Atom::Month(i32::MIN)),
-        Kind::Date => Ok(Atom::Date(i32::MIN)),
-        Kind::Timespan => Ok(Atom::Timespan(i64::MIN)),
-        Kind::Minute => Ok(Atom::Minute(i32::MIN)),
-        Kind::Second => Ok(Atom::Second(i32::MIN)),
-        Kind::Time => Ok(Atom::Time(i32::MIN)),
-    }
+    let ends = Ends {
+        boolean: false,
+        byte: if kind == Kind::Character { BLANK } else { 0 },
+        short: i16::MIN,
+        integer: i32::MIN,
+        long: i64::MIN,
+    };
+    ends.atom(alloc, kind)
 }

@@ -1,77 +1,58 @@
 //! Which kinds a verb takes, and the kind of its result.
 ghost use Rattle.std.specs.Prelude.{◌≡◌};
-ghost use Rattle.q_verbs.specs.Kinds.{type_number, is, is_num, is_whole, is_length, is_temporal, is_number, are, wide, wider, sum_kind, difference_kind, product_kind, quotient_kind, remainder_kind, multiple_kind, choice_kind, comparison_kind, match_kind, result_kind_of, negated_kind, total_kind, result_kind1_of};
+ghost use Rattle.q_verbs.specs.Kinds.{is_num, is_whole, is_length, is_temporal, is_number, are, wide, wider};
+ghost use Rattle.q_verbs.specs.Kinds.{sum_kind, difference_kind, product_kind, quotient_kind, remainder_kind, multiple_kind};
+ghost use Rattle.q_verbs.specs.Kinds.{choice_kind, comparison_kind, match_kind, result_kind_of, negated_kind, total_kind, result_kind1_of};
 
 use crate::verb::{Verb, Verb1};
 use q_values::Kind;
 
-fn number_of_type(kind: Kind) -> u8
-    ensures { result ≡ type_number kind }
-{
-    match kind {
-        Kind::Boolean => 1,
-        Kind::Byte => 4,
-        Kind::Short => 5,
-        Kind::Integer => 6,
-        Kind::Long => 7,
-        Kind::Character => 10,
-        Kind::Symbol => 11,
-        Kind::Timestamp => 12,
-        Kind::Month => 13,
-        Kind::Date => 14,
-        Kind::Timespan => 16,
-        Kind::Minute => 17,
-        Kind::Second => 18,
-        Kind::Time => 19,
-    }
-}
-
-pub(crate) fn is_same(x: Kind, y: Kind) -> bool
-    ensures { result ≡ is x y }
-{
-    number_of_type(x) == number_of_type(y)
-}
-
+// Boolean, short, int and long.
 fn has_num(x: Kind) -> bool
     ensures { result ≡ is_num x }
 {
     matches!(x, Kind::Boolean | Kind::Short | Kind::Integer | Kind::Long)
 }
 
+// Those and byte.
 fn has_whole(x: Kind) -> bool
     ensures { result ≡ is_whole x }
 {
-    has_num(x) || is_same(x, Kind::Byte)
+    has_num(x) || x == Kind::Byte
 }
 
+// The kinds that are a length of time.
 fn has_length(x: Kind) -> bool
     ensures { result ≡ is_length x }
 {
     matches!(x, Kind::Timespan | Kind::Minute | Kind::Second | Kind::Time)
 }
 
+// Those and the kinds that are a point in time.
 fn has_temporal(x: Kind) -> bool
     ensures { result ≡ is_temporal x }
 {
     matches!(x, Kind::Timestamp | Kind::Month | Kind::Date) || has_length(x)
 }
 
+// Every kind but symbol and character.
 fn has_number(x: Kind) -> bool
     ensures { result ≡ is_number x }
 {
     !matches!(x, Kind::Symbol | Kind::Character)
 }
 
+/// Whether the left side has the kind `a` and the right side the kind `b`.
 pub(crate) fn have(a: Kind, b: Kind, left: Kind, right: Kind) -> bool
     ensures { result ≡ are a b left right }
 {
-    is_same(left, a) && is_same(right, b)
+    left == a && right == b
 }
 
 fn wide_of(left: Kind, right: Kind) -> Kind
     ensures { result ≡ wide left right }
 {
-    if is_same(left, Kind::Long) || is_same(right, Kind::Long) {
+    if left == Kind::Long || right == Kind::Long {
         Kind::Long
     } else {
         Kind::Integer
@@ -81,7 +62,7 @@ fn wide_of(left: Kind, right: Kind) -> Kind
 fn wider_of(left: Kind, right: Kind) -> Kind
     ensures { result ≡ wider left right }
 {
-    if number_of_type(left) < number_of_type(right) {
+    if left.type_number() < right.type_number() {
         right
     } else {
         left
@@ -105,7 +86,7 @@ fn kind_of_sum(left: Kind, right: Kind) -> Option<Kind>
         || have(Kind::Timespan, Kind::Timestamp, left, right)
     {
         Some(Kind::Timestamp)
-    } else if has_length(left) && is_same(left, right) {
+    } else if has_length(left) && left == right {
         Some(left)
     } else {
         None
@@ -127,7 +108,7 @@ fn kind_of_difference(left: Kind, right: Kind) -> Option<Kind>
         Some(Kind::Timespan)
     } else if have(Kind::Timestamp, Kind::Timespan, left, right) {
         Some(Kind::Timestamp)
-    } else if has_length(left) && is_same(left, right) {
+    } else if has_length(left) && left == right {
         Some(left)
     } else {
         None
@@ -153,7 +134,7 @@ fn kind_of_quotient(left: Kind, right: Kind) -> Option<Kind>
 {
     if !(has_num(left) && has_num(right)) {
         None
-    } else if is_same(left, Kind::Long) {
+    } else if left == Kind::Long {
         Some(Kind::Long)
     } else {
         Some(Kind::Integer)
@@ -177,9 +158,7 @@ fn kind_of_multiple(left: Kind, right: Kind) -> Option<Kind>
         Some(wide_of(left, right))
     } else if has_num(left) && has_temporal(right) {
         Some(right)
-    } else if is_same(left, Kind::Timespan)
-        && (is_same(right, Kind::Timespan) || is_same(right, Kind::Timestamp))
-    {
+    } else if left == Kind::Timespan && (right == Kind::Timespan || right == Kind::Timestamp) {
         Some(right)
     } else {
         None
@@ -189,7 +168,7 @@ fn kind_of_multiple(left: Kind, right: Kind) -> Option<Kind>
 fn kind_of_choice(left: Kind, right: Kind) -> Option<Kind>
     ensures { result ≡ choice_kind left right }
 {
-    if is_same(left, right) {
+    if left == right {
         if has_number(left) { Some(left) } else { None }
     } else if has_num(left) && has_num(right) {
         Some(wider_of(left, right))
@@ -201,7 +180,7 @@ fn kind_of_choice(left: Kind, right: Kind) -> Option<Kind>
 fn kind_of_comparison(left: Kind, right: Kind) -> Option<Kind>
     ensures { result ≡ comparison_kind left right }
 {
-    if is_same(left, right) || (has_whole(left) && has_whole(right)) {
+    if left == right || (has_whole(left) && has_whole(right)) {
         Some(Kind::Boolean)
     } else {
         None
@@ -218,7 +197,7 @@ fn kind_of_match(left: Kind, right: Kind) -> Option<Kind>
     }
 }
 
-/// The kind of the verb's result where its sides have these kinds; none where the verb takes no such kinds.
+/// The kind of the verb's result where its sides have these kinds; `None` where the verb doesn't take them.
 pub fn result_kind(verb: Verb, left: Kind, right: Kind) -> Option<Kind>
     ensures { result ≡ result_kind_of verb left right }
 {
@@ -239,7 +218,7 @@ pub fn result_kind(verb: Verb, left: Kind, right: Kind) -> Option<Kind>
 fn kind_of_negated(kind: Kind) -> Option<Kind>
     ensures { result ≡ negated_kind kind }
 {
-    if is_same(kind, Kind::Boolean) {
+    if kind == Kind::Boolean {
         Some(Kind::Integer)
     } else if has_num(kind) || has_length(kind) {
         Some(kind)
@@ -251,7 +230,7 @@ fn kind_of_negated(kind: Kind) -> Option<Kind>
 fn kind_of_total(kind: Kind) -> Option<Kind>
     ensures { result ≡ total_kind kind }
 {
-    if is_same(kind, Kind::Long) || is_same(kind, Kind::Timespan) {
+    if kind == Kind::Long || kind == Kind::Timespan {
         Some(kind)
     } else if has_num(kind) {
         Some(Kind::Integer)
@@ -260,7 +239,7 @@ fn kind_of_total(kind: Kind) -> Option<Kind>
     }
 }
 
-/// The kind of the verb's result for one side of this kind; none where the verb doesn't take the kind.
+/// The kind of the verb's result where its side has this kind; `None` where the verb doesn't take it.
 pub fn result_kind1(verb: Verb1, kind: Kind) -> Option<Kind>
     ensures { result ≡ result_kind1_of verb kind }
 {

@@ -1,17 +1,19 @@
-//! Laws of the verbs, each the contract of a function that does nothing.
-ghost use Rattle.q_verbs.specs.Laws.{DivisionIsWhole, RemainderLiesBelow, RemainderLiesAbove, BarIsGreatestMultiple, SumOfJoined, LeastIsItem, PlainPatternIsItself, AnyBytesMatchAll};
+//! What holds of the verbs, in other words than their definitions. Each law is the contract of a function with an empty
+//! body.
+ghost use Rattle.q_verbs.specs.Laws.{DivisionIsWhole, RemainderLiesBelow, RemainderLiesAbove, BarIsGreatestMultiple};
+ghost use Rattle.q_verbs.specs.Laws.{SumOfJoined, LeastIsItem, PlainPatternIsItself, AnyBytesMatchAll};
 
-/// A number is the divisor times the quotient, and the remainder.
+/// A number is the divisor times the quotient, plus the remainder.
 pub fn division_is_whole()
     ensures { DivisionIsWhole }
 {}
 
-/// What a divisor above 0 leaves lies from 0 to below it.
+/// The remainder of a divisor above 0 is at least 0 and below the divisor.
 pub fn remainder_lies_below()
     ensures { RemainderLiesBelow }
 {}
 
-/// What a divisor below 0 leaves lies from above it to 0.
+/// The remainder of a divisor below 0 is above the divisor and at most 0.
 pub fn remainder_lies_above()
     ensures { RemainderLiesAbove }
 {}
@@ -26,12 +28,12 @@ pub fn sum_of_joined()
     ensures { SumOfJoined }
 {}
 
-/// What `min` gives is an item or the greatest value of the kind, and no number of the list is less.
+/// The result of `min` is an item, or the greatest value of the kind, and no number of the list is less.
 pub fn least_is_item()
     ensures { LeastIsItem }
 {}
 
-/// A pattern of plain bytes matches itself alone.
+/// A pattern without `*` and `?` matches only itself.
 pub fn plain_pattern_is_itself()
     ensures { PlainPatternIsItself }
 {}

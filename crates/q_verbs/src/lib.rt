@@ -1,4 +1,26 @@
-//! The verbs of the query language over whole columns, exact at nulls, at the ends of kinds and at zero divisors.
+//! The verbs of the query language over whole columns, exact at nulls, at the ends of kinds and at zero divisors (KX,
+//! Reference card).
+//!
+//! A verb is a value of [`Verb`] (two sides, as `+`) or [`Verb1`] (one side, as `sum`). Which kinds it takes, and the
+//! kind of its result, is a table: [`result_kind`] and [`result_kind1`] read it, and return `None` where the verb doesn't
+//! take the kinds. The calls that compute ask that the table has an answer, so they have no error but that memory runs
+//! out:
+//!
+//! - [`binary`] applies a verb to two columns of one length, item by item; [`unary`] applies `not`, `neg` or `distinct`
+//!   to a column; [`aggregate`] makes one atom of a column.
+//! - [`is_in`], [`is_within`] and [`is_like`] test each item of a column.
+//!
+//! ```text
+//! result_kind(Verb::Add, Kind::Integer, Kind::Date)      // Some(Kind::Date)
+//! binary(alloc, Verb::Add, &ints, &dates)                // 1 0N + 2024.01.02 2024.01.02  is  2024.01.03 0Nd
+//! aggregate(alloc, Verb1::Sum, &ints)                    // sum 1 0N 2  is  3
+//! ```
+//!
+//! A loop runs over the typed slice of a column, or over its numbers widened to 64 bits ([`laws`] says what holds of the
+//! results). There are no atoms among the arguments but the two ends of `within`: a caller makes an atom a column of the
+//! length of the other side.
+//!
+//! This crate doesn't parse, doesn't plan queries, and has no verbs of floats.
 #![tactic(auto)]
 
 mod aggregation;
@@ -28,14 +50,3 @@ pub use like::is_like;
 pub use one_side::unary;
 pub use verb::{Verb, Verb1};
 pub use within::is_within;
-
-#[cfg(test)]
-mod kinds_rows;
-#[cfg(test)]
-mod one_side_rows;
-#[cfg(test)]
-mod table_test;
-#[cfg(test)]
-mod tests;
-#[cfg(test)]
-mod two_sides_rows;

@@ -1,5 +1,7 @@
-//! Whether symbols match a pattern.
-ghost use Rattle.std.specs.Prelude.{◌≡◌, ◌<◌, ◌+◌, ◌||◌, ◌&&◌, ◌∷◌, ℕ, List, Bool, true, false, [], vec_len, length, map, slice_index, slice_index_or, IfOk, OnOk, IfSome, IfNone};
+//! Whether symbols match a pattern. A row has, for each index of the text and for its end, whether the text from there on
+//! matches; each byte of the pattern, from its end to its front, makes the next row.
+ghost use Rattle.std.specs.Prelude.{◌≡◌, ◌<◌, ◌+◌, ◌||◌, ◌&&◌, ◌∷◌, ℕ, List, Bool, true, false, []};
+ghost use Rattle.std.specs.Prelude.{vec_len, length, map, slice_index, slice_index_or, IfOk, OnOk, IfSome, IfNone};
 ghost use Rattle.q_values.specs.declared.atom.Atom.TheVariants as a;
 ghost use Rattle.q_values.specs.declared.kind.Kind.TheVariants as k;
 ghost use Rattle.q_verbs.specs.Numbers.{worth};
@@ -13,6 +15,7 @@ const ANY_BYTES: u8 = b'*';
 
 const ANY_BYTE: u8 = b'?';
 
+// Whether a byte of a pattern that is no `*` fits a byte of a text.
 fn fits(p: u8, b: u8) -> bool
     ensures { result ≡ fits_byte p b }
 {
@@ -94,8 +97,8 @@ fn is_match_by_rows(row: &mut Vec<bool>, pattern: &[u8], text: &[u8]) -> Result<
     Ok(cells[0])
 }
 
-// How many bytes at the front of the pattern, up to its first `*`, stand for as many bytes of the text; none where one
-// of them doesn't.
+// The number of bytes at the front of the pattern, up to its first `*`, where each fits the byte of the text at its
+// index; `None` where one doesn't.
 fn front_len(pattern: &[u8], text: &[u8]) -> Option<usize>
     ensures some { IfSome result (IsFront pattern.now text.now) }
     ensures none { IfNone result (matches pattern.now text.now ≡ false) }
@@ -114,7 +117,7 @@ fn front_len(pattern: &[u8], text: &[u8]) -> Option<usize>
     Some(pattern.len())
 }
 
-// What is left of a pattern behind its front: nothing, one `*`, or more.
+// Whether the text matches what is left of a pattern after its front: nothing, one `*`, or more.
 fn is_match_of_rest(row: &mut Vec<bool>, pattern: &[u8], text: &[u8]) -> Result<bool, AllocError>
     ensures { IfOk result (λ b. b ≡ matches pattern.now text.now) }
 {
@@ -151,8 +154,8 @@ fn like_symbols(alloc: Global, items: &Symbols, pattern: &[u8]) -> Result<Vec<bo
 }
 
 /// Whether each symbol matches the pattern (KX, like): `*` stands for any bytes, `?` for any one byte, another byte for
-/// itself. The time of one symbol is the product of its length and the pattern's at most, and without a `*` but at the
-/// pattern's end it is the lesser of the two lengths.
+/// itself. One symbol takes time in proportion to its length times the pattern's, at most; where the pattern has no `*`
+/// before its end, in proportion to the shorter of the two.
 pub fn is_like(alloc: Global, left: &Vector, pattern: &[u8]) -> Result<Vector, NoMemory>
     requires { left.now.kind ≡ k.Symbol }
     ensures { IfOk result (λ v. v ≡ record {

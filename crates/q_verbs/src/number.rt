@@ -9,7 +9,7 @@ use std::alloc::{AllocError, Global};
 pub(crate) trait Number: Copy {
     ghost number: { Self → Option ℤ };
 
-    /// The number, with the least of 64 bits for the null.
+    /// The number in 64 bits, the least one for the null.
     fn widened(&self) -> i64
         ensures { number_in w64 result ≡ number self.now };
 }
@@ -75,6 +75,7 @@ impl Number for i64 {
     }
 }
 
+/// Each number in 64 bits, the least one for the null.
 pub(crate) fn widened_all<T: Number>(alloc: Global, items: &[T]) -> Result<Vec<i64>, AllocError>
     ensures { IfOk result (λ v. map (number_in w64) v.items ≡ map T.number items.now) }
 {
@@ -94,6 +95,7 @@ pub(crate) trait Reduced: Copy {
         ensures { result ≡ of value };
 }
 
+/// The low 32 bits, in two's complement.
 pub(crate) fn low_32(x: &i64) -> i32
     ensures { result ≡ int_wrap w32 x.now }
 {

@@ -1,4 +1,4 @@
-//! Verbs with one side that give a list.
+//! Verbs with one side that make a column.
 ghost use Rattle.std.specs.Prelude.{◌≡◌, ◌≢◌, IsTrue, IsSome, Some, map, IfOk};
 ghost use Rattle.q_values.specs.declared.atom.Atom.TheVariants as a;
 ghost use Rattle.q_values.specs.declared.kind.Kind.TheVariants as k;
@@ -45,9 +45,8 @@ fn negated_tests(alloc: Global, x: &Vector) -> Result<Vector, NoMemory>
     Ok(booleans(values))
 }
 
-/// What the verb gives of the list, in the kind that [`crate::result_kind1`] tells (KX, Reference card). `not` tells
-/// whether a value is 0, which a null is not; `neg` of a null is the null, and wraps; `distinct` keeps each item where it
-/// stands first.
+/// The verb's result for a column, in the kind that [`crate::result_kind1`] says (KX, Reference card). `not` is true where
+/// an item is 0, which a null is not; `neg` of a null is the null; `distinct` keeps the first of equal items.
 pub fn unary(alloc: Global, verb: Verb1, x: &Vector) -> Result<Vector, NoMemory>
     requires verb { IsTrue (is_unary verb) }
     requires row { IsSome (result_kind1_of verb x.now.kind) }

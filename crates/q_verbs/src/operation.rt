@@ -1,4 +1,4 @@
-//! What verbs make of two numbers, and the loop over two columns.
+//! The operations of the verbs on two numbers, and the loop over two columns.
 ghost use Rattle.std.specs.Prelude.{◌≡◌, ◌<ℤ◌, ◌≢◌, ◌-ℤ◌, ◌*ℤ◌, ℤ, pos, length, IfOk, Option, option_map, IsTrue};
 ghost use Rattle.std.specs.Int.{w64, int_wrap};
 ghost use Rattle.std.specs.Simd.Lanes.{zip2};
@@ -7,19 +7,21 @@ ghost use Rattle.q_verbs.specs.Loops.{computed};
 ghost use Rattle.q_verbs.specs.Places.{floor_div};
 
 use crate::number::Reduced;
+use q_values::NANOSECONDS_PER_DAY;
 use std::alloc::{AllocError, Global};
 
-/// What a verb makes of two numbers of 64 bits, neither of them the null.
+/// An operation on two numbers of 64 bits, neither of them the null.
 pub(crate) trait Operation {
     ghost value: { ℤ → ℤ → Option ℤ };
 
-    /// The result, wrapped to 64 bits, or none for the null.
+    /// The result, wrapped to 64 bits; `None` for the null.
     fn apply(x: &i64, y: &i64) -> Option<i64>
         requires left { least w64 <ℤ x.now }
         requires right { least w64 <ℤ y.now }
         ensures { result ≡ option_map (int_wrap w64) (value x.now y.now) };
 }
 
+/// `+`
 pub(crate) struct Sum;
 
 impl Operation for Sum {
@@ -32,6 +34,7 @@ impl Operation for Sum {
     }
 }
 
+/// `-`
 pub(crate) struct Difference;
 
 impl Operation for Difference {
@@ -44,6 +47,7 @@ impl Operation for Difference {
     }
 }
 
+/// `*`
 pub(crate) struct Product;
 
 impl Operation for Product {
@@ -56,8 +60,7 @@ impl Operation for Product {
     }
 }
 
-const NANOSECONDS_PER_DAY: i64 = 86_400_000_000_000;
-
+/// A date and a timespan: a timestamp.
 pub(crate) struct DaysAndSpan;
 
 impl Operation for DaysAndSpan {
@@ -70,6 +73,7 @@ impl Operation for DaysAndSpan {
     }
 }
 
+/// A timespan and a date: a timestamp.
 pub(crate) struct SpanAndDays;
 
 impl Operation for SpanAndDays {
@@ -96,6 +100,7 @@ fn floored(x: &i64, y: &i64) -> i64
     }
 }
 
+/// `div`
 pub(crate) struct Quotient;
 
 impl Operation for Quotient {
@@ -108,13 +113,14 @@ impl Operation for Quotient {
     }
 }
 
-// What is left of x behind q times y.
+// x minus q times y, wrapped.
 fn rest(x: &i64, y: &i64, q: &i64) -> i64
     ensures { result ≡ int_wrap w64 (x.now -ℤ (y.now *ℤ q.now)) }
 {
     x.wrapping_sub(y.wrapping_mul(*q))
 }
 
+/// `mod`
 pub(crate) struct Remainder;
 
 impl Operation for Remainder {
@@ -131,6 +137,7 @@ impl Operation for Remainder {
     }
 }
 
+/// `xbar`
 pub(crate) struct Multiple;
 
 impl Operation for Multiple {
@@ -147,6 +154,7 @@ impl Operation for Multiple {
     }
 }
 
+/// `&` of two kinds
 pub(crate) struct Lesser;
 
 impl Operation for Lesser {
@@ -159,6 +167,7 @@ impl Operation for Lesser {
     }
 }
 
+/// `|` of two kinds
 pub(crate) struct Greater;
 
 impl Operation for Greater {
@@ -171,6 +180,7 @@ impl Operation for Greater {
     }
 }
 
+// The result of two numbers or nulls; a null on either side gives the null.
 fn applied<P: Operation>(x: &i64, y: &i64) -> Option<i64>
     ensures { result ≡ computed P.value x.now y.now }
 {
@@ -181,7 +191,7 @@ fn applied<P: Operation>(x: &i64, y: &i64) -> Option<i64>
     }
 }
 
-/// The operation's result at each place of two columns of one length.
+/// The operation's results for two columns of one length, item by item.
 pub(crate) fn apply_all<P: Operation, T: Reduced>(
     alloc: Global,
     left: &[i64],

@@ -13,7 +13,7 @@ use crate::comparison::Relation;
 use crate::number::{Number, low_32};
 use q_values::{Atom, ByteKind, Column, IntegerKind, Kind, LongKind};
 
-// The sum of the items, nulls passed over, wrapped to 64 bits.
+// The sum of the items but the nulls, wrapped to 64 bits.
 fn total_of_items<T: Number>(items: &[T]) -> i64
     ensures { result ≡ int_wrap w64 (total (map T.number items.now)) }
 {
@@ -35,7 +35,7 @@ fn added(sum: &i64, x: &i64) -> i64
     }
 }
 
-/// The sum of a column, nulls passed over, wrapped to 64 bits.
+/// The sum of a column but its nulls, wrapped to 64 bits.
 pub(crate) fn total_of(column: &Column) -> i64
     requires { (contents column.now).kind ≢ k.Symbol }
     ensures { result ≡ int_wrap w64 (total (map number_of (contents column.now).atoms)) }
@@ -63,7 +63,7 @@ pub(crate) fn total_atom(kind: Kind, sum: &i64) -> Atom
     }
 }
 
-// The item that is chosen by the relation of all items but the nulls.
+// The item, of all but the nulls, that is in the relation to each of the others.
 fn chosen_of_items<P: Relation, T: Number>(items: &[T]) -> Option<T>
     ensures { result ≡ chosen_of T.number
         (λ x y. if P.relates (worth_cmp (numeric (T.number x)) (numeric (T.number y))) then x else y) items.now }
@@ -134,7 +134,7 @@ fn long_atom_of(kind: LongKind, x: Option<i64>) -> Option<Atom>
     }
 }
 
-/// The atom that is chosen by the relation of all atoms of a column but the nulls.
+/// The atom of a column, of all but the nulls, that is in the relation to each of the others.
 pub(crate) fn chosen_of_column<P: Relation>(column: &Column) -> Option<Atom>
     requires { (contents column.now).kind ≢ k.Symbol }
     ensures { result ≡ chosen_of number_of

@@ -11,7 +11,7 @@ pub enum Verb {
     Mul,
     /// `div`: the quotient rounded down.
     Div,
-    /// `mod`: what `div` leaves, with the sign of the divisor.
+    /// `mod`: the remainder of `div`, with the sign of the divisor.
     Mod,
     /// `xbar`: the greatest multiple of the left side that is not above the right side.
     Xbar,
@@ -31,7 +31,7 @@ pub enum Verb {
     Lesser,
     /// `|`: the greater.
     Greater,
-    /// `in`: whether an item of the right side is equal.
+    /// `in`: whether it is equal to an item of the right side.
     In,
     /// `within`: whether it lies between two, both included.
     Within,
@@ -46,18 +46,18 @@ pub enum Verb1 {
     Not,
     /// `neg`
     Neg,
-    /// `count`: the number of items, nulls too.
+    /// `count`: the number of items, nulls included.
     Count,
-    /// `sum`, which passes nulls over.
+    /// `sum`, which skips nulls.
     Sum,
-    /// `min`, which passes nulls over.
+    /// `min`, which skips nulls.
     Min,
-    /// `max`, which passes nulls over.
+    /// `max`, which skips nulls.
     Max,
     /// `first`
     First,
     /// `last`
     Last,
-    /// `distinct`: each item where it stands first.
+    /// `distinct`: of equal items the first.
     Distinct,
 }

@@ -9,15 +9,17 @@ use crate::number::widened_all;
 use q_values::{Column, NoMemory};
 use std::alloc::Global;
 
-/// Numbers of 64 bits, the least standing for the null: a column's own, or made of a narrower column.
+/// Numbers of 64 bits, the least one for the null: those of a column of that width, or made of a narrower column.
 #[derive(Drop)]
 pub(crate) enum Wide<'a> {
+    /// The items of a column of 64 bits.
     Lent(&'a [i64]),
+    /// The items of a narrower column, widened.
     Made(Vec<i64>),
 }
 
 impl<'a> Wide<'a> {
-    /// The numbers of a column. Only a narrower column takes memory.
+    /// The numbers of a column. Only for a narrower column are they allocated.
     pub(crate) fn of(alloc: Global, column: &'a Column) -> Result<Wide<'a>, NoMemory>
         requires { (contents column.now).kind ≢ k.Symbol }
         ensures { IfOk result
@@ -33,7 +35,7 @@ impl<'a> Wide<'a> {
         }
     }
 
-    /// Lends the numbers.
+    /// The numbers.
     pub(crate) fn as_slice(&self) -> &[i64]
         ensures { result.now ≡ wide_items self.now }
     {

@@ -1,4 +1,4 @@
-//! Whether values lie between two.
+//! Whether items lie between two atoms.
 ghost use Rattle.std.specs.Prelude.{◌≡◌, ◌≢◌, IsSome, length, map, IfOk};
 ghost use Rattle.q_values.specs.Atom.{kind_of};
 ghost use Rattle.q_values.specs.Column.{contents};
@@ -15,7 +15,7 @@ use crate::wide::Wide;
 use q_values::{Atom, Column, NoMemory, Symbols, Vector};
 use std::alloc::{AllocError, Global};
 
-// An atom's number in 64 bits, the least for the null.
+// An atom's number in 64 bits, the least one for the null.
 fn number_of_atom(atom: &Atom) -> i64
     requires { kind_of atom.now ≢ k.Symbol }
     ensures { worth_in_64 result ≡ worth atom.now }
@@ -121,8 +121,8 @@ fn within_column(
     }
 }
 
-/// Whether each value lies between the two, both included (KX, within). The two have one kind, with which values of the
-/// left side are compared: a null lies below every number.
+/// Whether each item lies between the two atoms, both included (KX, within). The atoms have one kind, which can be
+/// compared with that of the items; a null lies below every number.
 pub fn is_within(alloc: Global, left: &Vector, low: &Atom, high: &Atom) -> Result<Vector, NoMemory>
     requires row { IsSome (comparison_kind left.now.kind (kind_of low.now)) }
     requires same { kind_of high.now ≡ kind_of low.now }

@@ -2,7 +2,8 @@ use Rattle.std.proofs.Common.{◌≡◌, rules, true, false, ◌&&◌, List, ap,
 use Rattle.q_values.specs.Contents.{Contents}
 use Rattle.q_values.specs.declared.atom.Atom.{Atom}
 use Rattle.q_values.specs.declared.kind.Kind.{Kind}
-use Rattle.q_verbs.specs.Kinds.{is, is_computed}
+use Rattle.q_values.specs.Kind.{is}
+use Rattle.q_verbs.specs.Kinds.{is_computed}
 use Rattle.q_verbs.specs.Places.{is_comparison, is_choice, is_by_place}
 use Rattle.q_verbs.proofs.RowLemmas.{comparison_row, choice_row, computed_row}
 use Rattle.q_verbs.proofs.ValueLemmas.{compared_values, chosen_values, computed_values}

@@ -1,9 +1,9 @@
 //! The kinds of the verbs' results, worked out apart from this code, as the letters of the kinds (KX, Datatypes reference).
 //!
 //! A table has a line for each kind at the left and a letter for each kind at the right, both in the order of [`KINDS`];
-//! `.` stands where the verb takes no such kinds.
+//! `.` means that the verb doesn't take the two kinds.
 
-use crate::verb::{Verb, Verb1};
+use q_verbs::{Verb, Verb1};
 
 /// The letters of the kinds.
 pub(crate) const KINDS: &str = "bxhijcspmdnuvt";

@@ -1,16 +1,14 @@
-//! Each verb over whole columns, against rows that were worked out apart from this code: at a null, at both ends of a
-//! kind, at a negative, at 0 and of no item.
+//! Reads the rows of the tables, runs the verbs and compares.
 ghost use Rattle.std.specs.Prelude.{◌≡◌};
 ghost use Rattle.q_verbs.specs.Places.{is_by_place};
 ghost use Rattle.q_verbs.specs.Lists.{is_unary};
 ghost use Rattle.q_verbs.specs.Aggregates.{is_aggregate};
 
-use crate::verb::{Verb, Verb1};
-use crate::{
-    aggregate, binary, is_in, is_like, is_within, kinds_rows, one_side_rows, result_kind,
-    result_kind1, two_sides_rows, unary,
-};
+use crate::{kinds_rows, one_side_rows, two_sides_rows};
 use q_values::{Atom, Column, Kind, NoMemory, Sym, Symbols, Vector};
+use q_verbs::{
+    Verb, Verb1, aggregate, binary, is_in, is_like, is_within, result_kind, result_kind1, unary,
+};
 use std::alloc::Global;
 use std::test::Fail;
 
@@ -256,7 +254,7 @@ fn alike(alloc: Global, left: &Vector, pattern: &Vector) -> Result<Option<Vector
     }
 }
 
-// What the verb gives of the two columns; none where it doesn't take them.
+// The verb's result for the two columns; `None` where it doesn't take them.
 fn found_of_two(
     alloc: Global,
     verb: Verb,
@@ -271,7 +269,7 @@ fn found_of_two(
     }
 }
 
-// What the verb gives of no item at the left.
+// The verb's result without items at the left.
 fn found_of_no_left(
     alloc: Global,
     verb: Verb,
@@ -309,7 +307,7 @@ fn two_sides_give(
     Ok(is_wanted(none, &Vector::new(alloc, wanted.kind())))
 }
 
-// Whether the verb gives what the row says, and of no item none.
+// Whether the verb's result is that of the row, and without items is empty.
 fn row_holds(alloc: Global, verb: Verb, row: &str) -> Result<bool, Fail> {
     let (sides, result) = row.rsplit_once("; ").unwrap_or((row, ""));
     let (left, right) = sides.split_once("; ").unwrap_or((sides, ""));
@@ -327,7 +325,7 @@ fn vector_of_atom(alloc: Global, atom: Atom) -> Result<Vector, Fail> {
     Ok(items)
 }
 
-// What the verb gives of the column; none where it doesn't take it.
+// The verb's result for the column; `None` where it doesn't take it.
 fn found_of_one(alloc: Global, verb: Verb1, items: &Vector) -> Result<Option<Vector>, Fail> {
     if result_kind1(verb, items.kind()).is_none() {
         return Ok(None);
@@ -344,7 +342,7 @@ fn found_of_one(alloc: Global, verb: Verb1, items: &Vector) -> Result<Option<Vec
     Ok(None)
 }
 
-// Whether the verb gives a list and of no item none.
+// Whether the verb makes an atom, or of an empty column an empty one.
 fn none_is_none(alloc: Global, verb: Verb1, items: &Vector, wanted: &Vector) -> Result<bool, Fail> {
     if !gives_a_list(verb) {
         return Ok(true);
@@ -364,7 +362,7 @@ fn row_holds_of_one(alloc: Global, verb: Verb1, row: &str) -> Result<bool, Fail>
     none_is_none(alloc, verb, &items, &wanted)
 }
 
-// The first of the rows where the verb gives another result.
+/// The first of the rows where the verb has another result.
 pub(crate) fn first_wrong(
     alloc: Global,
     verb: Verb,
@@ -378,6 +376,7 @@ pub(crate) fn first_wrong(
     Ok(None)
 }
 
+/// The same for a verb with one side.
 pub(crate) fn first_wrong_of_one(
     alloc: Global,
     verb: Verb1,
@@ -406,7 +405,7 @@ fn each_row_of_the_verbs(rt: HostRuntime) -> Result<(), Fail> {
     Ok(())
 }
 
-// Whether the verb's results have the kinds of the line, where the left side has this kind.
+// Whether the kinds of the verb's results are those of the line, where the left side has this kind.
 fn line_holds(verb: Verb, left: Option<Kind>, line: &str) -> bool {
     let Some(left) = left else {
         return false;

@@ -3,7 +3,7 @@
 //! A row is the column and the result, each as the letter of its kind (KX, Datatypes reference) and its items: `0N` is the
 //! null, `0W` the greatest value of the kind, and a symbol has a backtick in front. One value is a column of one.
 
-use crate::verb::Verb1;
+use q_verbs::Verb1;
 
 // `not`
 const NOT: [&str; 5] = [

@@ -1,7 +1,7 @@
 //! Examples of the verbs, on columns of one (KX, Q for Mortals, 4).
 
 use crate::table_test::{first_wrong, first_wrong_of_one};
-use crate::verb::{Verb, Verb1};
+use q_verbs::{Verb, Verb1};
 use std::test::Fail;
 
 #[test]

@@ -2,9 +2,9 @@
 //!
 //! A row is the left column, the right column and the result, each as the letter of its kind (KX, Datatypes reference)
 //! and its items: `0N` is the null, `0W` the greatest value of the kind, and a symbol has a backtick in front. At the right
-//! of `within` stand the two ends, and at the right of `like` a text.
+//! of `within` are the two ends, and at the right of `like` a text.
 
-use crate::verb::Verb;
+use q_verbs::Verb;
 
 // `+`
 const SUMS: [&str; 34] = [

@@ -1,0 +1,28 @@
+//! Tests of `q_verbs`: each verb over whole columns, against rows that were worked out apart from its code.
+//!
+//! They are a crate of their own, since a crate with tests in it is proved twice.
+//!
+//! - `two_sides_rows` and `one_side_rows` have the rows of each verb: at a null, at both ends of a kind, at a negative
+//!   number, at 0 and without items. A row is text: the columns and the result, each as the letter of its kind and its
+//!   items.
+//! - `kinds_rows` has the kind of each verb's result for each pair of kinds.
+//! - `table_test` reads the rows, runs the verbs and compares.
+//! - `examples` has the published ones (KX, Q for Mortals, 4).
+//!
+//! ```text
+//! (Verb::Add, &["i 1 0N; i 2 2; i 3 0N"])      // 1 0N + 2 2 is 3 0N
+//! ```
+//!
+//! A new verb gets rows in these tables. What holds of all columns is proved, in `q_verbs`, and not tested.
+#![tactic(auto)]
+
+#[cfg(test)]
+mod examples;
+#[cfg(test)]
+mod kinds_rows;
+#[cfg(test)]
+mod one_side_rows;
+#[cfg(test)]
+mod table_test;
+#[cfg(test)]
+mod two_sides_rows;
