@@ -12,7 +12,7 @@ ghost use Rattle.q_verbs.specs.Tests.{lies_within};
 use crate::comparison::{booleans, order_of};
 use crate::number::Number;
 use crate::wide::Wide;
-use q_values::{Atom, Column, NoMemory, Symbols, Vector};
+use q_values::{Atom, Column, Element, NoMemory, Symbols, Vector};
 use std::alloc::{AllocError, Global};
 
 // An atom's number in 64 bits, the least one for the null.
@@ -20,18 +20,13 @@ fn number_of_atom(atom: &Atom) -> i64
     requires { kind_of atom.now ≢ k.Symbol }
     ensures { worth_in_64 result ≡ worth atom.now }
 {
-    match atom {
-        Atom::Boolean(x) => x.widened(),
-        Atom::Byte(x) | Atom::Character(x) => x.widened(),
-        Atom::Short(x) => x.widened(),
-        Atom::Integer(x)
-        | Atom::Month(x)
-        | Atom::Date(x)
-        | Atom::Minute(x)
-        | Atom::Second(x)
-        | Atom::Time(x) => x.widened(),
-        Atom::Long(x) | Atom::Timestamp(x) | Atom::Timespan(x) => x.widened(),
-        Atom::Symbol(_) => unreachable!(),
+    match atom.element() {
+        Element::Boolean(x) => x.widened(),
+        Element::Byte(_, x) => x.widened(),
+        Element::Short(x) => x.widened(),
+        Element::Integer(_, x) => x.widened(),
+        Element::Long(_, x) => x.widened(),
+        Element::Symbol(_) => unreachable!(),
     }
 }
 
