@@ -7,7 +7,7 @@
 //! ```text
 //! a link       a script of pieces, timeouts and faults; writes that fail
 //! a recorder   one with room, and one that is full
-//! a clock      the last reading repeated, and a clock that stands still
+//! a clock      the last reading repeated, and a clock that always reads one time
 //! an outside   the lines printed, and what was handed back
 //! ```
 //!
