@@ -12,7 +12,7 @@ use Rattle.plant_core.specs.Chronicle.{moment_date}
 use Rattle.plant_core.specs.Plant.{PlantView}
 use Rattle.q_values.specs.declared.limits.Limits.{Limits}
 use Rattle.q_values.specs.declared.turn.Turn.{Turn}
-use Rattle.session.specs.Run.{World}
+use Rattle.session.specs.Run.{world}
 use Rattle.session.specs.Session.{IsSession}
 use Rattle.session.specs.declared.end.End.{End}
 
@@ -25,12 +25,12 @@ steady_first m k all more a s =
 -- a session over a new plant, whose clock was read once before
 pub sits : (m : ℤ) (k : ℤ) (limits : Limits) (plant : PlantView) (l l' : LinkView) (first all more : List ℤ) (n n' : Option (List Turn)) (a a' : AccessView) (end : End)
     → IsNewPlant limits (moment_date m) plant → first ≡ m ∷ [] → a ≡ solo_of plant
-    → IsSession limits (record { link = l; clock = Some first; notes = n; access = a }) (record { link = l'; clock = Some all; notes = n'; access = a' }) end
+    → IsSession limits (world l (Some first) n a) (world l' (Some all) n' a') end
     → all ≡ first ++ more → All (λ r. r ≡ k) all
     → Sits limits m l l' n n' end
 sits m k limits plant l l' first all more n n' a a' end new y z session grows steady =
-    let s1 = subst (λ v. IsSession limits (record { link = l; clock = Some v; notes = n; access = a }) (record { link = l'; clock = Some all; notes = n'; access = a' }) end) y session
-    in let s2 = subst (λ v. IsSession limits (record { link = l; clock = Some (m ∷ []); notes = n; access = v }) (record { link = l'; clock = Some all; notes = n'; access = a' }) end) z s1
+    let s1 = subst (λ v. IsSession limits (world l (Some v) n a) (world l' (Some all) n' a') end) y session
+    in let s2 = subst (λ v. IsSession limits (world l (Some (m ∷ [])) n v) (world l' (Some all) n' a') end) z s1
     in record { plant = plant; new = new; access = a'; readings = all; steady = steady_first m k all more (subst (λ f. all ≡ f ++ more) y grows) steady; session = s2 }
 
 -- a plant that was begun with the built-in tables

@@ -1,3 +1,3 @@
 pub mod Program
 pub use Rattle.session.specs.Session
-pub use Rattle.plant_edge.specs.Words
+pub use Rattle.plant_edge.specs.Arguments

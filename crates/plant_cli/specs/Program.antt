@@ -1,11 +1,11 @@
--- What the program does of its words, over an outside.
+-- What the program does with its arguments, over an outside.
 use Rattle.std.specs.Prelude.{◌≡◌, ◌⊎◌, ◌+◌, ℕ, ℤ, true, List, [], ◌∷◌, ◌++◌, All, Option, Some, None, Ok, codes}
 use Rattle.std.specs.Fmt.{decimal}
 use Rattle.outside_api.specs.Counts.{counted}
 use Rattle.outside_api.specs.Link.{LinkView}
 use Rattle.outside_api.specs.Outside.{OutsideView, IsFresh, warned_of, handed_back}
 use Rattle.outside_api.specs.Told.{HasToldNothing}
-use Rattle.plant_edge.specs.Words.{asked}
+use Rattle.plant_edge.specs.Arguments.{asked}
 use Rattle.q_values.specs.Limits.{standard_limits}
 use Rattle.q_values.specs.declared.limits.Limits.{Limits}
 use Rattle.q_values.specs.declared.turn.Turn.{Turn}
@@ -13,14 +13,14 @@ use Rattle.plant_core.specs.Access.{AccessView}
 use Rattle.plant_core.specs.Chronicle.{moment_date, top_by}
 use Rattle.plant_core.specs.Plant.{PlantView}
 use Rattle.schema_text.specs.Reading.{schema_of}
-use Rattle.session.specs.Run.{World}
+use Rattle.session.specs.Run.{world}
 use Rattle.session.specs.Session.{IsSession}
 use Rattle.ipc_frame.specs.declared.bad.Bad.{Bad}
 use Rattle.ipc_frame.specs.declared.bad.Bad.TheVariants as b
 use Rattle.session.specs.declared.end.End.{End}
 use Rattle.session.specs.declared.end.End.TheVariants.{Closed, Truncated, BadMessage, ReadFault, WriteFault, Idle, NoMemory}
 
--- the number that tells what is wrong with a message
+-- the number of the rule that a bad message breaks
 abbrev pub number_of : Bad → ℕ
 number_of b.Order = 1
 number_of b.Kind = 2
@@ -30,7 +30,7 @@ number_of b.TooLong = 5
 number_of b.Object = 6
 number_of b.Greeting = 7
 
--- the status of each end of a session
+-- the exit status of each end of a session
 abbrev pub status_of : End → ℕ
 status_of Closed = 0
 status_of Truncated = 2
@@ -40,10 +40,11 @@ status_of WriteFault = 4
 status_of Idle = 5
 status_of NoMemory = 7
 
+-- the line that reports a bad message, with a number and an offset
 abbrev pub bad_message : ℕ → ℕ → List ℕ
 bad_message number at = codes "plant: bad message " ++ decimal number ++ codes " at " ++ decimal at
 
--- its line on standard error
+-- the line of each end on standard error
 abbrev pub line_of : End → Option (List ℕ)
 line_of Closed = None
 line_of Truncated = Some (codes "plant: input ends within a message")
@@ -62,7 +63,7 @@ printed seen (Some line) = warned_of seen line
 abbrev pub TakesMemory : End → Type 0
 TakesMemory end = (code : Bad) × (at : ℕ) × (end ≡ BadMessage code at)
 
--- the program ends with the status and the line of the session's end, or, for want of memory for that line, as at such want
+-- the program ends with the status and the line of the session's end, or, out of memory for that line, as the end `NoMemory`
 abbrev pub Concludes : End → OutsideView → OutsideView → ℕ → Type 0
 Concludes end old new status =
     ((status ≡ status_of end) × (new ≡ printed old (line_of end)))
@@ -70,9 +71,11 @@ Concludes end old new status =
 
 -- the schema text that is built in
 abbrev pub built_in : List ℕ
-built_in = codes "trade:([]time:`timespan$();sym:`g#`symbol$();price:`long$();size:`long$())\nquote:([]time:`timespan$();sym:`g#`symbol$();bid:`long$();ask:`long$();bsize:`long$();asize:`long$())\n"
+built_in =
+    codes "trade:([]time:`timespan$();sym:`g#`symbol$();price:`long$();size:`long$())\n"
+    ++ codes "quote:([]time:`timespan$();sym:`g#`symbol$();bid:`long$();ask:`long$();bsize:`long$();asize:`long$())\n"
 
--- what a plant shows to the one pass that holds it, before that pass made anything
+-- what a plant shows to the one session that has it, before that session made anything
 abbrev pub solo_of : PlantView → AccessView
 solo_of plant = record { by = top_by plant.entries + 1; frame = plant.frame; alone = true; seen = plant.entries; mine = []; snapshots = 0; ticks = 0 }
 
@@ -83,16 +86,17 @@ pub record IsNewPlant (limits : Limits) (date : ℤ) (plant : PlantView) : Type 
   pub limits_are : plant.frame.limits ≡ limits
   pub empty : plant.entries ≡ []
 
--- a session over a new plant, open at the date of the clock's first reading, which all readings are, by its pass alone
-pub record Sits (limits : Limits) (moment : ℤ) (link_old link_new : LinkView) (notes_old notes_new : Option (List Turn)) (end : End) : Type 0 where
+-- a session over a new plant, which it alone uses and which is open at the date of the clock; all readings are one moment
+pub record Sits (limits : Limits) (moment : ℤ) (link_old link_new : LinkView)
+    (notes_old notes_new : Option (List Turn)) (end : End) : Type 0 where
   pub plant : PlantView
   pub new : IsNewPlant limits (moment_date moment) plant
   pub access : AccessView
   pub readings : List ℤ
   pub steady : All (λ reading. reading ≡ moment) readings
   pub session : IsSession limits
-      (record { link = link_old; clock = Some (moment ∷ []); notes = notes_old; access = solo_of plant })
-      (record { link = link_new; clock = Some readings; notes = notes_new; access = access })
+      (world link_old (Some (moment ∷ [])) notes_old (solo_of plant))
+      (world link_new (Some readings) notes_new access)
       end
 
 -- without memory for a plant nothing is read
@@ -111,17 +115,19 @@ pub record Serves (limits : Limits) (moment : ℤ) (old new : OutsideView) (stat
   pub session : Sits limits moment link_old link_new notes_old notes_new end ⊎ SitsNot link_old link_new notes_old notes_new end
   pub concluded : Concludes end (handed_back old (Some link_new) (Some notes_new)) new status
 
--- without that link the program can't start, and that count rose
+-- without that link the program can't start, and the count of such faults rose
 abbrev pub CannotStart : OutsideView → OutsideView → ℕ → Type 0
 CannotStart old new status = (status ≡ 6) × (new ≡ warned_of (record old { make_faults = counted old.make_faults 1 }) (codes "plant: cannot start"))
 
+-- the program can't start, or serves one session
 abbrev pub RunsOnce : Limits → ℤ → OutsideView → OutsideView → ℕ → Type 0
 RunsOnce limits moment old new status = CannotStart old new status ⊎ Serves limits moment old new status
 
--- what the program does where its words ask for a session with a clock at this moment, and where they don't
+-- what the program does where its arguments ask for a session with a clock at this moment, and where they don't
 abbrev pub RunsFor : Option ℤ → OutsideView → OutsideView → ℕ → Type 0
 RunsFor None old new status = (status ≡ 1) × (new ≡ warned_of old (codes "plant: usage"))
 RunsFor (Some moment) old new status = RunsOnce standard_limits moment old new status
 
+-- what the program does with these arguments
 abbrev pub Runs : List (List ℕ) → OutsideView → OutsideView → ℕ → Type 0
-Runs words old new status = RunsFor (asked words) old new status
+Runs arguments old new status = RunsFor (asked arguments) old new status

@@ -1,4 +1,4 @@
-//! What the program does.
+//! What the program does with its arguments.
 ghost use Rattle.std.specs.Prelude.{◌≡◌, ◌⊎◌, ◌≤ℤ◌, negsuc, pos, IfOk, map, string_bytes};
 ghost use Rattle.plant_cli.specs.Program.{Runs, RunsOnce, Sits, SitsNot, Concludes, IsNewPlant, number_of, bad_message};
 ghost use Rattle.plant_core.specs.Chronicle.{moment_date};
@@ -8,22 +8,21 @@ ghost use Rattle.q_values.specs.Limits.{AreLimits};
 use outside_api::{Clock, Gate, Link, Outside, Recorder};
 use plant_core::{Plant, Solo};
 use plant_edge::{SteadyClock, clock_of};
-use q_values::{Limits, NoMemory};
+use q_values::{Limits, NANOSECONDS_PER_DAY, NoMemory};
 use schema_text::{BUILT_IN, read_schema};
 use session::{Bad, End, serve_session};
-use std::alloc::{AllocError, Global};
+use std::alloc::Global;
 use std::sync::Wait;
 
-/// Nanoseconds of a day.
-const DAY: i64 = 86_400_000_000_000;
-
-/// Does all that the program does, and gives its status. The words are those behind the program's own name:
-/// `once --clock 2024.01.02Dhh:mm:ss.nnnnnnnnn` serves one session over standard input and output, with a plant that is
-/// open at the date of the clock. Each status but 0 comes with its line on standard error.
-pub fn run<O: Outside, R: Wait>(rt: &R, alloc: Global, words: &[String], outside: &mut O) -> u8
-    ensures { Runs (map string_bytes words.now) (O.seen outside.old) (O.seen outside.new) result }
+/// Does all that the program does, and gives its exit status.
+///
+/// The arguments are those after the program's own name: `once --clock 2024.01.02Dhh:mm:ss.nnnnnnnnn` serves one session
+/// over standard input and output, with a plant that is open at the date of the clock. With each status but 0 a line is
+/// printed on standard error.
+pub fn run<O: Outside, R: Wait>(rt: &R, alloc: Global, arguments: &[String], outside: &mut O) -> u8
+    ensures { Runs (map string_bytes arguments.now) (O.seen outside.old) (O.seen outside.new) result }
 {
-    match clock_of(words) {
+    match clock_of(arguments) {
         Some(moment) => once(rt, alloc, moment, &Limits::standard(), outside),
         None => {
             outside.warn(b"plant: usage");
@@ -32,7 +31,8 @@ pub fn run<O: Outside, R: Wait>(rt: &R, alloc: Global, words: &[String], outside
     }
 }
 
-/// Serves one session within these limits, and hands its link and its recorder back.
+/// Serves one session within these limits, its clock at `moment` (nanoseconds since 2000.01.01), hands its link and its
+/// recorder back, and gives the exit status.
 pub fn once<O: Outside, R: Wait>(
     rt: &R,
     alloc: Global,
@@ -54,7 +54,7 @@ pub fn once<O: Outside, R: Wait>(
     conclude(alloc, end, outside)
 }
 
-/// A session with a plant of its own, which is open at the date that the clock reads at first.
+/// Serves a session with a plant of its own, which is open at the date of the clock's first reading.
 fn sit<L: Link, G: Gate, N: Recorder, R: Wait>(
     rt: &R,
     alloc: Global,
@@ -108,10 +108,10 @@ fn open_date(moment: i64) -> i32
     ensures first { negsuc 106751 ≤ℤ result }
     ensures last { result ≤ℤ pos 106751 }
 {
-    moment.div_euclid(DAY) as i32
+    moment.div_euclid(NANOSECONDS_PER_DAY) as i32
 }
 
-/// Prints the line of the session's end, if it has one, and gives its status.
+/// Prints the line of the session's end, if it has one, and gives the exit status.
 pub fn conclude<O: Outside>(alloc: Global, end: End, outside: &mut O) -> u8
     ensures { Concludes end (O.seen outside.old) (O.seen outside.new) result }
 {
@@ -129,15 +129,15 @@ pub fn conclude<O: Outside>(alloc: Global, end: End, outside: &mut O) -> u8
     }
 }
 
-/// The number that tells what is wrong with a message.
+/// The number of the rule that a bad message breaks.
 fn number_of(code: Bad) -> u8
     ensures { result ≡ number_of code }
 {
     code as u8
 }
 
-/// The line that tells of a bad message.
-fn bad_message(alloc: Global, number: u8, at: u64) -> Result<String, AllocError>
+/// The line that reports a bad message: the number of the rule that it breaks, and the offset of its first byte.
+fn bad_message(alloc: Global, number: u8, at: u64) -> Result<String, NoMemory>
     ensures { IfOk result (λ line. string_bytes line ≡ bad_message number at) }
 {
     let mut line = String::from_str(alloc, "plant: bad message ")?;
@@ -147,7 +147,7 @@ fn bad_message(alloc: Global, number: u8, at: u64) -> Result<String, AllocError>
     Ok(line)
 }
 
-/// Prints a line, and gives the status that it goes with.
+/// Prints a line, and gives the exit status that it goes with.
 fn warned<O: Outside>(outside: &mut O, line: &[u8], status: u8) -> u8
     ensures seen { O.seen outside.new ≡ warned_of (O.seen outside.old) line.now }
     ensures status { result ≡ status }

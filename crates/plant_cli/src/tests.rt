@@ -1,3 +1,4 @@
+//! Whole runs of the program over devices in memory: its exit statuses and its lines on standard error.
 ghost use Rattle.std.specs.Prelude.{◌≤◌, IfOk, IfSome};
 ghost use Rattle.outside_api.specs.Outside.{IsFresh};
 ghost use Rattle.q_values.specs.Limits.{AreLimits};
@@ -14,12 +15,12 @@ const GREETING: &[u8] = b"u:p\x03\x00";
 
 const CLOCK: &str = "once --clock 2024.01.02D09:30:00.000000000";
 
-fn words_of(alloc: Global, text: &str) -> Result<Vec<String>, NoMemory> {
-    let mut words = Vec::new(alloc);
-    for word in text.split(' ') {
-        words.push(String::from_str(alloc, word)?)?;
+fn arguments_of(alloc: Global, text: &str) -> Result<Vec<String>, NoMemory> {
+    let mut arguments = Vec::new(alloc);
+    for argument in text.split(' ') {
+        arguments.push(String::from_str(alloc, argument)?)?;
     }
-    Ok(words)
+    Ok(arguments)
 }
 
 fn outside_of(alloc: Global, link: Option<MemLink>) -> Result<MemOutside, NoMemory>
@@ -36,7 +37,7 @@ fn is_line(outside: &MemOutside, wanted: Option<&[u8]>) -> bool {
     }
 }
 
-// Whether the program ends with this status and this line, or none.
+/// Whether the program ends with this exit status and this line, or without a line.
 fn ends<R: Wait>(
     rt: &R,
     alloc: Global,
@@ -47,22 +48,22 @@ fn ends<R: Wait>(
 ) -> Result<bool, NoMemory>
     requires { IfSome link (λ l. IsFresh l.shown) }
 {
-    let words = words_of(alloc, text)?;
+    let arguments = arguments_of(alloc, text)?;
     let mut outside = outside_of(alloc, link)?;
-    let ended = run(rt, alloc, &words, &mut outside);
+    let ended = run(rt, alloc, &arguments, &mut outside);
     Ok(ended == status && is_line(&outside, line))
 }
 
-// Whether the program hands the link and the recorder of its session back.
+/// Whether the program hands the link and the recorder of its session back.
 fn hands_back<R: Wait>(rt: &R, alloc: Global) -> Result<bool, NoMemory> {
-    let words = words_of(alloc, CLOCK)?;
-    let mut outside = outside_of(alloc, behind_greeting(alloc, b"")?)?;
-    let ended = run(rt, alloc, &words, &mut outside);
+    let arguments = arguments_of(alloc, CLOCK)?;
+    let mut outside = outside_of(alloc, after_greeting(alloc, b"")?)?;
+    let ended = run(rt, alloc, &arguments, &mut outside);
     Ok(ended == 0 && is_handed_back(&outside))
 }
 
-// Behind the greeting.
-fn behind_greeting(alloc: Global, bytes: &[u8]) -> Result<Option<MemLink>, NoMemory>
+/// A link that gives the handshake and then these bytes.
+fn after_greeting(alloc: Global, bytes: &[u8]) -> Result<Option<MemLink>, NoMemory>
     ensures { IfOk result (λ link. IfSome link (λ l. IsFresh l.shown)) }
 {
     let mut input = Vec::from_slice(alloc, GREETING)?;
@@ -70,15 +71,15 @@ fn behind_greeting(alloc: Global, bytes: &[u8]) -> Result<Option<MemLink>, NoMem
     Ok(Some(MemLink::from_bytes(alloc, &input)?))
 }
 
-// Whether the program, over a greeting and these bytes, ends so.
-fn ends_behind_greeting<R: Wait>(
+/// Whether the program, over the handshake and these bytes, ends with this exit status and this line.
+fn ends_after_greeting<R: Wait>(
     rt: &R,
     alloc: Global,
     bytes: &[u8],
     status: u8,
     line: Option<&[u8]>,
 ) -> Result<bool, NoMemory> {
-    let link = behind_greeting(alloc, bytes)?;
+    let link = after_greeting(alloc, bytes)?;
     ends(rt, alloc, CLOCK, link, status, line)
 }
 
@@ -104,7 +105,7 @@ fn statuses_of_streams(rt: HostRuntime) -> Result<(), Fail> {
         ),
     ];
     for (bytes, status, line) in rows {
-        assert!(rt; ends_behind_greeting(&rt, rt.alloc(), bytes, status, line)?);
+        assert!(rt; ends_after_greeting(&rt, rt.alloc(), bytes, status, line)?);
     }
     Ok(())
 }
@@ -115,7 +116,7 @@ fn link_and_recorder_are_handed_back(rt: HostRuntime) -> Result<(), Fail> {
     Ok(())
 }
 
-// Whether the link and the recorder of the session were handed back, the greeting answered and noted.
+/// Whether the link and the recorder of the session were handed back, the handshake answered and noted.
 fn is_handed_back(outside: &MemOutside) -> bool {
     match outside.backs() {
         Some([handed]) => match (&handed.link, &handed.recorder) {
@@ -132,7 +133,7 @@ fn has_greeted(turns: &[Turn]) -> bool {
     turns == [Turn::Greeted { capability: 3 }].as_slice()
 }
 
-// A link whose first read is this.
+/// A link whose first read gives this.
 fn reads(alloc: Global, piece: Piece) -> Result<Option<MemLink>, NoMemory>
     ensures { IfOk result (λ link. IfSome link (λ l. IsFresh l.shown)) }
 {
@@ -141,7 +142,7 @@ fn reads(alloc: Global, piece: Piece) -> Result<Option<MemLink>, NoMemory>
     Ok(Some(MemLink::script(alloc, pieces, Takings::new(alloc))))
 }
 
-// A link whose first write fails.
+/// A link whose first write fails.
 fn refuses_to_write(alloc: Global) -> Result<Option<MemLink>, NoMemory>
     ensures { IfOk result (λ link. IfSome link (λ l. IsFresh l.shown)) }
 {
@@ -172,7 +173,7 @@ fn statuses_of_faults(rt: HostRuntime) -> Result<(), Fail> {
 }
 
 fn asks_for_nothing<R: Wait>(rt: &R, alloc: Global, text: &str) -> Result<bool, NoMemory> {
-    let link = behind_greeting(alloc, b"")?;
+    let link = after_greeting(alloc, b"")?;
     ends(rt, alloc, text, link, 1, Some(b"plant: usage"))
 }
 
@@ -191,7 +192,7 @@ fn words_that_ask_for_nothing(rt: HostRuntime) -> Result<(), Fail> {
     Ok(())
 }
 
-// A link that idles three times.
+/// A link of which three reads time out.
 fn idles(alloc: Global) -> Result<Option<MemLink>, NoMemory>
     ensures { IfOk result (λ link. IfSome link (λ l. IsFresh l.shown)) }
 {
@@ -202,7 +203,7 @@ fn idles(alloc: Global) -> Result<Option<MemLink>, NoMemory>
     Ok(Some(MemLink::script(alloc, pieces, Takings::new(alloc))))
 }
 
-// The standard limits with so many idles.
+/// The standard limits, but the session ends at the nth read timeout.
 fn limits_of_idles(idle: u64) -> Limits
     requires { 1 ≤ idle }
     ensures { AreLimits result }
@@ -213,7 +214,7 @@ fn limits_of_idles(idle: u64) -> Limits
     }
 }
 
-// Whether the program ends so with so many idles before it gives up.
+/// Whether the program ends with this exit status where it gives up at the nth read timeout, and three reads time out.
 fn gives_up_after<R: Wait>(rt: &R, alloc: Global, idle: u64, status: u8) -> Result<bool, NoMemory>
     requires { 1 ≤ idle }
 {
@@ -235,7 +236,7 @@ fn idle_and_link_faults(rt: HostRuntime) -> Result<(), Fail> {
     Ok(())
 }
 
-// Whether a session's end has this status and this line, or none.
+/// Whether a session's end has this exit status and this line, or no line.
 fn has_status(alloc: Global, end: End, status: u8, line: Option<&[u8]>) -> Result<bool, NoMemory> {
     let mut outside = outside_of(alloc, None)?;
     let ended = conclude(alloc, end, &mut outside);
