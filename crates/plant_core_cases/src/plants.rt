@@ -70,8 +70,9 @@ fn trade(
     asked(alloc, b"trade", items)
 }
 
-// Logs a prepared update, after the roll where one is due.
+// Logs an update that the pass 1 has prepared, after the roll where one is due.
 fn log(alloc: Global, plant: &mut Plant, update: Prepared) -> Result<(), NoMemory>
+    requires own { update.by ≡ 1 }
     requires frame { update.frame ≡ plant.old.frame }
     requires same { update.entries ≡ plant.old.entries }
     requires room { update.rolls ≡ false → plant.old.room ≡ update.entry ∷ [] }
@@ -259,7 +260,14 @@ fn is_past(alloc: Global, plant: &mut Plant) -> Result<bool, NoMemory> {
 }
 
 fn is_kept_back(alloc: Global, plant: &mut Plant) -> Result<bool, NoMemory> {
-    let logged = logs_trade(alloc, plant, HALF_PAST_NINE, b"b", 10, NOW - NANOSECONDS_PER_DAY)?;
+    let logged = logs_trade(
+        alloc,
+        plant,
+        HALF_PAST_NINE,
+        b"b",
+        10,
+        NOW - NANOSECONDS_PER_DAY,
+    )?;
     let stays = plant.date() == DATE && plant.opened_at() == 0;
     Ok(logged && stays && plant.length() == 1 && plant.next_by() == 2)
 }
@@ -350,7 +358,14 @@ fn logs_four(alloc: Global, plant: &mut Plant) -> Result<bool, NoMemory> {
     let second = logs_trade(alloc, plant, HALF_PAST_NINE + MINUTE, b"a", 20, NOW)?;
     let third = logs_trade(alloc, plant, HALF_PAST_NINE + 2 * MINUTE, b"b", 11, NOW)?;
     let arrived = shows_symbols(alloc, plant, 0, &["b", "a", "b"])?;
-    let fourth = logs_trade(alloc, plant, HALF_PAST_NINE, b"c", 30, NOW + NANOSECONDS_PER_DAY)?;
+    let fourth = logs_trade(
+        alloc,
+        plant,
+        HALF_PAST_NINE,
+        b"c",
+        30,
+        NOW + NANOSECONDS_PER_DAY,
+    )?;
     Ok(first && second && third && arrived && fourth)
 }
 
