@@ -59,15 +59,9 @@ abbrev pub printed : OutsideView → Option (List ℕ) → OutsideView
 printed seen None = seen
 printed seen (Some line) = warned_of seen line
 
--- only the line of a bad message takes memory
-abbrev pub TakesMemory : End → Type 0
-TakesMemory end = (code : Bad) × (at : ℕ) × (end ≡ BadMessage code at)
-
--- the program ends with the status and the line of the session's end, or, out of memory for that line, as the end `NoMemory`
+-- the program ends with the status and the line of the session's end
 abbrev pub Concludes : End → OutsideView → OutsideView → ℕ → Type 0
-Concludes end old new status =
-    ((status ≡ status_of end) × (new ≡ printed old (line_of end)))
-    ⊎ (TakesMemory end × (status ≡ status_of NoMemory) × (new ≡ printed old (line_of NoMemory)))
+Concludes end old new status = (status ≡ status_of end) × (new ≡ printed old (line_of end))
 
 -- the schema text that is built in
 abbrev pub built_in : List ℕ

@@ -5,6 +5,8 @@ ghost use Rattle.plant_core.specs.Chronicle.{moment_date};
 ghost use Rattle.outside_api.specs.Outside.{warned_of};
 ghost use Rattle.q_values.specs.Limits.{AreLimits};
 
+use arrayvec::ArrayString;
+use itoa::Buffer;
 use outside_api::{Clock, Gate, Link, Outside, Recorder};
 use plant_core::{Plant, Solo};
 use plant_edge::{SteadyClock, clock_of};
@@ -51,7 +53,7 @@ pub fn once<O: Outside, R: Wait>(
     let mut turns = outside.recorder();
     let end = sit(rt, alloc, moment, limits, &mut link, &mut gate, &mut turns);
     outside.back(Some(link), Some(turns));
-    conclude(alloc, end, outside)
+    conclude(end, outside)
 }
 
 /// Serves a session with a plant of its own, which is open at the date of the clock's first reading.
@@ -111,17 +113,17 @@ fn open_date(moment: i64) -> i32
     moment.div_euclid(NANOSECONDS_PER_DAY) as i32
 }
 
-/// Prints the line of the session's end, if it has one, and gives the exit status.
-pub fn conclude<O: Outside>(alloc: Global, end: End, outside: &mut O) -> u8
+/// Prints the line of the session's end, if it has one, and gives the exit status. It takes no memory.
+pub fn conclude<O: Outside>(end: End, outside: &mut O) -> u8
     ensures { Concludes end (O.seen outside.old) (O.seen outside.new) result }
 {
     match end {
         End::Closed => 0,
         End::Truncated => warned(outside, b"plant: input ends within a message", 2),
-        End::BadMessage { code, at } => match bad_message(alloc, number_of(code), at) {
-            Ok(line) => warned(outside, line.as_bytes(), 3),
-            Err(_) => warned(outside, b"plant: wsfull", 7),
-        },
+        End::BadMessage { code, at } => {
+            let line = bad_message(number_of(code), at);
+            warned(outside, line.as_str().as_bytes(), 3)
+        }
         End::ReadFault => warned(outside, b"plant: link fault", 4),
         End::WriteFault => warned(outside, b"plant: link fault", 4),
         End::Idle => warned(outside, b"plant: idle", 5),
@@ -136,15 +138,17 @@ fn number_of(code: Bad) -> u8
     code as u8
 }
 
-/// The line that reports a bad message: the number of the rule that it breaks, and the offset of its first byte.
-fn bad_message(alloc: Global, number: u8, at: u64) -> Result<String, NoMemory>
-    ensures { IfOk result (λ line. string_bytes line ≡ bad_message number at) }
+/// The line that reports a bad message: the number of the rule that it breaks, and the offset of its first byte. Its words
+/// and two numbers have at most 46 bytes.
+fn bad_message(number: u8, at: u64) -> ArrayString<48>
+    ensures { result.bytes ≡ bad_message number at }
 {
-    let mut line = String::from_str(alloc, "plant: bad message ")?;
-    line.push_str(number.to_string(alloc)?.as_str())?;
-    line.push_str(" at ")?;
-    line.push_str(at.to_string(alloc)?.as_str())?;
-    Ok(line)
+    let mut line = ArrayString::<48>::new();
+    line.push_str("plant: bad message ");
+    line.push_str(Buffer::new().format(number));
+    line.push_str(" at ");
+    line.push_str(Buffer::new().format(at));
+    line
 }
 
 /// Prints a line, and gives the exit status that it goes with.

@@ -239,7 +239,7 @@ fn idle_and_link_faults(rt: HostRuntime) -> Result<(), Fail> {
 /// Whether a session's end has this exit status and this line, or no line.
 fn has_status(alloc: Global, end: End, status: u8, line: Option<&[u8]>) -> Result<bool, NoMemory> {
     let mut outside = outside_of(alloc, None)?;
-    let ended = conclude(alloc, end, &mut outside);
+    let ended = conclude(end, &mut outside);
     Ok(ended == status && is_line(&outside, line))
 }
 
