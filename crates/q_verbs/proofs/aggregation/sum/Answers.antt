@@ -11,7 +11,7 @@ use Rattle.q_verbs.proofs.aggregation.sum.Goals as goal
 pub returns : goal.returns
 returns c =
     let fits : FitsSigned w64 c.total_of.result = search rules in
-    let known : total_kind c.args.x.now.kind ≡ Some c.in-Some.kind = ap total_kind (sym c.kind.ensures) ∙ sym c.in-Some.ensures in
+    let known : total_kind c.args.x.now.kind ≡ Some c.in-Some.kind = ap total_kind (sym c.kind.ensures.value) ∙ sym c.in-Some.ensures in
     let sum = total (map number_of c.args.x.now.atoms) in
     c.total_atom.ensures
     ∙ ap (λ z. written c.in-Some.kind (Some z)) (to_z-of_z w64 c.total_of.result fits ∙ c.total_of.ensures ∙ ap (λ (v : Contents). int_wrap w64 (total (map number_of v.atoms))) c.column.ensures)

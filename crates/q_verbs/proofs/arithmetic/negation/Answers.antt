@@ -13,4 +13,4 @@ returns c =
     let same_items : c.as_slice-3.result.now ≡ c.as_slice.result.now = c.as_slice-3.ensures ∙ sym c.as_slice.ensures in
     let side : map worth_in_64 c.as_slice-3.result.now ≡ map worth c.args.x.now.atoms = ap (map worth_in_64) c.as_slice-3.ensures ∙ c.in_ok-wide.ensures ∙ ap (λ (v : Contents). map worth v.atoms) c.column.ensures in
     let zeros : c.in_ok-zeros.zeros.items ≡ replicate (length c.as_slice.result.now) (pos 0) = search rules in
-    c.of-2.ensures ∙ c.in_ok-column.ensures ∙ ap of_atoms (negated-given c.args.kind (length c.as_slice.result.now) c.as_slice-2.result.now c.as_slice-3.result.now c.args.x.now.atoms (c.as_slice-2.ensures.value ∙ zeros) (ap length same_items) side)
+    c.from_column.ensures ∙ c.in_ok-column.ensures ∙ ap of_atoms (negated-given c.args.kind (length c.as_slice.result.now) c.as_slice-2.result.now c.as_slice-3.result.now c.args.x.now.atoms (c.as_slice-2.ensures.value ∙ zeros) (ap length same_items) side)
