@@ -1,8 +1,8 @@
-//! Texts of a length.
+//! Texts of a given length.
 
 use std::alloc::{AllocError, Global};
 
-// A front, then a piece again and again, then a back, of so many bytes; blanks fill the rest.
+// A text of `length` bytes: the front, the piece as often as it fits, the back, and blanks.
 fn filled(
     alloc: Global,
     front: &[u8],
@@ -26,12 +26,12 @@ fn filled(
     Ok(text)
 }
 
-/// A query within blanks.
+/// A query with many blanks in it.
 pub fn blanks(alloc: Global, length: usize) -> Result<Vec<u8>, AllocError> {
     filled(alloc, b"select ", b" ", b" from t", length)
 }
 
-/// Tokens, far more than are allowed.
+/// A sum of many names, with far more tokens than are allowed.
 pub fn tokens(alloc: Global, length: usize) -> Result<Vec<u8>, AllocError> {
     filled(alloc, b"select a", b"+a", b" from t", length)
 }
@@ -46,12 +46,12 @@ pub fn symbols(alloc: Global, length: usize) -> Result<Vec<u8>, AllocError> {
     filled(alloc, b"exec ", b"`abcd", b" from t", length)
 }
 
-/// Signs behind symbol literals, each of which looks back.
+/// Signs after symbol literals, each of which has to look back.
 pub fn signs(alloc: Global, length: usize) -> Result<Vec<u8>, AllocError> {
     filled(alloc, b"exec ", b"`abcdefghij:-1", b" from t", length)
 }
 
-/// A sum of as many names as are allowed.
+/// A sum of names, with as many tokens as are allowed.
 pub fn sum(alloc: Global, verbs: usize) -> Result<Vec<u8>, AllocError> {
     filled(
         alloc,
@@ -62,7 +62,7 @@ pub fn sum(alloc: Global, verbs: usize) -> Result<Vec<u8>, AllocError> {
     )
 }
 
-/// As many columns as are allowed, whose names are compared.
+/// As many columns as are allowed, each with another name.
 pub fn columns(alloc: Global, columns: usize) -> Result<Vec<u8>, AllocError> {
     let mut text = Vec::from_slice(alloc, b"select a")?;
     for column in 0..columns {

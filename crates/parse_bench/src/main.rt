@@ -1,4 +1,20 @@
-//! Times `parse` over texts of a length, of twice and of four times the length, for `bench/parse.py`.
+//! A program that times `qsql_parse`; `bench/parse.py` runs it.
+//!
+//! Its one argument is a length in bytes. `made` makes texts of that length, of twice and of four times the length, each
+//! of which is hard for the reader in another way: blanks, far too many tokens, one long vector, signs that look back.
+//! Two more texts are at the limit on tokens. `timed` parses each text twenty times and prints a line: the name of the
+//! text, its length, the nanoseconds of the fastest round, and the answer.
+//!
+//! ```text
+//! $ parse_bench 16384
+//! blanks 16384 21000 request
+//! tokens 16384 310000 limit
+//! ...
+//! ```
+//!
+//! The numbers above are only an example. `bench/parse.py` prints the nanoseconds of each byte, which stay about the same
+//! for texts of different lengths as long as reading is linear. Without an argument the program prints nothing. It checks
+//! no answers: `qsql_parse_cases` has the tests.
 #![tactic(auto)]
 
 mod made;

@@ -1,11 +1,11 @@
-//! Nanoseconds of `parse`, the least of several rounds.
+//! The time that `parse` takes, in nanoseconds: the least of several rounds.
 
 use anyhow::Result;
 use qsql_parse::{ParseRefusal, parse};
 use std::rt::Clock;
 use std::time::Instant;
 
-/// How often each text is timed.
+/// The number of rounds for each text.
 const ROUNDS: u32 = 20;
 
 fn is_read(answer: &Result<qsql_parse::Request, ParseRefusal>) -> &'static str {
@@ -18,7 +18,7 @@ fn is_read(answer: &Result<qsql_parse::Request, ParseRefusal>) -> &'static str {
     }
 }
 
-/// Times the reading of a text, and prints its name, its length, the nanoseconds and what was answered.
+/// Parses a text several times, and prints its name, its length, the nanoseconds of the fastest round and the answer.
 pub fn report<R: Clock + Print + AllocGlobal>(rt: &R, name: &str, text: &[u8]) -> Result<()> {
     let mut least = u128::MAX;
     let mut answered = "";

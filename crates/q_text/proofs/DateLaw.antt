@@ -20,7 +20,7 @@ use Rattle.q_text.specs.declared.runs.Run.{Run}
 use Rattle.q_text.proofs.Followers.{followers-none}
 use Rattle.q_text.proofs.Openings.{word-digit}
 
--- ten bytes with dots behind the fourth and the seventh
+-- ten bytes with dots after the fourth and the sixth digit
 abbrev dotted : ℕ → ℕ → ℕ → ℕ → ℕ → ℕ → ℕ → ℕ → List ℕ
 dotted y₁ y₂ y₃ y₄ m₁ m₂ d₁ d₂ = y₁ ∷ y₂ ∷ y₃ ∷ y₄ ∷ 46 ∷ m₁ ∷ m₂ ∷ 46 ∷ d₁ ∷ d₂ ∷ []
 
@@ -38,7 +38,7 @@ form-date : (w : List ℕ) → is_date w ≡ true → form_of w ≡ Some (f.Item
 unfolding form_of calendar_form
 form-date w h = rw h refl
 
--- a word behind which nothing follows is a run by itself
+-- a word that nothing follows is a run by itself
 run-alone : (text : List ℕ) (end : ℕ) → next_form text end ≡ None → run_of (f.Item (nk.Integers ik.Date)) text end ≡ Some (record { kind = nk.Integers ik.Date; count = 1; end = end })
 unfolding run_of
 run-alone text end h = rw (followers-none (length text) (f.Item (nk.Integers ik.Date)) text end (rw h refl)) refl

@@ -4,7 +4,7 @@ use Rattle.q_text.specs.Runs.{followers, goes_on_with, next_form, next_end}
 use Rattle.q_text.specs.declared.forms.Form.{Form}
 use Rattle.q_text.specs.declared.runs.Extent.{Extent}
 
--- so many words more
+-- n words more
 abbrev pub counted : ℕ → Extent → Extent
 counted n more = record { count = n + more.count; end = more.end }
 

@@ -5,12 +5,12 @@ use Rattle.std.proofs.Math.Seq.{drop-cons}
 use Rattle.q_text.specs.Forms.{fits, is_front, is_timestamp}
 
 -- a word longer than the pattern
-pub is_front-short : (pattern word : List ℕ) (done place : ℕ) → length pattern ≤ done → place < length word → is_front (drop done pattern) (drop place word) ≡ false
-is_front-short pattern word done place short less = rw (drop_of_length-le pattern short, drop-cons word place 0 less) refl
+pub is_front-short : (pattern word : List ℕ) (done offset : ℕ) → length pattern ≤ done → offset < length word → is_front (drop done pattern) (drop offset word) ≡ false
+is_front-short pattern word done offset short less = rw (drop_of_length-le pattern short, drop-cons word offset 0 less) refl
 
 -- a byte for which the pattern's does not stand
-pub is_front-differs : (pattern word : List ℕ) (done place : ℕ) → done < length pattern → place < length word → fits (get_or pattern done 0) (get_or word place 0) ≡ false → is_front (drop done pattern) (drop place word) ≡ false
-is_front-differs pattern word done place long less differs = rw (drop-cons pattern done 0 long, drop-cons word place 0 less, differs) refl
+pub is_front-differs : (pattern word : List ℕ) (done offset : ℕ) → done < length pattern → offset < length word → fits (get_or pattern done 0) (get_or word offset 0) ≡ false → is_front (drop done pattern) (drop offset word) ≡ false
+is_front-differs pattern word done offset long less differs = rw (drop-cons pattern done 0 long, drop-cons word offset 0 less, differs) refl
 
 pub timestamp-none : (w : List ℕ) (t : Bool) → t ≡ is_front (codes "dddd.dd.ddDdd:dd:dd.ddddddddd") w → t ≡ false → t ≡ is_timestamp w
 unfolding is_timestamp

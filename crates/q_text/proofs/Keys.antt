@@ -1,4 +1,4 @@
--- The byte behind a word's leading digits, by which its form is known.
+-- The byte after a word's leading digits, by which its form is known.
 use Rattle.std.proofs.Common.{◌≡◌, ℕ, zero, suc, ◌+◌, ◌-◌, ◌<◌, ◌≤◌, ◌||◌, ◌&&◌, Bool, true, false, cond, List, [], ◌∷◌, ◌++◌, length, codes, take, drop, get_or, eqb, nat_le, refl, sym, ap, ◌∙◌, arith, ⊎_elim, subst}
 use Rattle.std.specs.Str.{bytes_eq}
 use Rattle.std.proofs.Math.Seq.{drop-cons, get_or-append_seam}
@@ -206,7 +206,7 @@ plain-key w h = ⊎_elim
         let is : key w ≡ 0 = get_or_past w (span c.Digit w) 0 (omega (arith, all)) in
         rw is refl
 
--- a letter behind a whole number
+-- a letter after a whole number
 pub lettered-key : (v : List ℕ) (letter : ℕ) → is_plain v ≡ true → number_key letter ≡ true → is_digit letter ≡ false → number_key (key (v ++ letter ∷ [])) ≡ true
 unfolding is_plain
 lettered-key v letter h known other = ⊎_elim

@@ -1,11 +1,11 @@
--- What is read at a place is what the forms have there.
+-- What is read at an offset is what the forms have there.
 use Rattle.std.proofs.Common.{◌≡◌, ℕ, ◌+◌, ◌<◌, ◌≤◌, ◌||◌, ◌&&◌, Bool, true, false, not, cond, List, length, get_or, eqb, Option, Some, None, refl, sym, ap₂, arith, subst, inl, inr, ⊎_elim, ℤ, Result, Ok, Err}
 use Rattle.std.proofs.lemmas.Bool.{eqb-true, eq-eqb, or_cases, and_parts, cases_lt}
 use Rattle.std.proofs.lemmas.Bool.Decides.{nat_tests}
 use Rattle.std.proofs.lemmas.List.{get_or_past}
 use Rattle.q_values.specs.Tree.{Tree, tree}
 use Rattle.q_values.specs.declared.value.Value.{Value}
-use Rattle.q_text.specs.Words.{is_digit, is_behind_operand, begins_word, word_at, word_end}
+use Rattle.q_text.specs.Words.{is_digit, follows_operand, begins_word, word_at, word_end}
 use Rattle.q_text.specs.Forms.{form_of}
 use Rattle.q_text.specs.Runs.{run_of}
 use Rattle.q_text.specs.Numbers.{numbers_from, vector_of, valued}
@@ -22,7 +22,7 @@ use Rattle.q_text.proofs.RunForms.{run-sound, run-complete, begins-within, word-
 use Rattle.q_text.proofs.SymbolForms.{symbols-sound, symbols-complete}
 use Rattle.q_text.proofs.QuotationForms.{quotation-sound, quotation-complete}
 
--- a byte that is none of those behind the end stands within
+-- an offset whose byte differs from 0 is within the text
 there : (text : List ℕ) (at b : ℕ) → get_or text at 0 ≡ b → 0 < b → at < length text
 there text at b is some = ⊎_elim
     (λ less. less)
@@ -111,7 +111,7 @@ number-byte b more h = ⊎_elim
 numbers-complete : (text : List ℕ) (at : ℕ) (found : Literal) → IsNumbers text at found → literal_at text at ≡ Some found
 unfolding literal_at starts_literal numbers_at
 numbers-complete text at found is =
-    let bytes : (eqb (get_or text at 0) 96 ≡ false) × (eqb (get_or text at 0) 34 ≡ false) = number-byte (get_or text at 0) (is_digit (get_or text (at + 1) 0) && not (is_behind_operand text at)) is.begins in
+    let bytes : (eqb (get_or text at 0) 96 ≡ false) × (eqb (get_or text at 0) 34 ≡ false) = number-byte (get_or text at 0) (is_digit (get_or text (at + 1) 0) && not (follows_operand text at)) is.begins in
     let starts : (is_digit (get_or text at 0) || (eqb (get_or text at 0) 96 || (eqb (get_or text at 0) 34 || begins_negative text at))) ≡ true = widen (is_digit (get_or text at 0)) (eqb (get_or text at 0) 96) (eqb (get_or text at 0) 34) (begins_negative text at) is.begins in
     let s : starts_literal text at ≡ true = starts in
     let word : begins_word text at ≡ true = starts-word text at s bytes.0 bytes.1 in
@@ -150,7 +150,7 @@ literals-forms text at found = (literal-sound text at found, back)
 -- so what is read are the forms
 pub reads-forms : (text : List ℕ) (at : ℕ) (result : Result (Value × ℕ) LiteralRefusal) → ReadsLiteral (literal_at text at) at result → ReadsForms text at result
 reads-forms text at (Ok read) h = literal-sound text at (record { value = tree read.0; end = read.1 }) h
-reads-forms text at (Err (r.BadLiteral place)) h = (h.0, λ found is. absurd (let some : literal_at text at ≡ Some found = (literals-forms text at found).1 is in let none : literal_at text at ≡ None = h.1 in cc))
+reads-forms text at (Err (r.BadLiteral offset)) h = (h.0, λ found is. absurd (let some : literal_at text at ≡ Some found = (literals-forms text at found).1 is in let none : literal_at text at ≡ None = h.1 in cc))
 reads-forms text at (Err r.NoMemory) h = tt
 
 pub none-there : (text : List ℕ) (at : ℕ) → starts_literal text at ≡ false → ReadsForms text at (Err (r.BadLiteral at))

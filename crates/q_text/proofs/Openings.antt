@@ -1,7 +1,7 @@
 -- What stands where a literal begins.
 use Rattle.std.proofs.Common.{◌≡◌, ℕ, ◌+◌, ◌<◌, ◌≤◌, ◌&&◌, ◌||◌, Bool, true, false, not, List, length, drop, get_or, eqb, refl, arith}
 use Rattle.std.proofs.Math.Seq.{drop-cons}
-use Rattle.q_text.specs.Words.{is_digit, is_letter, is_word, is_behind_operand, begins_word, span}
+use Rattle.q_text.specs.Words.{is_digit, is_letter, is_word, follows_operand, begins_word, span}
 use Rattle.q_text.specs.Literal.{starts_literal}
 use Rattle.q_text.specs.declared.words.Class.TheVariants as c
 
@@ -16,16 +16,16 @@ word-digit b h = go (is_letter b) h
 pub span-digit : (text : List ℕ) (at : ℕ) → at < length text → is_digit (get_or text at 0) ≡ true → 1 ≤ span c.Word (drop at text)
 span-digit text at less h = rw (drop-cons text at 0 less, word-digit (get_or text at 0) h) (omega arith)
 
-choose : (digit tick quote sign more behind : Bool) → (digit || (tick || (quote || (sign && (more && not behind))))) ≡ true → tick ≡ false → quote ≡ false → (digit || (sign && more)) ≡ true
-choose true tick quote sign more behind h t q = refl
-choose false true quote sign more behind h t q = absurd (cc)
-choose false false true sign more behind h t q = absurd (cc)
-choose false false false true true behind h t q = refl
-choose false false false true false behind h t q = absurd (cc)
-choose false false false false more behind h t q = absurd (cc)
+choose : (digit tick quote sign more operand : Bool) → (digit || (tick || (quote || (sign && (more && not operand))))) ≡ true → tick ≡ false → quote ≡ false → (digit || (sign && more)) ≡ true
+choose true tick quote sign more operand h t q = refl
+choose false true quote sign more operand h t q = absurd (cc)
+choose false false true sign more operand h t q = absurd (cc)
+choose false false false true true operand h t q = refl
+choose false false false true false operand h t q = absurd (cc)
+choose false false false false more operand h t q = absurd (cc)
 
 -- where a literal begins with neither a backtick nor a quote, a word begins
 pub starts-word : (text : List ℕ) (at : ℕ) → starts_literal text at ≡ true → eqb (get_or text at 0) 96 ≡ false → eqb (get_or text at 0) 34 ≡ false → begins_word text at ≡ true
 unfolding starts_literal
 starts-word text at h t q =
-    choose (is_digit (get_or text at 0)) (eqb (get_or text at 0) 96) (eqb (get_or text at 0) 34) (eqb (get_or text at 0) 45) (is_digit (get_or text (at + 1) 0)) (is_behind_operand text at) h t q
+    choose (is_digit (get_or text at 0)) (eqb (get_or text at 0) 96) (eqb (get_or text at 0) 34) (eqb (get_or text at 0) 45) (is_digit (get_or text (at + 1) 0)) (follows_operand text at) h t q

@@ -10,13 +10,13 @@ use Rattle.q_text.specs.Numbers.{valued}
 use Rattle.q_text.specs.Literal.{Literal, characters, characters_at}
 use Rattle.q_text.specs.Grammar.{IsCharacter, AreCharacters, IsQuotation}
 
--- characters up to the closing quote, of so many bytes with it
+-- characters up to the closing quote, of n bytes with it
 pub record Closed (bs characters : List ℕ) (n : ℕ) : Type 0 where
   pub rest : List ℕ
   pub spelled : AreCharacters characters bs rest
   pub len : n + length rest ≡ length bs
 
--- the same, behind a backslash
+-- the same, after a backslash
 pub record Escaped (bs characters : List ℕ) (n : ℕ) : Type 0 where
   pub letter : ℕ
   pub character : ℕ
@@ -72,14 +72,14 @@ read-slash b bs slash (Some found) r =
     }
 
 read-byte : (b : ℕ) (bs : List ℕ) → Read true bs (quoted true bs) → Read false bs (quoted false bs) → Read false (b ∷ bs) (quoted false (b ∷ bs))
-read-byte b bs behind_slash plain = go (eqb b 34) refl (eqb b 92) refl
+read-byte b bs after_slash plain = go (eqb b 34) refl (eqb b 92) refl
   where
     closed : eqb b 34 ≡ true → Closed (b ∷ bs) [] 1
     closed h = record { rest = bs; spelled = ap (λ x. x ∷ bs) (eqb-true b 34 h); len = omega arith }
 
     go : (t : Bool) → eqb b 34 ≡ t → (s : Bool) → eqb b 92 ≡ s → Read false (b ∷ bs) (cond t (Some ([], 1)) (cond s (before [] 1 (quoted true bs)) (before (b ∷ []) 1 (quoted false bs))))
     go true h s e = closed h
-    go false h true e = read-slash b bs e (quoted true bs) behind_slash
+    go false h true e = read-slash b bs e (quoted true bs) after_slash
     go false h false e = read-plain b bs h e (quoted false bs) plain
 
 read-quoted : (t : Bool) (bs : List ℕ) → Read t bs (quoted t bs)

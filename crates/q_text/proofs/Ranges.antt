@@ -27,7 +27,7 @@ size-signed false n = refl
 size-signed true zero = refl
 size-signed true (suc n) = refl
 
--- a whole number may be cut where it is beyond every kind
+-- a whole number may be capped where it is beyond every kind
 pub whole-cut : (kind : NumberKind) (negative : Bool) (n : ℕ) → in_range kind (signed negative (min n (2 ^ 64 - 1))) ≡ in_range kind (signed negative n)
 whole-cut kind negative n = ⊎_elim
     (λ less. let e : min n (2 ^ 64 - 1) ≡ 2 ^ 64 - 1 = omega arith in
@@ -45,7 +45,7 @@ days-cut n r = ⊎_elim
     (λ most. let e : min n (2 ^ 64 - 1) ≡ n = omega arith in rw e refl)
     (cases_lt (2 ^ 64 - 1) n)
 
--- a whole number is read where its size is cut
+-- a whole number is read where its size is capped
 pub whole-read : (kind : NumberKind) (w : List ℕ) (size : ℕ) (number : ℤ) (found : Option ℤ)
     → is_null w ≡ false → size ≡ min (size_of_whole kind w) (2 ^ 64 - 1) → number ≡ signed (eqb (get_or w 0 0) 45) size → found ≡ in_range kind number → found ≡ whole_number kind w
 unfolding whole_number

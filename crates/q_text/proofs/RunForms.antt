@@ -4,9 +4,9 @@ use Rattle.std.proofs.Math.Numerals.{add-one}
 use Rattle.std.proofs.lemmas.Bool.{and_parts, ltb-true, cases_order, cases_lt}
 use Rattle.std.proofs.lemmas.List.{get_or_past}
 use Rattle.q_values.specs.declared.kind.LongKind.TheVariants as lk
-use Rattle.q_text.specs.Words.{is_digit, behind, begins_word, word_end, word_at}
+use Rattle.q_text.specs.Words.{is_digit, span_end, begins_word, word_end, word_at}
 use Rattle.q_text.specs.Forms.{form_of}
-use Rattle.q_text.specs.Runs.{followers, goes_on_with, next_form, next_place, next_end, is_whole, suffixed_run, whole_run, plain_run, run_of}
+use Rattle.q_text.specs.Runs.{followers, goes_on_with, next_form, next_start, next_end, is_whole, suffixed_run, whole_run, plain_run, run_of}
 use Rattle.q_text.specs.Grammar.{end_after, following, IsLongest, IsLast, IsUniform, IsWholeRun, IsRun}
 use Rattle.q_text.specs.declared.kinds.NumberKind.{NumberKind}
 use Rattle.q_text.specs.declared.kinds.NumberKind.TheVariants as nk
@@ -16,17 +16,17 @@ use Rattle.q_text.specs.declared.forms.Form.TheVariants as f
 use Rattle.q_text.specs.declared.runs.Extent.{Extent}
 use Rattle.q_text.specs.declared.runs.Run.{Run}
 use Rattle.q_text.proofs.Openings.{span-digit}
-use Rattle.q_text.proofs.Spans.{behind-le}
+use Rattle.q_text.proofs.Spans.{span_end-le}
 
 nothing : (b : ℕ) (more : Bool) → b ≡ 0 → (is_digit b || (eqb b 45 && more)) ≡ false
 nothing b more h = rw h refl
 
 -- a word begins within the text
-pub begins-within : (text : List ℕ) (place : ℕ) → begins_word text place ≡ true → place < length text
-begins-within text place h = ⊎_elim
+pub begins-within : (text : List ℕ) (offset : ℕ) → begins_word text offset ≡ true → offset < length text
+begins-within text offset h = ⊎_elim
     (λ less. less)
-    (λ past. absurd (let no : begins_word text place ≡ false = nothing (get_or text place 0) (is_digit (get_or text (place + 1) 0)) (get_or_past text place 0 past) in cc))
-    (cases_lt place (length text))
+    (λ past. absurd (let no : begins_word text offset ≡ false = nothing (get_or text offset 0) (is_digit (get_or text (offset + 1) 0)) (get_or_past text offset 0 past) in cc))
+    (cases_lt offset (length text))
 
 digit-there : (digit sign more : Bool) → (digit || (sign && more)) ≡ true → sign ≡ false → digit ≡ true
 digit-there true sign more h s = refl
@@ -34,39 +34,39 @@ digit-there false true more h s = absurd (cc)
 digit-there false false more h s = absurd (cc)
 
 -- and has a byte at least
-pub word-more : (text : List ℕ) (place : ℕ) → begins_word text place ≡ true → place < word_end text place
-word-more text place h = go (eqb (get_or text place 0) 45) refl
+pub word-more : (text : List ℕ) (offset : ℕ) → begins_word text offset ≡ true → offset < word_end text offset
+word-more text offset h = go (eqb (get_or text offset 0) 45) refl
   where
-    go : (t : Bool) → eqb (get_or text place 0) 45 ≡ t → place < cond t (behind c.Word text (place + 1)) (behind c.Word text place)
+    go : (t : Bool) → eqb (get_or text offset 0) 45 ≡ t → offset < cond t (span_end c.Word text (offset + 1)) (span_end c.Word text offset)
     go true e = omega arith
-    go false e = let digit : is_digit (get_or text place 0) ≡ true = digit-there (is_digit (get_or text place 0)) (eqb (get_or text place 0) 45) (is_digit (get_or text (place + 1) 0)) h e in
-        omega (arith, span-digit text place (begins-within text place h) digit)
+    go false e = let digit : is_digit (get_or text offset 0) ≡ true = digit-there (is_digit (get_or text offset 0)) (eqb (get_or text offset 0) 45) (is_digit (get_or text (offset + 1) 0)) h e in
+        omega (arith, span-digit text offset (begins-within text offset h) digit)
 
-pub word-within : (text : List ℕ) (place : ℕ) → place < length text → word_end text place ≤ length text
-word-within text place less = go (eqb (get_or text place 0) 45)
+pub word-within : (text : List ℕ) (offset : ℕ) → offset < length text → word_end text offset ≤ length text
+word-within text offset less = go (eqb (get_or text offset 0) 45)
   where
-    go : (t : Bool) → cond t (behind c.Word text (place + 1)) (behind c.Word text place) ≤ length text
-    go true = behind-le c.Word text (place + 1) (omega arith)
-    go false = behind-le c.Word text place (omega arith)
+    go : (t : Bool) → cond t (span_end c.Word text (offset + 1)) (span_end c.Word text offset) ≤ length text
+    go true = span_end-le c.Word text (offset + 1) (omega arith)
+    go false = span_end-le c.Word text offset (omega arith)
 
--- where a run goes on, a word stands behind blanks
-next-found : (form : Form) (text : List ℕ) (end : ℕ) → goes_on_with form (next_form text end) ≡ true → (end < next_place text end) × (begins_word text (next_place text end) ≡ true)
+-- where a run goes on, a word follows blanks
+next-found : (form : Form) (text : List ℕ) (end : ℕ) → goes_on_with form (next_form text end) ≡ true → (end < next_start text end) × (begins_word text (next_start text end) ≡ true)
 unfolding next_form
-next-found form text end h = go (nat_lt end (next_place text end) && begins_word text (next_place text end)) refl h
+next-found form text end h = go (nat_lt end (next_start text end) && begins_word text (next_start text end)) refl h
   where
-    go : (t : Bool) → (nat_lt end (next_place text end) && begins_word text (next_place text end)) ≡ t → goes_on_with form (cond t (form_of (word_at text (next_place text end))) None) ≡ true
-        → (end < next_place text end) × (begins_word text (next_place text end) ≡ true)
-    go true e h = let parts : (nat_lt end (next_place text end) ≡ true) × (begins_word text (next_place text end) ≡ true) = and_parts (nat_lt end (next_place text end)) (begins_word text (next_place text end)) e in
-        (ltb-true end (next_place text end) parts.0, parts.1)
+    go : (t : Bool) → (nat_lt end (next_start text end) && begins_word text (next_start text end)) ≡ t → goes_on_with form (cond t (form_of (word_at text (next_start text end))) None) ≡ true
+        → (end < next_start text end) × (begins_word text (next_start text end) ≡ true)
+    go true e h = let parts : (nat_lt end (next_start text end) ≡ true) × (begins_word text (next_start text end) ≡ true) = and_parts (nat_lt end (next_start text end)) (begins_word text (next_start text end)) e in
+        (ltb-true end (next_start text end) parts.0, parts.1)
     go false e h = absurd (cc)
 
 next-more : (form : Form) (text : List ℕ) (end : ℕ) → goes_on_with form (next_form text end) ≡ true → (end + 2 ≤ next_end text end) × (next_end text end ≤ length text)
 next-more form text end h =
-    let (behind_blank, begins) = next-found form text end h in
-    let less : next_place text end < length text = begins-within text (next_place text end) begins in
-    (omega (arith, word-more text (next_place text end) begins, behind_blank), word-within text (next_place text end) less)
+    let (after_blank, begins) = next-found form text end h in
+    let less : next_start text end < length text = begins-within text (next_start text end) begins in
+    (omega (arith, word-more text (next_start text end) begins, after_blank), word-within text (next_start text end) less)
 
--- so many words, counted with a bound
+-- n words, counted with a bound
 record Counted (left : ℕ) (form : Form) (text : List ℕ) (end : ℕ) : Type 0 where
   n : ℕ
   is : followers left form text end ≡ record { count = n; end = end_after text end n }
@@ -136,7 +136,7 @@ longest-unique form text end n m a b = ⊎_elim
     other)
     (cases_order n m)
 
--- the word behind so many
+-- the word after n others
 end_after-next : (text : List ℕ) (end n : ℕ) → end_after text end (suc n) ≡ next_end text (end_after text end n)
 end_after-next text end zero = refl
 end_after-next text end (suc n) = end_after-next text (next_end text end) n

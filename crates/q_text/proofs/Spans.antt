@@ -1,7 +1,7 @@
 -- Bytes of one class at the front of others.
 use Rattle.std.proofs.Common.{◌≡◌, ℕ, suc, ◌≤◌, Bool, true, false, cond, List, [], ◌∷◌, ◌++◌, length, take, drop, get_or, refl, arith}
 use Rattle.std.proofs.lemmas.List.{length-drop}
-use Rattle.q_text.specs.Words.{span, is_of, behind}
+use Rattle.q_text.specs.Words.{span, is_of, span_end}
 use Rattle.q_text.specs.Grammar.{AllOf}
 use Rattle.q_text.specs.declared.words.Class.{Class}
 
@@ -14,7 +14,7 @@ all-taken class (b ∷ bs) = go (is_of class b) refl (all-taken class bs)
     go false h more = tt
     go true h more = (h, more)
 
--- and what stands behind them is not
+-- and the byte after them is not
 pub span-stops : (class : Class) (bs : List ℕ) → is_of class 0 ≡ false → is_of class (get_or (drop (span class bs) bs) 0 0) ≡ false
 span-stops class [] none = none
 span-stops class (b ∷ bs) none = go (is_of class b) refl (span-stops class bs none)
@@ -23,7 +23,7 @@ span-stops class (b ∷ bs) none = go (is_of class b) refl (span-stops class bs 
     go false h more = h
     go true h more = more
 
--- bytes of the class, with another behind them
+-- bytes of the class, followed by another
 pub span-all : (class : Class) (bs rest : List ℕ) → AllOf class bs → is_of class (get_or rest 0 0) ≡ false → span class (bs ++ rest) ≡ length bs
 span-all class [] [] h k = refl
 span-all class [] (r ∷ rest) h k = rw k refl
@@ -37,8 +37,8 @@ span-le class (b ∷ bs) = go (is_of class b) (span-le class bs)
     go false h = omega arith
     go true h = omega (arith, h)
 
-pub behind-le : (class : Class) (text : List ℕ) (at : ℕ) → at ≤ length text → behind class text at ≤ length text
-behind-le class text at within = omega (arith, span-le class (drop at text), length-drop at text)
+pub span_end-le : (class : Class) (text : List ℕ) (at : ℕ) → at ≤ length text → span_end class text at ≤ length text
+span_end-le class text at within = omega (arith, span-le class (drop at text), length-drop at text)
 
 pub all-append : (class : Class) (xs ys : List ℕ) → AllOf class xs → AllOf class ys → AllOf class (xs ++ ys)
 all-append class [] ys h k = k

@@ -7,7 +7,7 @@ use Rattle.std.proofs.lemmas.Int.{fits_signed_from_abs}
 use Rattle.std.proofs.lemmas.List.Elements.{All-from_recursion}
 use Rattle.q_text.specs.Words.{word_at, word_end}
 use Rattle.q_text.specs.Forms.{is_null}
-use Rattle.q_text.specs.Runs.{next_place}
+use Rattle.q_text.specs.Runs.{next_start}
 use Rattle.q_text.specs.Numbers.{greatest, null_of, in_range, whole_number, ranged, temporal, one, items_of, numbers_as, numbers_from, joined, signed, size_of_whole, bits_of, bytes_of}
 use Rattle.q_text.specs.Stored.{IsStored}
 use Rattle.q_text.specs.declared.forms.Form.{Form}
@@ -97,7 +97,7 @@ stored-numbers_from : (count : ℕ) (form : Form) (kind : NumberKind) (text : Li
 unfolding numbers_from
 stored-numbers_from zero form kind text at = tt
 stored-numbers_from (suc n) form kind text at =
-    stored-joined kind (numbers_as form kind (word_at text at)) (numbers_from n form kind text (next_place text (word_end text at))) (stored-numbers_as form kind (word_at text at)) (stored-numbers_from n form kind text (next_place text (word_end text at)))
+    stored-joined kind (numbers_as form kind (word_at text at)) (numbers_from n form kind text (next_start text (word_end text at))) (stored-numbers_as form kind (word_at text at)) (stored-numbers_from n form kind text (next_start text (word_end text at)))
 
 -- so storage holds them
 pub stored : (count : ℕ) (form : Form) (kind : NumberKind) (text : List ℕ) (at : ℕ) (zs : List ℤ) → numbers_from count form kind text at ≡ Some zs → All (IsStored kind) zs

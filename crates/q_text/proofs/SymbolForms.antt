@@ -7,7 +7,7 @@ use Rattle.std.proofs.Math.Seq.{drop-cons, take-append_seam}
 use Rattle.q_values.specs.Tree.{Tree}
 use Rattle.q_values.specs.declared.atom.Atom.TheVariants as a
 use Rattle.q_values.specs.declared.kind.Kind.TheVariants as k
-use Rattle.q_text.specs.Words.{span, is_symbol, is_of, behind}
+use Rattle.q_text.specs.Words.{span, is_symbol, is_of, span_end}
 use Rattle.q_text.specs.Symbols.{names}
 use Rattle.q_text.specs.Numbers.{valued}
 use Rattle.q_text.specs.Literal.{Literal, symbols_at}
@@ -38,9 +38,9 @@ each-name (b ∷ bs) = go (eqb b 96) (is_symbol b) (each-name bs)
     go false false more = tt
 
 -- a name is passed over
-names-behind : (name rest : List ℕ) → AllOf c.Symbol name → names (name ++ rest) ≡ names rest
-names-behind [] rest h = refl
-names-behind (b ∷ bs) rest h = rw (not-tick b h.0, h.0) (names-behind bs rest h.1)
+names-append : (name rest : List ℕ) → AllOf c.Symbol name → names (name ++ rest) ≡ names rest
+names-append [] rest h = refl
+names-append (b ∷ bs) rest h = rw (not-tick b h.0, h.0) (names-append bs rest h.1)
 
 names-none : (rest : List ℕ) → is_of c.Symbols (get_or rest 0 0) ≡ false → names rest ≡ []
 names-none [] h = refl
@@ -56,7 +56,7 @@ names-ticked [] rest h k = names-none rest k
 names-ticked (n ∷ ns) rest h k =
     let flat : (n ++ ticked ns) ++ rest ≡ n ++ (ticked ns ++ rest) = append_assoc n (ticked ns) rest in
     let len : span c.Symbol (n ++ (ticked ns ++ rest)) ≡ length n = span-all c.Symbol n (ticked ns ++ rest) h.0 (stops-name ns rest k) in
-    rw (flat, len, take-append_seam n (ticked ns ++ rest), names-behind n (ticked ns ++ rest) h.0, names-ticked ns rest h.1 k) refl
+    rw (flat, len, take-append_seam n (ticked ns ++ rest), names-append n (ticked ns ++ rest) h.0, names-ticked ns rest h.1 k) refl
 
 as_symbols : (bs : List ℕ) → AllOf c.Symbol bs → AllOf c.Symbols bs
 as_symbols [] h = tt
@@ -70,7 +70,7 @@ all-ticked : (ns : List (List ℕ)) → AllByRecursion (AllOf c.Symbol) ns → A
 all-ticked [] h = tt
 all-ticked (n ∷ ns) h = (refl, all-append c.Symbols n (ticked ns) (as_symbols n h.0) (all-ticked ns h.1))
 
--- the length of the symbols behind the first backtick
+-- the length of the symbols after the first backtick
 tick-length : (text : List ℕ) (at : ℕ) → at < length text → get_or text at 0 ≡ 96 → span c.Symbols (drop at text) ≡ suc (span c.Symbols (drop (suc at) text))
 tick-length text at less tick = rw (drop-cons text at 0 less, tick) refl
 
@@ -104,7 +104,7 @@ symbols-complete text at found less is =
     let same : names (drop at text) ≡ is.names = ap (λ l. names l) is.source ∙ names-ticked is.names is.rest is.each is.stops in
     let len : span c.Symbols (drop at text) ≡ length (ticked is.names) = ap (λ l. span c.Symbols l) is.source ∙ span-all c.Symbols (ticked is.names) is.rest (all-ticked is.names is.each) is.stops in
     let one : at + 1 ≡ suc at = omega arith in
-    let ends : behind c.Symbols text (at + 1) ≡ found.end = rw one (omega (arith, len, tick-length text at less is.begins, is.ends)) in
+    let ends : span_end c.Symbols text (at + 1) ≡ found.end = rw one (omega (arith, len, tick-length text at less is.begins, is.ends)) in
     let value : valued (record { kind = k.Symbol; atoms = map (λ name. a.Symbol name) (names (drop at text)) }) ≡ found.value = rw same (sym is.value) in
     literal-is found _ _ value ends
   where

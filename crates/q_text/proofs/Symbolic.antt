@@ -1,4 +1,4 @@
--- The byte before a place, as part of a symbol literal.
+-- The byte before an offset, as part of a symbol literal.
 use Rattle.std.proofs.Common.{◌≡◌, ℕ, zero, suc, ◌-◌, ◌<◌, ◌≤◌, ◌||◌, ◌&&◌, Bool, true, false, List, [], ◌∷◌, length, take, refl, subst, arith, eqb, get_or}
 use Rattle.std.proofs.lemmas.Bool.{eqb-true}
 use Rattle.q_text.specs.Words.{in_symbol, is_symbol}
@@ -18,8 +18,8 @@ not-tick b h = go (eqb b 96) refl
     go true e = let P : ℕ → Type 0 = λ n. is_symbol n ≡ true in absurd (let no : is_symbol 96 ≡ true = subst P (eqb-true b 96 e) h in cc)
 
 -- a byte that a symbol takes goes on with what stands before it
-pub in_symbol-back : (text : List ℕ) (place : ℕ) → 0 < place → place ≤ length text → is_symbol (get_or text (place - 1) 0) ≡ true
-    → in_symbol false (take (place - 1) text) ≡ in_symbol false (take place text)
+pub in_symbol-back : (text : List ℕ) (offset : ℕ) → 0 < offset → offset ≤ length text → is_symbol (get_or text (offset - 1) 0) ≡ true
+    → in_symbol false (take (offset - 1) text) ≡ in_symbol false (take offset text)
 in_symbol-back text zero some within h = absurd (omega arith)
 in_symbol-back text (suc k) some within h =
     let e : suc k - 1 ≡ k = omega arith in
@@ -31,8 +31,8 @@ in_symbol-back text (suc k) some within h =
     go false = refl
 
 -- any other byte is of a symbol where it is the backtick
-pub in_symbol-stop : (text : List ℕ) (place : ℕ) → 0 < place → place ≤ length text → is_symbol (get_or text (place - 1) 0) ≡ false
-    → eqb (get_or text (place - 1) 0) 96 ≡ in_symbol false (take place text)
+pub in_symbol-stop : (text : List ℕ) (offset : ℕ) → 0 < offset → offset ≤ length text → is_symbol (get_or text (offset - 1) 0) ≡ false
+    → eqb (get_or text (offset - 1) 0) 96 ≡ in_symbol false (take offset text)
 in_symbol-stop text zero some within h = absurd (omega arith)
 in_symbol-stop text (suc k) some within h =
     let e : suc k - 1 ≡ k = omega arith in

@@ -1,4 +1,4 @@
--- Dates in writing.
+-- Dates as text.
 use Rattle.std.specs.Prelude.{◌≡◌, ◌+◌, ◌/◌, ◌%◌, ℕ, List, [], ◌∷◌, ◌++◌, ℤ, pos, negsuc, ◌+ℤ◌, ◌≤ℤ◌, ◌≤◌}
 use Rattle.jiff_core.specs.Calendar.{IsCivilDate, days_from_civil}
 
@@ -13,7 +13,7 @@ two_digits n = written_digit (n / 10) ∷ written_digit n ∷ []
 abbrev pub date_text : ℕ → ℕ → ℕ → List ℕ
 date_text year month day = two_digits (year / 100) ++ (two_digits year ++ (46 ∷ two_digits month ++ (46 ∷ two_digits day)))
 
--- the year, month and day, in the civil calendar, of the day so many days behind 2000.01.01, which is day 10957 of that calendar
+-- the year, month and day, in the civil calendar, of a number of days since 2000.01.01, which is 10957 days after 1970.01.01
 pub record IsDay (date : ℤ) (year month day : ℕ) : Type 0 where
   pub civil : IsCivilDate (pos year) month day
   pub positive : 1 ≤ year
@@ -27,10 +27,10 @@ pub record SpellsDate (date : ℤ) (text : List ℕ) : Type 0 where
   pub is_day : IsDay date year month day
   pub text_is : text ≡ date_text year month day
 
--- the dates of which a day has a timestamp
+-- the dates whose whole day is in the range of timestamps
 abbrev pub IsPlantDate : ℤ → Type 0
 IsPlantDate date = (negsuc 106751 ≤ℤ date) × (date ≤ℤ pos 106751)
 
--- the new bytes are the old ones with the date behind them
+-- the new bytes are the old ones followed by the date
 abbrev pub AppendsDate : List ℕ → List ℕ → ℤ → Type 0
 AppendsDate old new date = (text : List ℕ) × ((new ≡ old ++ text) × SpellsDate date text)

@@ -1,5 +1,6 @@
--- The forms of the words that spell numbers, dates and times (Q for Mortals, 2; KX, Datatypes reference).
-use Rattle.std.specs.Prelude.{ℕ, ◌+◌, ◌-◌, ◌*◌, ◌%◌, ◌==◌, ◌||◌, ◌&&◌, Bool, true, false, nat_le, if◌then◌else◌, List, [], ◌∷◌, length, take, drop, slice_index, codes, Option, Some, None, pos}
+-- The forms of words: numbers, dates and times (Q for Mortals, 2; KX, Datatypes reference).
+use Rattle.std.specs.Prelude.{ℕ, ◌+◌, ◌-◌, ◌*◌, ◌%◌, ◌==◌, ◌||◌, ◌&&◌, Bool, true, false, nat_le, if◌then◌else◌, List, [], ◌∷◌, length, take, drop}
+use Rattle.std.specs.Prelude.{slice_index, codes, Option, Some, None, pos}
 use Rattle.std.specs.Str.{bytes_eq}
 use Rattle.jiff_core.specs.Calendar.{days_in_month}
 use Rattle.q_values.specs.declared.kind.IntegerKind.TheVariants as ik
@@ -10,11 +11,11 @@ use Rattle.q_text.specs.declared.words.Class.TheVariants as c
 use Rattle.q_text.specs.declared.forms.Form.{Form}
 use Rattle.q_text.specs.declared.forms.Form.TheVariants as f
 
--- in a pattern "d" stands for any digit, and each other byte for itself
+-- in a pattern "d" matches any digit, and each other byte itself
 abbrev pub fits : ℕ → ℕ → Bool
 fits p b = if p == 100 then is_digit b else p == b
 
--- a word is a front of the pattern
+-- a word matches the start of the pattern
 abbrev pub is_front : List ℕ → List ℕ → Bool
 is_front pattern [] = true
 is_front [] (b ∷ bs) = false
@@ -23,11 +24,11 @@ is_front (p ∷ ps) (b ∷ bs) = fits p b && is_front ps bs
 abbrev pub is_like : List ℕ → List ℕ → Bool
 is_like pattern w = (length w == length pattern) && is_front pattern w
 
--- the digit at a place; 0 behind the end
+-- the value of the digit at an offset; 0 past the end
 abbrev pub digit : List ℕ → ℕ → ℕ
 digit w at = slice_index w at - 48
 
--- the number of two digits from a place on
+-- the number of the two digits at an offset
 abbrev pub pair : List ℕ → ℕ → ℕ
 pair w at = 10 * digit w at + digit w (at + 1)
 
@@ -52,7 +53,7 @@ month_length w = days_in_month (pos (year_of w)) (month_of w)
 abbrev pub is_civil : List ℕ → Bool
 is_civil w = is_month w && (nat_le 1 (day_of w) && nat_le (day_of w) (month_length w))
 
--- hours, minutes and seconds from a place on, as far as the word has them
+-- hours, minutes and seconds from an offset on, as far as the word has them
 unfoldable pub is_clock : ℕ → List ℕ → ℕ → Bool
 is_clock most w at = nat_le (pair w at) most && (nat_le (pair w (at + 3)) 59 && nat_le (pair w (at + 6)) 59)
 
@@ -60,7 +61,7 @@ is_clock most w at = nat_le (pair w at) most && (nat_le (pair w (at + 3)) 59 && 
 abbrev pub is_clock_length : ℕ → Bool
 is_clock_length n = ((n == 1) || (n == 3)) || (((n == 6) || (n == 9)) || (nat_le 11 n && nat_le n 19))
 
--- the bytes from a place on are as many as a clock has from its "D" on
+-- the bytes from an offset on are as many as a clock has from its "D" on
 abbrev pub ends_clock : List ℕ → ℕ → Bool
 ends_clock w at = is_clock_length (length w - at)
 
@@ -74,13 +75,15 @@ is_year_month w = is_like (codes "dddd.ddm") w && is_month w
 unfoldable pub is_timestamp : List ℕ → Bool
 is_timestamp w = is_front (codes "dddd.dd.ddDdd:dd:dd.ddddddddd") w && (ends_clock w 10 && (is_civil w && is_clock 23 w 11))
 
--- the number of digits at the front
+-- the number of digits at the start
 abbrev pub digits : List ℕ → ℕ
 digits w = span c.Digit w
 
 -- 1 to 6 digits, "D", and a clock
 unfoldable pub is_timespan : List ℕ → Bool
-is_timespan w = (nat_le 1 (digits w) && nat_le (digits w) 6) && (is_front (codes "Ddd:dd:dd.ddddddddd") (drop (digits w) w) && (ends_clock w (digits w) && is_clock 23 w (digits w + 1)))
+is_timespan w =
+    (nat_le 1 (digits w) && nat_le (digits w) 6)
+    && (is_front (codes "Ddd:dd:dd.ddddddddd") (drop (digits w) w) && (ends_clock w (digits w) && is_clock 23 w (digits w + 1)))
 
 unfoldable pub is_minute : List ℕ → Bool
 is_minute w = is_like (codes "dd:dd") w && is_clock 99 w 0
@@ -117,13 +120,13 @@ bits_form w =
 abbrev pub begins_bytes : List ℕ → Bool
 begins_bytes w = (slice_index w 0 == 48) && (slice_index w 1 == 120)
 
-abbrev pub is_hex_behind : List ℕ → Bool
-is_hex_behind w = (span c.Hex (drop 2 w) + 2 == length w) && (length w % 2 == 0)
+abbrev pub is_hex_tail : List ℕ → Bool
+is_hex_tail w = (span c.Hex (drop 2 w) + 2 == length w) && (length w % 2 == 0)
 
 -- "0x" and an even number of hexadecimal digits: two are an item, none or more are a vector by themselves
 unfoldable pub bytes_form : List ℕ → Option Form
 bytes_form w =
-    if begins_bytes w && is_hex_behind w
+    if begins_bytes w && is_hex_tail w
     then (if length w == 4 then Some (f.Item nk.Byte) else Some (f.Row nk.Byte)) else None
 
 -- the number of bytes of the sign

@@ -1,5 +1,6 @@
--- Literals by their forms: which bytes spell which value (Q for Mortals, 2; KX, Datatypes reference).
-use Rattle.std.specs.Prelude.{◌≡◌, ◌<◌, ◌≢◌, ℕ, zero, suc, ◌+◌, ◌%◌, ◌==◌, ◌||◌, Bool, true, false, List, [], ◌∷◌, ◌++◌, drop, length, map, slice_index, Option, Some, ℤ, ◌⊎◌, Result, Ok, Err}
+-- Literals by their forms: which bytes stand for which value (Q for Mortals, 2; KX, Datatypes reference).
+use Rattle.std.specs.Prelude.{◌≡◌, ◌<◌, ◌≢◌, ℕ, zero, suc, ◌+◌, ◌%◌, ◌==◌, ◌||◌, Bool, true, false, List, [], ◌∷◌, ◌++◌, drop, length, map}
+use Rattle.std.specs.Prelude.{slice_index, Option, Some, ℤ, ◌⊎◌, Result, Ok, Err}
 use Rattle.std.specs.List.{AllByRecursion}
 use Rattle.q_values.specs.Tree.{tree}
 use Rattle.q_values.specs.declared.value.Value.{Value}
@@ -17,7 +18,8 @@ use Rattle.q_text.specs.declared.runs.Run.{Run}
 use Rattle.q_text.specs.declared.refusal.LiteralRefusal.{LiteralRefusal}
 use Rattle.q_text.specs.declared.refusal.LiteralRefusal.TheVariants as r
 use Rattle.q_text.specs.Words.{is_digit, is_of, word_at, word_end}
-use Rattle.q_text.specs.Forms.{is_date, is_year_month, is_timestamp, is_timespan, is_minute, is_second, is_time, is_plain, is_special, suffix_form, letter_form}
+use Rattle.q_text.specs.Forms.{is_date, is_year_month, is_timestamp, is_timespan, is_minute, is_second, is_time, is_plain, is_special, suffix_form}
+use Rattle.q_text.specs.Forms.{letter_form}
 use Rattle.q_text.specs.Runs.{next_form, next_end, goes_on_with, is_whole}
 use Rattle.q_text.specs.Numbers.{numbers_from, vector_of, valued}
 use Rattle.q_text.specs.Strings.{escape}
@@ -26,7 +28,7 @@ use Rattle.q_text.specs.Literal.{Literal, begins_negative}
 abbrev pub AllOf : Class → List ℕ → Type 0
 AllOf class bytes = AllByRecursion (λ b. is_of class b ≡ true) bytes
 
--- the bytes are a number without a suffix and a letter behind it
+-- the bytes are a number without a suffix, followed by a letter
 abbrev pub IsLettered : (List ℕ → Bool) → (ℕ → Option Form) → Form → List ℕ → Type 0
 IsLettered number form_of_letter form w =
     (front : List ℕ) × (letter : ℕ) × (w ≡ front ++ letter ∷ []) × (number front ≡ true) × (form_of_letter letter ≡ Some form)
@@ -62,7 +64,7 @@ HasForm f.Whole w = is_plain w ≡ true
 HasForm (f.Suffixed kind) w = IsLettered is_plain suffix_form (f.Suffixed kind) w
 HasForm (f.Special kind) w = IsLettered is_special letter_form (f.Special kind) w
 
--- words that follow a place, each behind blanks: the place behind so many, and the form of the next
+-- words that follow an offset, each after blanks: the offset just past n of them, and the form of the next
 abbrev pub end_after : List ℕ → ℕ → ℕ → ℕ
 end_after text end zero = end
 end_after text end (suc n) = end_after text (next_end text end) n
@@ -70,27 +72,27 @@ end_after text end (suc n) = end_after text (next_end text end) n
 abbrev pub following : List ℕ → ℕ → ℕ → Option Form
 following text end n = next_form text (end_after text end n)
 
--- so many words of the form follow a place, and no further one
+-- n words of the form follow an offset, and no further one
 pub record IsLongest (form : Form) (text : List ℕ) (end n : ℕ) : Type 0 where
   pub each : (m : ℕ) → m < n → goes_on_with form (following text end m) ≡ true
   pub stops : goes_on_with form (following text end n) ≡ false
 
--- a number with a suffix, behind which no whole number follows, stands behind so many words
+-- the word after n others is a number with a suffix, and no whole number follows it
 abbrev pub IsLast : NumberKind → List ℕ → ℕ → ℕ → Type 0
 IsLast kind text end n = (following text end n ≡ Some (f.Suffixed kind)) × (is_whole (following text end (suc n)) ≡ false)
 
--- a run of words of one form, behind its first word
+-- a run of words of one form, whose first word ends at an offset
 abbrev pub IsUniform : Form → NumberKind → List ℕ → ℕ → Run → Type 0
 IsUniform form kind text end run = (n : ℕ) × IsLongest form text end n × (run ≡ record { kind = kind; count = n + 1; end = end_after text end n })
 
--- a run of whole numbers: longs, or of the kind whose suffix stands behind the last
+-- a run of whole numbers: longs, or of the kind whose suffix the last one has
 abbrev pub IsWholeRun : List ℕ → ℕ → Run → Type 0
 IsWholeRun text end run =
     (n : ℕ) × IsLongest f.Whole text end n ×
     ((((kind : NumberKind) → IsLast kind text end n → ⊥) × (run ≡ record { kind = nk.Longs lk.Long; count = n + 1; end = end_after text end n }))
     ⊎ ((kind : NumberKind) × IsLast kind text end n × (run ≡ record { kind = kind; count = n + 2; end = end_after text end (suc n) })))
 
--- the run that begins with a word of the form, which ends at a place
+-- the run that begins with a word of the form, which ends at an offset
 abbrev pub IsRun : Form → List ℕ → ℕ → Run → Type 0
 IsRun f.Whole text end run = IsWholeRun text end run
 IsRun (f.Suffixed kind) text end run = (is_whole (following text end 0) ≡ false) × (run ≡ record { kind = kind; count = 1; end = end })
@@ -98,7 +100,7 @@ IsRun (f.Special kind) text end run = IsUniform (f.Special kind) kind text end r
 IsRun (f.Item kind) text end run = IsUniform (f.Item kind) kind text end run
 IsRun (f.Row kind) text end run = run ≡ record { kind = kind; count = 1; end = end }
 
--- numbers, dates and times: a digit stands at the place, or "-" that belongs to the literal, and a run of words of one form begins there
+-- numbers, dates and times: a run of words of one form, whose first byte is a digit or a "-" that belongs to the literal
 pub record IsNumbers (text : List ℕ) (at : ℕ) (found : Literal) : Type 0 where
   pub form : Form
   pub run : Run
@@ -115,7 +117,7 @@ abbrev pub ticked : List (List ℕ) → List ℕ
 ticked [] = []
 ticked (name ∷ names) = 96 ∷ (name ++ ticked names)
 
--- symbols: a backtick stands at the place; the names are as long as can be
+-- symbols: a backtick at the offset; the names are as long as they can be
 pub record IsSymbols (text : List ℕ) (at : ℕ) (found : Literal) : Type 0 where
   pub names : List (List ℕ)
   pub rest : List ℕ
@@ -146,12 +148,12 @@ pub record IsQuotation (text : List ℕ) (at : ℕ) (found : Literal) : Type 0 w
   pub value : found.value ≡ valued (record { kind = k.Character; atoms = map (λ b. a.Character b) characters })
   pub ends : found.end + length rest ≡ length text
 
--- the literal that begins at a place
+-- the literal that begins at an offset
 abbrev pub IsLiteral : List ℕ → ℕ → Literal → Type 0
 IsLiteral text at found = IsNumbers text at found ⊎ (IsSymbols text at found ⊎ IsQuotation text at found)
 
--- reading gives the literal that begins at the place, and is refused there where none does, unless memory ran out
+-- reading gives the literal that begins at the offset, and is refused there where none does, unless memory ran out
 abbrev pub ReadsForms : List ℕ → ℕ → Result (Value × ℕ) LiteralRefusal → Type 0
 ReadsForms text at (Ok read) = IsLiteral text at (record { value = tree read.0; end = read.1 })
-ReadsForms text at (Err (r.BadLiteral place)) = (place ≡ at) × ((found : Literal) → IsLiteral text at found → ⊥)
+ReadsForms text at (Err (r.BadLiteral offset)) = (offset ≡ at) × ((found : Literal) → IsLiteral text at found → ⊥)
 ReadsForms text at (Err r.NoMemory) = Unit {0}

@@ -1,6 +1,7 @@
 pub mod Dates
 pub mod Forms
 pub mod Grammar
+pub mod Kinds
 pub mod Laws
 pub mod Literal
 pub mod Numbers

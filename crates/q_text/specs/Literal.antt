@@ -1,10 +1,11 @@
--- Literals: what begins one, its value, and the place behind it (Q for Mortals, 2; KX, Datatypes reference).
-use Rattle.std.specs.Prelude.{◌≡◌, ◌<◌, ◌≤◌, ℕ, ◌+◌, ◌==◌, ◌||◌, ◌&&◌, Bool, false, not, if◌then◌else◌, List, drop, length, map, slice_index, Option, Some, None, Result, Ok, Err, ℤ}
+-- Literals: what begins one, its value, and where it ends (Q for Mortals, 2; KX, Datatypes reference).
+use Rattle.std.specs.Prelude.{◌≡◌, ◌<◌, ◌≤◌, ℕ, ◌+◌, ◌==◌, ◌||◌, ◌&&◌, Bool, false, not, if◌then◌else◌, List, drop, length, map, slice_index, Option}
+use Rattle.std.specs.Prelude.{Some, None, Result, Ok, Err, ℤ}
 use Rattle.q_values.specs.Tree.{Tree, tree}
 use Rattle.q_values.specs.declared.atom.Atom.TheVariants as a
 use Rattle.q_values.specs.declared.kind.Kind.TheVariants as k
 use Rattle.q_values.specs.declared.value.Value.{Value}
-use Rattle.q_text.specs.Words.{is_digit, behind, is_behind_operand, word_end, word_at}
+use Rattle.q_text.specs.Words.{is_digit, span_end, follows_operand, word_end, word_at}
 use Rattle.q_text.specs.declared.words.Class.TheVariants as c
 use Rattle.q_text.specs.Forms.{form_of}
 use Rattle.q_text.specs.Runs.{run_of}
@@ -17,16 +18,16 @@ use Rattle.q_text.specs.declared.runs.Run.{Run}
 use Rattle.q_text.specs.declared.refusal.LiteralRefusal.{LiteralRefusal}
 use Rattle.q_text.specs.declared.refusal.LiteralRefusal.TheVariants as r
 
--- "-" directly before a digit, where no operand stands directly before it
+-- "-" just before a digit, where no operand ends just before it
 abbrev pub begins_negative : List ℕ → ℕ → Bool
-begins_negative text at = (slice_index text at == 45) && (is_digit (slice_index text (at + 1)) && not (is_behind_operand text at))
+begins_negative text at = (slice_index text at == 45) && (is_digit (slice_index text (at + 1)) && not (follows_operand text at))
 
--- a digit, a backtick, a quote, or "-" directly before a digit where no operand stands directly before it
+-- a digit, a backtick, a quote, or "-" just before a digit where no operand ends just before it
 unfoldable pub starts_literal : List ℕ → ℕ → Bool
 starts_literal text at =
     is_digit (slice_index text at) || ((slice_index text at == 96) || ((slice_index text at == 34) || begins_negative text at))
 
--- a literal's value, and the place behind it
+-- a literal's value, and the offset just past it
 pub record Literal : Type 0 where
   pub value : Tree
   pub end : ℕ
@@ -36,17 +37,19 @@ some found = Some found
 
 -- symbols; "`" alone is the null symbol
 unfoldable pub symbols_at : List ℕ → ℕ → Literal
-symbols_at text at = record { value = valued (record { kind = k.Symbol; atoms = map (λ name. a.Symbol name) (names (drop at text)) }); end = behind c.Symbols text (at + 1) }
+symbols_at text at =
+    record { value = valued (record { kind = k.Symbol; atoms = map (λ name. a.Symbol name) (names (drop at text)) }); end = span_end c.Symbols text (at + 1) }
 
 abbrev pub characters : ℕ → Option (List ℕ × ℕ) → Option Literal
 characters at None = None
-characters at (Some found) = Some (record { value = valued (record { kind = k.Character; atoms = map (λ b. a.Character b) found.0 }); end = at + 1 + found.1 })
+characters at (Some found) =
+    Some (record { value = valued (record { kind = k.Character; atoms = map (λ b. a.Character b) found.0 }); end = at + 1 + found.1 })
 
 -- characters between quotes
 unfoldable pub characters_at : List ℕ → ℕ → Option Literal
 characters_at text at = characters at (quoted false (drop (at + 1) text))
 
--- one number is an atom, all others are a vector
+-- one number is an atom, anything else a vector
 abbrev pub run_tree : NumberKind → Option (List ℤ) → Option Tree
 run_tree kind None = None
 run_tree kind (Some numbers) = Some (valued (vector_of kind numbers))
@@ -67,7 +70,7 @@ with_form (Some form) text at = with_run form (run_of form text (word_end text a
 unfoldable pub numbers_at : List ℕ → ℕ → Option Literal
 numbers_at text at = with_form (form_of (word_at text at)) text at
 
--- the literal that begins at a place, if one does
+-- the literal that begins at an offset, if one does
 unfoldable pub literal_at : List ℕ → ℕ → Option Literal
 literal_at text at =
     if starts_literal text at
@@ -76,13 +79,13 @@ literal_at text at =
     else numbers_at text at))
     else None
 
--- what was read ends behind its first byte, within the text
+-- what was read takes at least one byte, and ends within the text
 abbrev pub EndsWithin : List ℕ → ℕ → Result (Value × ℕ) LiteralRefusal → Type 0
 EndsWithin text at (Ok read) = (at < read.1) × (read.1 ≤ length text)
 EndsWithin text at (Err e) = Unit {0}
 
--- reading gives the literal that begins at the place, and is refused there where none does, unless memory ran out
+-- reading gives the literal that begins at the offset, and is refused there where none does, unless memory ran out
 abbrev pub ReadsLiteral : Option Literal → ℕ → Result (Value × ℕ) LiteralRefusal → Type 0
 ReadsLiteral found at (Ok read) = found ≡ Some (record { value = tree read.0; end = read.1 })
-ReadsLiteral found at (Err (r.BadLiteral place)) = (place ≡ at) × (found ≡ None)
+ReadsLiteral found at (Err (r.BadLiteral offset)) = (offset ≡ at) × (found ≡ None)
 ReadsLiteral found at (Err r.NoMemory) = Unit {0}

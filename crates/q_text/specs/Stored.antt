@@ -4,7 +4,7 @@ use Rattle.std.specs.Int.{w16, w32}
 use Rattle.q_text.specs.declared.kinds.NumberKind.{NumberKind}
 use Rattle.q_text.specs.declared.kinds.NumberKind.TheVariants as nk
 
--- the number has the width of its kind; the kinds of 64 bits and of one byte ask for nothing
+-- the number fits the width of its kind; kinds of 64 bits and of one byte hold any number that is stored
 abbrev pub IsStored : NumberKind → ℤ → Type 0
 IsStored nk.Boolean z = Unit {0}
 IsStored nk.Byte z = Unit {0}

@@ -16,11 +16,11 @@ is_hex b = is_digit b || ((nat_le 65 b && nat_le b 70) || (nat_le 97 b && nat_le
 abbrev pub is_blank : ℕ → Bool
 is_blank b = (b == 32 || b == 9) || (b == 10 || b == 13)
 
--- what a word takes behind its first byte: letters, digits, "." and ":"
+-- the bytes of a word after its first: letters, digits, "." and ":"
 abbrev pub is_word : ℕ → Bool
 is_word b = is_letter b || (is_digit b || (b == 46 || b == 58))
 
--- what a symbol takes behind its backtick: the same and "_"
+-- the bytes of a symbol after its backtick: the same and "_"
 abbrev pub is_symbol : ℕ → Bool
 is_symbol b = is_word b || (b == 95)
 
@@ -38,11 +38,11 @@ abbrev pub span : Class → List ℕ → ℕ
 span class [] = 0
 span class (b ∷ bs) = if is_of class b then suc (span class bs) else 0
 
--- the place behind the bytes of the class that stand at a place
-abbrev pub behind : Class → List ℕ → ℕ → ℕ
-behind class text at = at + span class (drop at text)
+-- the offset just past the bytes of the class that begin at an offset
+abbrev pub span_end : Class → List ℕ → ℕ → ℕ
+span_end class text at = at + span class (drop at text)
 
--- the bytes from a place to another
+-- the bytes from one offset up to another
 abbrev pub piece : List ℕ → ℕ → ℕ → List ℕ
 piece text from to = take (to - from) (drop from text)
 
@@ -51,21 +51,21 @@ abbrev pub in_symbol : Bool → List ℕ → Bool
 in_symbol inside [] = inside
 in_symbol inside (b ∷ bs) = in_symbol ((b == 96) || (inside && is_symbol b)) bs
 
--- a byte behind which "-" is a verb: a letter, a digit, "_", ")", "]" or a quote
+-- a byte after which "-" is a verb: a letter, a digit, "_", ")", "]" or a quote
 abbrev pub ends_operand : ℕ → Bool
 ends_operand b = (is_letter b || is_digit b) || ((b == 95 || b == 41) || (b == 93 || b == 34))
 
--- whether the byte before the place ends what "-" would take away from
-abbrev pub is_behind_operand : List ℕ → ℕ → Bool
-is_behind_operand text at = nat_lt 0 at && (ends_operand (slice_index text (at - 1)) || in_symbol false (take at text))
+-- whether the byte before the offset ends an operand, so that "-" there is a verb
+abbrev pub follows_operand : List ℕ → ℕ → Bool
+follows_operand text at = nat_lt 0 at && (ends_operand (slice_index text (at - 1)) || in_symbol false (take at text))
 
 -- a digit, or "-" directly before a digit
 abbrev pub begins_word : List ℕ → ℕ → Bool
 begins_word text at = is_digit (slice_index text at) || ((slice_index text at == 45) && is_digit (slice_index text (at + 1)))
 
--- the place behind the word that begins here: its first byte, and all word bytes that follow
+-- the offset just past the word that begins here: its first byte, and all word bytes that follow
 abbrev pub word_end : List ℕ → ℕ → ℕ
-word_end text at = if slice_index text at == 45 then behind c.Word text (at + 1) else behind c.Word text at
+word_end text at = if slice_index text at == 45 then span_end c.Word text (at + 1) else span_end c.Word text at
 
 abbrev pub word_at : List ℕ → ℕ → List ℕ
 word_at text at = piece text at (word_end text at)

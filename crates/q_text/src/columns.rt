@@ -1,4 +1,4 @@
-//! Vectors of the numbers of a run.
+//! The value of a run of words: its numbers, as an atom or a vector.
 ghost use Rattle.std.specs.Prelude.{◌≡◌, ◌≤◌, ◌%◌, ◌==◌, length, map, IfOk, All, not, unsigned_abs, FitsSigned};
 ghost use Rattle.std.specs.Int.{w16, w32};
 ghost use Rattle.std.specs.Option.{option_map};
@@ -10,7 +10,7 @@ ghost use Rattle.q_text.specs.Stored.{IsStored};
 use crate::forms::Form;
 use crate::kinds::NumberKind;
 use crate::numbers::push_numbers;
-use crate::runs::{Run, next_place};
+use crate::runs::{Run, next_start};
 use crate::words::{word_at, word_end};
 use q_values::{ByteKind, Column, NoMemory, Value, Vector};
 use std::alloc::{AllocError, Global};
@@ -52,7 +52,7 @@ fn integers_of(alloc: Global, numbers: &[i64]) -> Result<Vec<i32>, AllocError>
     Ok(found)
 }
 
-// The vector of a kind that holds the numbers.
+// The vector of this kind with these numbers.
 fn vector_of(alloc: Global, kind: NumberKind, numbers: Vec<i64>) -> Result<Vector, NoMemory>
     requires { All (IsStored kind) numbers.items }
     ensures { IfOk result (λ found. found ≡ spec.vector_of kind numbers.items) }
@@ -78,7 +78,7 @@ fn vector_of(alloc: Global, kind: NumberKind, numbers: Vec<i64>) -> Result<Vecto
     }
 }
 
-/// The value of a vector: one atom is itself, all others are the vector.
+/// The value of a literal with these atoms: a single atom stands for itself, and anything else is the vector.
 pub fn value_of(alloc: Global, vector: Vector) -> Result<Value, NoMemory>
     ensures { IfOk result (λ value. tree value ≡ spec.valued vector) }
 {
@@ -89,7 +89,7 @@ pub fn value_of(alloc: Global, vector: Vector) -> Result<Value, NoMemory>
     Ok(Value::Vector(vector))
 }
 
-// The numbers of so many words of a form from a place on, where they are in the kind's range.
+// The numbers of the run, whose first word is at `at`, or `None` where one is out of range for the kind.
 fn numbers_of(
     alloc: Global,
     form: Form,
@@ -102,20 +102,21 @@ fn numbers_of(
         ≡ option_map (λ numbers. numbers.items) found) }
 {
     let mut numbers = Vec::with_capacity(alloc, run.count)?;
-    let mut place = at;
+    let mut offset = at;
     let mut done = 0;
     while done < run.count {
-        let word = word_at(text, place);
+        let word = word_at(text, offset);
         if !push_numbers(&mut numbers, form, run.kind, word)? {
             return Ok(None);
         }
-        place = next_place(text, word_end(text, place));
+        offset = next_start(text, word_end(text, offset));
         done += 1;
     }
     Ok(Some(numbers))
 }
 
-/// The value of a run of words of a form from a place on, where its numbers are in range.
+/// The value of the run of words of this form whose first word is at `at`, or `None` where a number is out of range for
+/// the kind.
 pub fn run_value(
     alloc: Global,
     form: Form,

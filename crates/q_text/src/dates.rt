@@ -1,4 +1,4 @@
-//! Dates in writing.
+//! Dates as text.
 ghost use Rattle.std.specs.Prelude.{◌≡◌, ◌<◌, ◌≤◌, ◌+◌, ◌++◌, OnOk, OnErr, vec_len, vec_capacity, pos, ◌+ℤ◌, ◌≤ℤ◌};
 ghost use Rattle.jiff_core.specs.Date.{epoch_day};
 ghost use Rattle.q_text.specs.Dates as spec;
@@ -6,7 +6,7 @@ ghost use Rattle.q_text.specs.Dates as spec;
 use jiff_core::civil::Date;
 use q_values::NoMemory;
 
-// The day so many days from 2000.01.01, which is day 10957 of the calendar.
+// The calendar's day for a number of days since 2000.01.01, which is 10,957 days after 1970.01.01.
 fn day_of_plant(date: &i32) -> Date
     requires { spec.IsPlantDate date.now }
     ensures number { epoch_day result ≡ date.now +ℤ pos 10957 }
@@ -18,7 +18,7 @@ fn day_of_plant(date: &i32) -> Date
     }
 }
 
-// Its year, month and day.
+// The year, month and day of a date.
 fn parts_of(date: &i32) -> (u16, u8, u8)
     requires { spec.IsPlantDate date.now }
     ensures { spec.IsDay date.now result.0 result.1 result.2 }
@@ -27,7 +27,7 @@ fn parts_of(date: &i32) -> (u16, u8, u8)
     (day.year as u16, day.month, day.day)
 }
 
-// Appends the last two digits of a number, for which there is room.
+// Appends the last two digits of a number, for which room has been reserved.
 fn push_two(out: &mut Vec<u8>, number: u16)
     requires { vec_len out.old + 2 ≤ vec_capacity out.old }
     ensures items { out.new.items ≡ out.old.items ++ spec.two_digits number }
@@ -38,7 +38,7 @@ fn push_two(out: &mut Vec<u8>, number: u16)
     out.push_reserved(48 + (number % 10) as u8);
 }
 
-// Appends yyyy.mm.dd, for which there is room.
+// Appends yyyy.mm.dd, for which room has been reserved.
 fn push_date(out: &mut Vec<u8>, year: u16, month: u8, day: u8)
     requires { vec_len out.old + 10 ≤ vec_capacity out.old }
     ensures { out.new.items ≡ out.old.items ++ spec.date_text year month day }
@@ -51,7 +51,8 @@ fn push_date(out: &mut Vec<u8>, year: u16, month: u8, day: u8)
     push_two(out, u16::from(day));
 }
 
-/// Appends a date as `yyyy.mm.dd`. Dates count in days from 2000.01.01. Where memory is wanting nothing is appended.
+/// Appends a date as `yyyy.mm.dd`. The date is a number of days since 2000.01.01, within the days that a timestamp
+/// reaches. Out of memory, nothing is appended.
 pub fn write_date(out: &mut Vec<u8>, date: i32) -> Result<(), NoMemory>
     requires { spec.IsPlantDate date }
     ensures ok { OnOk result (spec.AppendsDate out.old.items out.new.items date) }

@@ -1,27 +1,28 @@
-//! The forms of the words that spell numbers, dates and times.
+//! The forms of words: which kind of number, date or time a word is, by its bytes alone.
 ghost use Rattle.std.specs.Prelude.{◌≡◌, ◌≤◌, length};
 ghost use Rattle.q_text.specs.Forms as spec;
 
 use crate::kinds::NumberKind;
 use crate::patterns::{is_civil, is_clock, is_clock_length, is_front, is_like, is_month};
-use crate::words::{Class, behind, byte_at, is_same};
+use crate::words::{Class, byte_at, is_same, span_end};
 use q_values::{IntegerKind, LongKind};
 
-/// The form of a word. The words of a run are of one form.
+/// The form of a word. All words of a run have the same form, but for the suffix of the last one.
 #[derive(Clone, Copy)]
 pub enum Form {
-    /// A whole number without a suffix, also `0N`, `0W` and `-0W`.
+    /// A whole number without a suffix, such as `12`, `0N`, `0W` or `-0W`.
     Whole,
-    /// The same with the suffix of a kind.
+    /// A whole number with the suffix of its kind, such as `12h`.
     Suffixed(NumberKind),
-    /// The null or an infinity of a temporal kind.
+    /// The null or an infinity of a temporal kind, such as `0Nd`.
     Special(NumberKind),
-    /// Any other single value.
+    /// Any other single value, such as `2024.01.02`, `1b` or `0x0f`.
     Item(NumberKind),
-    /// Values without blanks between them: a vector by themselves.
+    /// Several values without blanks between them, which are a vector by themselves, such as `101b`.
     Row(NumberKind),
 }
 
+/// Whether the word is a date, `yyyy.mm.dd`.
 #[tactic(auto, unfolding(crate::specs::Forms::is_date))]
 pub fn is_date(word: &[u8]) -> bool
     ensures { result ≡ spec.is_date word.now }
@@ -36,7 +37,7 @@ fn is_year_month(word: &[u8]) -> bool
     is_like(b"dddd.ddm", word) && is_month(word)
 }
 
-// Whether the number of bytes behind a place is one of a clock with its `D`.
+// Whether the word has as many bytes from `at` on as a clock with its `D` may have.
 fn ends_clock(word: &[u8], at: usize) -> bool
     ensures { result ≡ spec.ends_clock word.now at }
 {
@@ -51,12 +52,12 @@ fn is_timestamp(word: &[u8]) -> bool
         && (ends_clock(word, 10) && (is_civil(word) && is_clock(23, word, 11)))
 }
 
-/// The number of digits at the front of the word.
+/// The number of digits at the start of the word.
 pub fn digits(word: &[u8]) -> usize
     ensures value { result ≡ spec.digits word.now }
     ensures within { result ≤ length word.now }
 {
-    behind(Class::Digit, word, 0)
+    span_end(Class::Digit, word, 0)
 }
 
 #[tactic(auto, unfolding(crate::specs::Forms::is_timespan))]
@@ -126,7 +127,7 @@ fn clock_form(word: &[u8]) -> Option<Form>
 fn bits_form(word: &[u8]) -> Option<Form>
     ensures { result ≡ spec.bits_form word.now }
 {
-    let count = behind(Class::Bit, word, 0);
+    let count = span_end(Class::Bit, word, 0);
     if count + 1 == word.len() && (byte_at(word, count) == b'b' && 1 <= count) {
         if count == 1 {
             Some(Form::Item(NumberKind::Boolean))
@@ -144,21 +145,21 @@ fn begins_bytes(word: &[u8]) -> bool
     byte_at(word, 0) == b'0' && byte_at(word, 1) == b'x'
 }
 
-// Whether all bytes behind the first two are hexadecimal digits, of an even number.
-fn is_hex_behind(word: &[u8]) -> bool
-    ensures { result ≡ spec.is_hex_behind word.now }
+// Whether all bytes after the first two are hexadecimal digits, and their number is even.
+fn is_hex_tail(word: &[u8]) -> bool
+    ensures { result ≡ spec.is_hex_tail word.now }
 {
     if word.len() < 2 {
         return false;
     }
-    behind(Class::Hex, word, 2) == word.len() && word.len() % 2 == 0
+    span_end(Class::Hex, word, 2) == word.len() && word.len() % 2 == 0
 }
 
 #[tactic(auto, unfolding(crate::specs::Forms::bytes_form))]
 fn bytes_form(word: &[u8]) -> Option<Form>
     ensures { result ≡ spec.bytes_form word.now }
 {
-    if begins_bytes(word) && is_hex_behind(word) {
+    if begins_bytes(word) && is_hex_tail(word) {
         if word.len() == 4 {
             Some(Form::Item(NumberKind::Byte))
         } else {
@@ -169,7 +170,7 @@ fn bytes_form(word: &[u8]) -> Option<Form>
     }
 }
 
-/// The number of bytes of the sign.
+/// The length of the sign in bytes: 1 for `-`, or else 0.
 pub fn sign(word: &[u8]) -> usize
     ensures value { result ≡ spec.sign word.now }
     ensures within { result ≤ length word.now }
@@ -178,7 +179,7 @@ pub fn sign(word: &[u8]) -> usize
     if byte_at(word, 0) == b'-' { 1 } else { 0 }
 }
 
-/// Whether the word begins as an infinity.
+/// Whether the word begins with `0W` or `-0W`.
 pub fn is_infinite(word: &[u8]) -> bool
     ensures { result ≡ spec.is_infinite word.now }
 {
@@ -186,14 +187,14 @@ pub fn is_infinite(word: &[u8]) -> bool
     byte_at(word, sign) == b'0' && byte_at(word, sign + 1) == b'W'
 }
 
-/// Whether the word begins as a null.
+/// Whether the word begins with `0N`.
 pub fn is_null(word: &[u8]) -> bool
     ensures { result ≡ spec.is_null word.now }
 {
     byte_at(word, 0) == b'0' && byte_at(word, 1) == b'N'
 }
 
-// Whether the word is the null or an infinity without a letter.
+// Whether the word is the null or an infinity without a letter: `0N`, `0W` or `-0W`.
 #[tactic(auto, unfolding(crate::specs::Forms::is_special))]
 fn is_special(word: &[u8]) -> bool
     ensures { result ≡ spec.is_special word.now }
@@ -201,7 +202,7 @@ fn is_special(word: &[u8]) -> bool
     is_same(word, b"0N") || (is_same(word, b"0W") || is_same(word, b"-0W"))
 }
 
-// Whether the word is one digit or more, and nothing else.
+// Whether the word is digits only, at least one.
 #[tactic(auto, unfolding(crate::specs::Forms::is_digits))]
 fn is_digits(word: &[u8]) -> bool
     ensures { result ≡ spec.is_digits word.now }
@@ -268,8 +269,8 @@ fn number_form(word: &[u8]) -> Option<Form>
     }
 }
 
+/// The form of a word, or `None` where it has none. A word never has two.
 #[tactic(auto, unfolding(crate::specs::Forms::form_of))]
-/// The form of a word, if it has one.
 pub fn form_of(word: &[u8]) -> Option<Form>
     ensures { result ≡ spec.form_of word.now }
 {

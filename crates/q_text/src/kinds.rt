@@ -1,18 +1,18 @@
-//! The kinds of numbers, by how they are stored.
+//! The kinds whose literals are numbers, by how they are stored.
 
 use q_values::{IntegerKind, LongKind};
 
 /// A kind whose values are numbers.
-#[derive(Clone, Copy)]
+#[derive(Clone, Copy, PartialEq, Eq)]
 pub enum NumberKind {
     /// Booleans: 0 is false.
     Boolean,
     /// Bytes.
     Byte,
-    /// Whole numbers of 16 bits.
+    /// 16 bits: shorts.
     Short,
-    /// What is stored in 32 bits.
+    /// 32 bits: ints, months, dates, minutes, seconds and times.
     Integers(IntegerKind),
-    /// What is stored in 64 bits.
+    /// 64 bits: longs, timestamps and timespans.
     Longs(LongKind),
 }

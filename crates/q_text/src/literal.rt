@@ -1,4 +1,4 @@
-//! Literals of a text.
+//! Reading the literal at an offset of a text.
 ghost use Rattle.std.specs.Prelude.{◌≡◌, ◌<◌, ◌≤◌, ◌+◌, length, slice_index, true, false, IfOk};
 ghost use Rattle.q_text.specs.Literal as spec;
 ghost use Rattle.q_text.specs.Words.{begins_word};
@@ -10,20 +10,20 @@ use crate::refusal::LiteralRefusal;
 use crate::runs::run_of;
 use crate::strings::{characters_of, quoted_at};
 use crate::symbols::symbols_of;
-use crate::words::{Class, behind, byte_at, is_behind_operand, is_digit, word_at, word_end};
+use crate::words::{Class, byte_at, follows_operand, is_digit, span_end, word_at, word_end};
 use q_values::Value;
 use std::alloc::Global;
 
-// Whether a `-` that belongs to a literal stands at a place.
+// Whether the byte at `at` is a `-` that belongs to a literal.
 fn begins_negative(text: &[u8], at: usize) -> bool
     requires { at < length text.now }
     ensures { result ≡ spec.begins_negative text.now at }
 {
-    text[at] == b'-' && (is_digit(byte_at(text, at + 1)) && !is_behind_operand(text, at))
+    text[at] == b'-' && (is_digit(byte_at(text, at + 1)) && !follows_operand(text, at))
 }
 
-/// Whether a literal is to be read at a place: a digit, a backtick or a quote stands there, or a `-` directly before a
-/// digit, where the byte before it is no letter, digit, `_`, `)`, `]` or quote and belongs to no symbol literal.
+/// Whether a literal is to be read at `at`: the byte there is a digit, a backtick or a quote, or a `-` before a digit. A
+/// `-` doesn't begin a literal after a letter, a digit, `_`, `)`, `]`, a quote or a symbol literal: there it is a verb.
 #[tactic(auto, unfolding(crate::specs::Literal::starts_literal))]
 pub fn begins_literal(text: &[u8], at: usize) -> bool
     ensures value { result ≡ spec.starts_literal text.now at }
@@ -35,7 +35,7 @@ pub fn begins_literal(text: &[u8], at: usize) -> bool
     is_digit(text[at]) || (text[at] == b'`' || (text[at] == b'"' || begins_negative(text, at)))
 }
 
-// The symbols at a place, and the place behind them.
+// The symbols at `at`, and the offset just past them.
 #[tactic(auto, unfolding(crate::specs::Literal::symbols_at))]
 fn symbols_at(alloc: Global, text: &[u8], at: usize) -> Result<(Value, usize), LiteralRefusal>
     requires within { at < length text.now }
@@ -44,11 +44,11 @@ fn symbols_at(alloc: Global, text: &[u8], at: usize) -> Result<(Value, usize), L
     ensures within { spec.EndsWithin text.now at result }
 {
     let value = symbols_of(alloc, text, at)?;
-    let end = behind(Class::Symbols, text, at + 1);
+    let end = span_end(Class::Symbols, text, at + 1);
     Ok((value, end))
 }
 
-// The characters between quotes at a place, and the place behind them.
+// The text in quotes at `at`, and the offset just past it.
 #[tactic(auto, unfolding(crate::specs::Literal::characters_at))]
 fn characters_at(alloc: Global, text: &[u8], at: usize) -> Result<(Value, usize), LiteralRefusal>
     requires { at < length text.now }
@@ -64,7 +64,7 @@ fn characters_at(alloc: Global, text: &[u8], at: usize) -> Result<(Value, usize)
     }
 }
 
-// The numbers at a place, and the place behind them.
+// The numbers at `at`, and the offset just past them.
 #[tactic(auto, unfolding(crate::specs::Literal::numbers_at))]
 fn numbers_at(alloc: Global, text: &[u8], at: usize) -> Result<(Value, usize), LiteralRefusal>
     requires within { at < length text.now }
@@ -84,7 +84,7 @@ fn numbers_at(alloc: Global, text: &[u8], at: usize) -> Result<(Value, usize), L
     }
 }
 
-// The literal at a place where one is to be read.
+// The literal at `at`, where one is to be read.
 #[tactic(auto, unfolding(crate::specs::Literal::literal_at))]
 fn literal_from(alloc: Global, text: &[u8], at: usize) -> Result<(Value, usize), LiteralRefusal>
     requires within { at < length text.now }
@@ -101,13 +101,13 @@ fn literal_from(alloc: Global, text: &[u8], at: usize) -> Result<(Value, usize),
     }
 }
 
-/// Reads the literal that begins at a place: its value, and the place behind it (Q for Mortals, 2; KX, Datatypes
+/// Reads the literal that begins at `at`: its value, and the offset just past it (Q for Mortals, 2; KX, Datatypes
 /// reference).
 ///
-/// Words of one form with blanks between them are one vector, symbols without blanks another; one value is an atom. A
-/// number may have the suffix `h`, `i` or `j`, which holds for its whole run; dates and times are read as q writes
-/// them. Places are counted in bytes from 0; any place is allowed. `BadLiteral` names the place itself, and comes where
-/// no literal begins there.
+/// Words of one form with blanks between them are one vector, and so are symbols without blanks between them; a single
+/// value is an atom. A number may have the suffix `h`, `i` or `j`, which holds for its whole run; dates and times are
+/// read as q writes them. Offsets count bytes from 0, and any `at` is allowed. Refused with `BadLiteral(at)` where no
+/// literal begins there.
 #[tactic(auto, unfolding(crate::specs::Literal::literal_at))]
 pub fn read_literal(alloc: Global, text: &[u8], at: usize) -> Result<(Value, usize), LiteralRefusal>
     ensures forms { ReadsForms text.now at result }

@@ -1,4 +1,4 @@
-//! The numbers that words spell.
+//! From a word to its numbers: digits, calendar dates, clocks, bits and hexadecimal bytes.
 ghost use Rattle.std.specs.Prelude.{◌≡◌, ◌<◌, ◌≤◌, ◌+◌, ◌-◌, ◌^◌, ◌++◌, length, drop, min, IfOk, OnOk, Some, true, pos};
 ghost use Rattle.q_text.specs.Numbers as spec;
 ghost use Rattle.q_text.specs.Stored.{read};
@@ -12,24 +12,27 @@ use crate::kinds::NumberKind;
 use crate::patterns::{day_of, is_civil, month_of, pair, triple, year_of};
 use crate::words::{byte_at, is_digit};
 use jiff_core::civil::Date;
-use q_values::{IntegerKind, LongKind, NoMemory};
+use q_values::{IntegerKind, LongKind, NANOSECONDS_PER_DAY, NoMemory};
 
-// The number that the digits from a place on spell, or the greatest of 64 bits where it is above that.
+// A day in nanoseconds.
+const DAY_IN_NANOSECONDS: i128 = NANOSECONDS_PER_DAY as i128;
+
+// The decimal number of the digits from `from` on, or the greatest of 64 bits where it is above that.
 fn spelled(word: &[u8], from: usize) -> u64
     requires { from ≤ length word.now }
     ensures { result ≡ min (spec.spelled 0 (drop from word.now)) (2 ^ 64 - 1) }
 {
     let mut number = 0u64;
-    let mut place = from;
-    while place < word.len() && is_digit(word[place]) {
-        let digit = u64::from(word[place].saturating_sub(48));
+    let mut offset = from;
+    while offset < word.len() && is_digit(word[offset]) {
+        let digit = u64::from(word[offset].saturating_sub(48));
         number = number.saturating_mul(10).saturating_add(digit);
-        place += 1;
+        offset += 1;
     }
     number
 }
 
-// The greatest value of a kind.
+// The greatest value of a kind; for booleans and bytes, of the byte that stores them.
 fn greatest(kind: NumberKind) -> u64
     ensures value { result ≡ spec.greatest kind }
     ensures bound { result < 2 ^ 63 }
@@ -43,7 +46,7 @@ fn greatest(kind: NumberKind) -> u64
     }
 }
 
-// The number, where it is in the kind's range.
+// The number, where it is in the range of the kind, which leaves out the null.
 #[tactic(auto, unfolding(crate::specs::Numbers::in_range))]
 fn in_range(kind: NumberKind, number: &i128) -> Option<i64>
     ensures { result ≡ spec.in_range kind number.now }
@@ -56,7 +59,7 @@ fn in_range(kind: NumberKind, number: &i128) -> Option<i64>
     }
 }
 
-// The null of a kind.
+// The null of a kind: the least value of its width.
 fn null_of(kind: NumberKind) -> i64
     ensures { result ≡ spec.null_of kind }
 {
@@ -79,7 +82,7 @@ fn signed(negative: bool, number: u64) -> i128
     }
 }
 
-// The number that a whole number or an infinity has without its sign.
+// The absolute value of a whole number or an infinity, or the greatest of 64 bits where it is above that.
 fn size_of_whole(kind: NumberKind, word: &[u8]) -> u64
     ensures { result ≡ min (spec.size_of_whole kind word.now) (2 ^ 64 - 1) }
 {
@@ -90,7 +93,7 @@ fn size_of_whole(kind: NumberKind, word: &[u8]) -> u64
     }
 }
 
-// A whole number, a null or an infinity, as one of the kind.
+// A whole number, a null or an infinity as a number of the kind, where it is in range.
 #[tactic(auto, unfolding(crate::specs::Numbers::whole_number))]
 fn whole_number(kind: NumberKind, word: &[u8]) -> Option<i64>
     ensures { result ≡ spec.whole_number kind word.now }
@@ -102,7 +105,7 @@ fn whole_number(kind: NumberKind, word: &[u8]) -> Option<i64>
     in_range(kind, &number)
 }
 
-// The seconds of a clock that begins at a place.
+// The seconds of the clock `hh:mm:ss` at an offset; digits that are missing count as 0.
 #[tactic(auto, unfolding(crate::specs::Numbers::seconds_of))]
 fn seconds_of(word: &[u8], at: usize) -> u64
     requires { at < 2 ^ 64 - 64 }
@@ -112,7 +115,7 @@ fn seconds_of(word: &[u8], at: usize) -> u64
     3600 * pair(word, at) + (60 * pair(word, at + 3) + pair(word, at + 6))
 }
 
-// The nanoseconds of a clock that begins at a place.
+// The nanoseconds of the clock `hh:mm:ss.nnnnnnnnn` at an offset; digits that are missing count as 0.
 #[tactic(auto, unfolding(crate::specs::Numbers::nanoseconds_of))]
 fn nanoseconds_of(word: &[u8], at: usize) -> u64
     requires { at < 2 ^ 64 - 64 }
@@ -125,15 +128,15 @@ fn nanoseconds_of(word: &[u8], at: usize) -> u64
     1_000_000_000 * seconds + fraction
 }
 
-// The nanoseconds of the clock behind the days of a timespan and the `D`.
-fn clock_behind_days(word: &[u8]) -> u64
+// The nanoseconds of a timespan's clock, which follows its days and the `D`.
+fn clock_after_days(word: &[u8]) -> u64
     ensures value { result ≡ spec.nanoseconds_of word.now (digits word.now + 1) }
     ensures bound { result < 2 ^ 60 }
 {
     nanoseconds_of(word, digits(word) + 1)
 }
 
-// The days from 2000.01.01 to the date at the front.
+// The days from 2000.01.01 to the date that the word begins with.
 #[tactic(auto, unfolding(crate::specs::Numbers::days_of))]
 fn days_of(word: &[u8]) -> i64
     requires { is_civil word.now ≡ true }
@@ -148,7 +151,7 @@ fn days_of(word: &[u8]) -> i64
     i64::from(date.to_unix_epoch_day()) - 10_957
 }
 
-// A number that is not negative, where it is in range.
+// A number of a clock, where it is in range.
 fn clock_number(kind: NumberKind, number: u64) -> Option<i64>
     ensures { result ≡ spec.in_range kind (pos number) }
 {
@@ -156,7 +159,7 @@ fn clock_number(kind: NumberKind, number: u64) -> Option<i64>
     in_range(kind, &number)
 }
 
-// The months from 2000.01.
+// The months from 2000.01 to the month that the word begins with.
 fn month(word: &[u8]) -> Option<i64>
     ensures { result ≡ spec.in_range (nk.Integers ik.Month) (spec.months_of word.now) }
 {
@@ -164,7 +167,7 @@ fn month(word: &[u8]) -> Option<i64>
     in_range(NumberKind::Integers(IntegerKind::Month), &number)
 }
 
-// The number of a date.
+// The days from 2000.01.01, where the calendar has the date.
 fn date(word: &[u8]) -> Option<i64>
     ensures { result ≡ spec.ranged (nk.Integers ik.Date) (spec.where_civil word.now (spec.days_of word.now)) }
 {
@@ -175,16 +178,17 @@ fn date(word: &[u8]) -> Option<i64>
     in_range(NumberKind::Integers(IntegerKind::Date), &number)
 }
 
-// The nanoseconds from the beginning of 2000.01.01.
+// The nanoseconds since the start of 2000.01.01.
 #[tactic(auto, unfolding(crate::specs::Numbers::timestamp_of))]
 fn timestamp_of(word: &[u8]) -> i128
     requires { is_civil word.now ≡ true }
     ensures { result ≡ spec.timestamp_of word.now }
 {
     let days = i128::from(days_of(word));
-    days * 86_400_000_000_000 + i128::from(nanoseconds_of(word, 11))
+    days * DAY_IN_NANOSECONDS + i128::from(nanoseconds_of(word, 11))
 }
 
+// The nanoseconds since the start of 2000.01.01, where the calendar has the date and the number is in range.
 fn timestamp(word: &[u8]) -> Option<i64>
     ensures { result ≡ spec.ranged (nk.Longs lk.Timestamp) (spec.where_civil word.now (spec.timestamp_of word.now)) }
 {
@@ -195,17 +199,17 @@ fn timestamp(word: &[u8]) -> Option<i64>
     in_range(NumberKind::Longs(LongKind::Timestamp), &number)
 }
 
-// The nanoseconds of days and a clock; days beyond 64 bits are out of range in any case.
+// The nanoseconds of a timespan, where they are in range. Days of more than 64 bits are out of range anyway.
 fn timespan(word: &[u8]) -> Option<i64>
     ensures { result ≡ spec.in_range (nk.Longs lk.Timespan) (pos (spec.timespan_of word.now)) }
 {
     let days = i128::from(spelled(word, 0));
-    let clock = clock_behind_days(word);
-    let number = days * 86_400_000_000_000 + i128::from(clock);
+    let clock = clock_after_days(word);
+    let number = days * DAY_IN_NANOSECONDS + i128::from(clock);
     in_range(NumberKind::Longs(LongKind::Timespan), &number)
 }
 
-// The number of a date, of a time, or of a month, where it is in range.
+// The number of a word of a temporal kind, where it is in range.
 #[tactic(auto, unfolding(crate::specs::Numbers::temporal))]
 fn ranged(kind: NumberKind, word: &[u8]) -> Option<i64>
     ensures { result ≡ spec.ranged kind (spec.temporal kind word.now) }
@@ -241,33 +245,33 @@ fn hex_value(b: u8) -> u8
     }
 }
 
-// Puts the bits of a word such as `0101b` behind the numbers.
+// Appends the bits of a word such as `0101b`.
 fn push_bits(numbers: &mut Vec<i64>, word: &[u8]) -> Result<(), NoMemory>
     ensures { OnOk result (numbers.new.items ≡ numbers.old.items ++ spec.bits_of word.now) }
 {
-    let mut place = 0;
-    while place < word.len() && word[place] != b'b' {
-        numbers.push(i64::from(word[place].saturating_sub(48)))?;
-        place += 1;
+    let mut offset = 0;
+    while offset < word.len() && word[offset] != b'b' {
+        numbers.push(i64::from(word[offset].saturating_sub(48)))?;
+        offset += 1;
     }
     Ok(())
 }
 
-// Puts the bytes that pairs of hexadecimal digits from a place on spell behind the numbers.
+// Appends the bytes given by pairs of hexadecimal digits from `from` on.
 fn push_bytes(numbers: &mut Vec<i64>, word: &[u8], from: usize) -> Result<(), NoMemory>
     ensures { OnOk result (numbers.new.items ≡ numbers.old.items ++ spec.bytes_of (drop from word.now)) }
 {
-    let mut place = from;
-    while place < word.len() && word.len() - place >= 2 {
-        let high = u32::from(hex_value(word[place]));
-        let low = u32::from(hex_value(word[place + 1]));
+    let mut offset = from;
+    while offset < word.len() && word.len() - offset >= 2 {
+        let high = u32::from(hex_value(word[offset]));
+        let low = u32::from(hex_value(word[offset + 1]));
         numbers.push(i64::from(16 * high + low))?;
-        place += 2;
+        offset += 2;
     }
     Ok(())
 }
 
-// Puts a number behind the others, where there is one.
+// Appends the number, and says whether there is one.
 fn push_one(numbers: &mut Vec<i64>, number: Option<i64>) -> Result<bool, NoMemory>
     ensures { IfOk result (λ fits. spec.joined (Some numbers.old.items) (spec.one number) ≡ read fits numbers.new.items) }
 {
@@ -280,7 +284,7 @@ fn push_one(numbers: &mut Vec<i64>, number: Option<i64>) -> Result<bool, NoMemor
     }
 }
 
-// Puts the numbers of a word that is no whole number behind the others, where they are in range.
+// Appends the numbers of a word that isn't a whole number, and says whether they are in range.
 fn push_items(numbers: &mut Vec<i64>, kind: NumberKind, word: &[u8]) -> Result<bool, NoMemory>
     ensures { IfOk result (λ fits. spec.joined (Some numbers.old.items) (spec.items_of kind word.now) ≡ read fits numbers.new.items) }
 {
@@ -297,7 +301,8 @@ fn push_items(numbers: &mut Vec<i64>, kind: NumberKind, word: &[u8]) -> Result<b
     }
 }
 
-/// Puts the numbers of a word behind the others, where they are in the kind's range.
+/// Appends the numbers of a word, and says whether they are in the range of the kind. Where they aren't, nothing is
+/// appended.
 #[tactic(auto, unfolding(crate::specs::Numbers::numbers_as))]
 pub fn push_numbers(
     numbers: &mut Vec<i64>,

@@ -1,4 +1,4 @@
-//! Patterns of words, and the digits at their places.
+//! Patterns of words, and the numbers that digits at fixed offsets give.
 ghost use Rattle.std.specs.Prelude.{◌≡◌, ◌<◌, ◌≤◌, ◌-◌, ◌^◌, length, drop, true};
 ghost use Rattle.q_text.specs.Forms as spec;
 ghost use Rattle.q_text.specs.Numbers as numbers;
@@ -6,7 +6,7 @@ ghost use Rattle.q_text.specs.Numbers as numbers;
 use crate::words::{byte_at, is_digit};
 use jiff_core::civil::days_in_month;
 
-// Whether a byte is one that the pattern's byte stands for.
+// Whether a byte matches a byte of a pattern.
 fn fits(pattern: u8, b: u8) -> bool
     ensures { result ≡ spec.fits pattern b }
 {
@@ -17,32 +17,32 @@ fn fits(pattern: u8, b: u8) -> bool
     }
 }
 
-/// Whether the word from a place on is a front of the pattern, in which `d` stands for any digit and each other byte
-/// for itself.
+/// Whether the word from `from` on matches the start of the pattern, in which `d` matches any digit and each other byte
+/// itself.
 pub fn is_front(pattern: &[u8], word: &[u8], from: usize) -> bool
     requires { from ≤ length word.now }
     ensures { result ≡ spec.is_front pattern.now (drop from word.now) }
 {
-    let mut place = from;
+    let mut offset = from;
     let mut done = 0;
-    while place < word.len() {
-        if done >= pattern.len() || !fits(pattern[done], word[place]) {
+    while offset < word.len() {
+        if done >= pattern.len() || !fits(pattern[done], word[offset]) {
             return false;
         }
-        place += 1;
+        offset += 1;
         done += 1;
     }
     true
 }
 
-/// Whether the word is of the pattern.
+/// Whether the word matches the whole pattern.
 pub fn is_like(pattern: &[u8], word: &[u8]) -> bool
     ensures { result ≡ spec.is_like pattern.now word.now }
 {
     word.len() == pattern.len() && is_front(pattern, word, 0)
 }
 
-/// The digit at a place; 0 behind the end.
+/// The value of the digit at an offset; 0 past the end.
 pub fn digit(word: &[u8], at: usize) -> u64
     ensures value { result ≡ spec.digit word.now at }
     ensures bound { result < 256 }
@@ -50,7 +50,7 @@ pub fn digit(word: &[u8], at: usize) -> u64
     u64::from(byte_at(word, at).saturating_sub(48))
 }
 
-/// The number of two digits from a place on.
+/// The number of the two digits at `at`.
 pub fn pair(word: &[u8], at: usize) -> u64
     requires { at < 2 ^ 64 - 16 }
     ensures value { result ≡ spec.pair word.now at }
@@ -59,7 +59,7 @@ pub fn pair(word: &[u8], at: usize) -> u64
     10 * digit(word, at) + digit(word, at + 1)
 }
 
-/// The number of three digits from a place on.
+/// The number of the three digits at `at`.
 pub fn triple(word: &[u8], at: usize) -> u64
     requires { at < 2 ^ 64 - 16 }
     ensures value { result ≡ numbers.triple word.now at }
@@ -68,7 +68,7 @@ pub fn triple(word: &[u8], at: usize) -> u64
     10 * pair(word, at) + digit(word, at + 2)
 }
 
-/// The year of a date.
+/// The year of a word that begins with `yyyy.mm.dd`.
 #[tactic(auto, unfolding(crate::specs::Forms::year_of))]
 pub fn year_of(word: &[u8]) -> u64
     ensures value { result ≡ spec.year_of word.now }
@@ -77,7 +77,7 @@ pub fn year_of(word: &[u8]) -> u64
     100 * pair(word, 0) + pair(word, 2)
 }
 
-/// The month of a date.
+/// The month of a word that begins with `yyyy.mm`.
 #[tactic(auto, unfolding(crate::specs::Forms::month_of))]
 pub fn month_of(word: &[u8]) -> u64
     ensures value { result ≡ spec.month_of word.now }
@@ -86,7 +86,7 @@ pub fn month_of(word: &[u8]) -> u64
     pair(word, 5)
 }
 
-/// The day of a date.
+/// The day of a word that begins with `yyyy.mm.dd`.
 #[tactic(auto, unfolding(crate::specs::Forms::day_of))]
 pub fn day_of(word: &[u8]) -> u64
     ensures value { result ≡ spec.day_of word.now }
@@ -114,7 +114,7 @@ fn month_length(word: &[u8]) -> u64
     u64::from(days_in_month(year, month))
 }
 
-/// Whether the civil calendar has the date.
+/// Whether the civil calendar has the date that the word begins with.
 pub fn is_civil(word: &[u8]) -> bool
     ensures { result ≡ spec.is_civil word.now }
 {
@@ -125,7 +125,7 @@ pub fn is_civil(word: &[u8]) -> bool
     1 <= day && day <= month_length(word)
 }
 
-/// Whether the hours from a place on are at most so many, and the minutes and seconds behind them at most 59.
+/// Whether the hours at `at` are at most `most`, and the minutes and seconds after them at most 59.
 #[tactic(auto, unfolding(crate::specs::Forms::is_clock))]
 pub fn is_clock(most: u64, word: &[u8], at: usize) -> bool
     requires { at < 2 ^ 64 - 64 }
@@ -134,7 +134,7 @@ pub fn is_clock(most: u64, word: &[u8], at: usize) -> bool
     pair(word, at) <= most && (pair(word, at + 3) <= 59 && pair(word, at + 6) <= 59)
 }
 
-/// Whether a clock may have so many bytes from its `D` on.
+/// Whether a clock may have `len` bytes from its `D` on.
 pub fn is_clock_length(len: usize) -> bool
     ensures { result ≡ spec.is_clock_length len }
 {

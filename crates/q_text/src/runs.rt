@@ -1,71 +1,40 @@
-//! Runs: words of one form, with blanks between them.
+//! Runs: words of one form with blanks between them, which are one literal.
 ghost use Rattle.std.specs.Prelude.{◌≡◌, ◌<◌, ◌≤◌, length, IfSome};
 ghost use Rattle.q_text.specs.Runs as spec;
 
 use crate::forms::{Form, form_of};
 use crate::kinds::NumberKind;
-use crate::words::{Class, begins_word, behind, word_at, word_end};
-use q_values::{IntegerKind, LongKind};
+use crate::words::{Class, begins_word, span_end, word_at, word_end};
+use q_values::LongKind;
 
-/// Words that follow others: how many, and the place behind the last of them.
+/// Words that follow another.
 #[derive(Clone, Copy)]
 pub struct Extent {
+    /// The number of words.
     pub count: usize,
+    /// The offset just past the last of them.
     pub end: usize,
 }
 
-/// A run: the kind of its values, the number of its words, and the place behind the last of them.
+/// A run of words.
 #[derive(Clone, Copy)]
 pub struct Run {
+    /// The kind of its numbers.
     pub kind: NumberKind,
+    /// The number of its words.
     pub count: usize,
+    /// The offset just past its last word.
     pub end: usize,
 }
 
-fn integer_type(kind: IntegerKind) -> u8
-    ensures { result ≡ spec.integer_type kind }
-{
-    match kind {
-        IntegerKind::Integer => 6,
-        IntegerKind::Month => 13,
-        IntegerKind::Date => 14,
-        IntegerKind::Minute => 17,
-        IntegerKind::Second => 18,
-        IntegerKind::Time => 19,
-    }
-}
-
-fn long_type(kind: LongKind) -> u8
-    ensures { result ≡ spec.long_type kind }
-{
-    match kind {
-        LongKind::Long => 7,
-        LongKind::Timestamp => 12,
-        LongKind::Timespan => 16,
-    }
-}
-
-// The type number of a kind.
-fn type_of(kind: NumberKind) -> u8
-    ensures { result ≡ spec.type_of kind }
-{
-    match kind {
-        NumberKind::Boolean => 1,
-        NumberKind::Byte => 4,
-        NumberKind::Short => 5,
-        NumberKind::Integers(kind) => integer_type(kind),
-        NumberKind::Longs(kind) => long_type(kind),
-    }
-}
-
-// Whether a run of the form goes on with a word of the other.
+// Whether a word of the second form continues a run of the first.
 fn goes_on(form: Form, other: Form) -> bool
     ensures { result ≡ spec.goes_on form other }
 {
     match (form, other) {
         (Form::Whole, Form::Whole) => true,
-        (Form::Special(kind), Form::Special(more)) => type_of(kind) == type_of(more),
-        (Form::Item(kind), Form::Item(more)) => type_of(kind) == type_of(more),
+        (Form::Special(kind), Form::Special(more)) => kind == more,
+        (Form::Item(kind), Form::Item(more)) => kind == more,
         _ => false,
     }
 }
@@ -79,41 +48,41 @@ fn goes_on_with(form: Form, next: Option<Form>) -> bool
     }
 }
 
-/// The place behind the blanks that follow a place.
-pub fn next_place(text: &[u8], end: usize) -> usize
+/// The offset past any blanks at `end`.
+pub fn next_start(text: &[u8], end: usize) -> usize
     requires { end ≤ length text.now }
-    ensures value { result ≡ spec.next_place text.now end }
+    ensures value { result ≡ spec.next_start text.now end }
     ensures forward { end ≤ result }
     ensures within { result ≤ length text.now }
 {
-    behind(Class::Blank, text, end)
+    span_end(Class::Blank, text, end)
 }
 
-// The place behind the word that follows a place and blanks.
+// The offset just past the word that follows `end` and blanks.
 fn next_end(text: &[u8], end: usize) -> usize
     requires { end ≤ length text.now }
     ensures value { result ≡ spec.next_end text.now end }
     ensures forward { end ≤ result }
     ensures within { result ≤ length text.now }
 {
-    word_end(text, next_place(text, end))
+    word_end(text, next_start(text, end))
 }
 
-// The form of the word that follows a place and blanks, if there is one.
+// The form of the word that follows `end` and at least one blank, if there is one.
 #[tactic(auto, unfolding(crate::specs::Runs::next_form))]
 fn next_form(text: &[u8], end: usize) -> Option<Form>
     requires { end ≤ length text.now }
     ensures { result ≡ spec.next_form text.now end }
 {
-    let place = next_place(text, end);
-    if end < place && begins_word(text, place) {
-        form_of(word_at(text, place))
+    let offset = next_start(text, end);
+    if end < offset && begins_word(text, offset) {
+        form_of(word_at(text, offset))
     } else {
         None
     }
 }
 
-// The words of the form that follow a place, at most as many as the text has bytes.
+// The words after `end` that continue a run of the form.
 fn followers(form: Form, text: &[u8], end: usize) -> Extent
     requires { end ≤ length text.now }
     ensures value { result ≡ spec.followers (length text.now) form text.now end }
@@ -140,7 +109,7 @@ fn is_whole(form: Option<Form>) -> bool
     }
 }
 
-// The run of whole numbers with these words behind the first: the suffix stands behind the last only.
+// The run of whole numbers whose first word is followed by these: only its last word may have a suffix.
 fn whole_run(text: &[u8], plain: Extent) -> Run
     requires within { plain.end ≤ length text.now }
     requires bound { plain.count ≤ length text.now }
@@ -163,7 +132,7 @@ fn whole_run(text: &[u8], plain: Extent) -> Run
     }
 }
 
-// The run of words of one form with these behind the first.
+// The run of words of one form whose first word is followed by these.
 fn plain_run(kind: NumberKind, more: Extent) -> Run
     requires { more.count < 9223372036854775808 }
     ensures { result ≡ spec.plain_run kind more }
@@ -175,7 +144,7 @@ fn plain_run(kind: NumberKind, more: Extent) -> Run
     }
 }
 
-/// The run that begins with a word of the form, which ends at a place.
+/// The run whose first word has this form and ends at `end`. `None` where a whole number follows a suffix.
 #[tactic(auto, unfolding(crate::specs::Runs::run_of))]
 pub fn run_of(form: Form, text: &[u8], end: usize) -> Option<Run>
     requires { end ≤ length text.now }

@@ -1,4 +1,4 @@
-//! Text in quotes.
+//! Text in quotes, with its escapes.
 ghost use Rattle.std.specs.Prelude.{◌≡◌, ◌≤◌, length, drop, map, IfOk, IfSome, false};
 ghost use Rattle.q_values.specs.declared.kind.Kind.TheVariants as k;
 ghost use Rattle.q_values.specs.declared.atom.Atom.TheVariants as a;
@@ -10,14 +10,16 @@ use crate::columns::value_of;
 use q_values::{ByteKind, Column, NoMemory, Value, Vector};
 use std::alloc::Global;
 
-/// The bytes of a text, and the place behind its closing quote.
+/// A text in quotes.
 #[derive(Drop)]
 pub struct Quoted {
+    /// The bytes it stands for, with escapes replaced.
     pub bytes: Vec<u8>,
+    /// The offset just past its closing quote.
     pub end: usize,
 }
 
-// What a byte behind a backslash stands for.
+// The byte that a backslash followed by this byte stands for.
 fn escape(b: u8) -> Option<u8>
     ensures { result ≡ spec.escape b }
 {
@@ -30,7 +32,8 @@ fn escape(b: u8) -> Option<u8>
     }
 }
 
-/// The text from a place behind an opening quote on, or nothing where it is at fault.
+/// The text whose opening quote is just before `from`. `None` where the text ends before a closing quote, or an escape is
+/// unknown.
 pub fn quoted_at(alloc: Global, text: &[u8], from: usize) -> Result<Option<Quoted>, NoMemory>
     requires { from ≤ length text.now }
     ensures value { IfOk result (spec.IsQuoted from (spec.quoted false (drop from text.now))) }
@@ -38,10 +41,10 @@ pub fn quoted_at(alloc: Global, text: &[u8], from: usize) -> Result<Option<Quote
 {
     let mut bytes = Vec::new(alloc);
     let mut escaped = false;
-    let mut place = from;
-    while place < text.len() {
-        let b = text[place];
-        place += 1;
+    let mut offset = from;
+    while offset < text.len() {
+        let b = text[offset];
+        offset += 1;
         if escaped {
             match escape(b) {
                 Some(meant) => bytes.push(meant)?,
@@ -49,7 +52,7 @@ pub fn quoted_at(alloc: Global, text: &[u8], from: usize) -> Result<Option<Quote
             }
             escaped = false;
         } else if b == b'"' {
-            return Ok(Some(Quoted { bytes, end: place }));
+            return Ok(Some(Quoted { bytes, end: offset }));
         } else if b == b'\\' {
             escaped = true;
         } else {
@@ -59,10 +62,13 @@ pub fn quoted_at(alloc: Global, text: &[u8], from: usize) -> Result<Option<Quote
     Ok(None)
 }
 
-/// The value of a text.
+/// The value of a text: one character is an atom, any other number of them a vector.
 pub fn characters_of(alloc: Global, bytes: Vec<u8>) -> Result<Value, NoMemory>
     ensures { IfOk result (λ value. tree value
         ≡ valued (record { kind = k.Character; atoms = map (λ b. a.Character b) bytes.items })) }
 {
-    value_of(alloc, Vector::from_column(Column::Bytes(ByteKind::Character, bytes)))
+    value_of(
+        alloc,
+        Vector::from_column(Column::Bytes(ByteKind::Character, bytes)),
+    )
 }

@@ -7,26 +7,26 @@ ghost use Rattle.q_text.specs.Symbols.{names};
 ghost use Rattle.q_text.specs.Numbers.{valued};
 
 use crate::columns::value_of;
-use crate::words::{Class, behind, byte_at};
+use crate::words::{Class, byte_at, span_end};
 use q_values::{Column, NoMemory, Symbols, Value, Vector};
-use std::alloc::{AllocError, Global};
+use std::alloc::Global;
 
-// Puts the names of the symbol literal at a place behind others.
-fn push_names(found: &mut Symbols, text: &[u8], at: usize) -> Result<(), AllocError>
+// Appends the names of the symbol literal that begins at `at`.
+fn push_names(found: &mut Symbols, text: &[u8], at: usize) -> Result<(), NoMemory>
     requires within { at < length text.now }
     requires tick { slice_index text.now at ≡ 96 }
     ensures { OnOk result (found.new ≡ found.old ++ names (drop at text.now)) }
 {
-    let mut place = at;
-    while byte_at(text, place) == b'`' {
-        let end = behind(Class::Symbol, text, place + 1);
-        found.push(&text[place + 1..end])?;
-        place = end;
+    let mut offset = at;
+    while byte_at(text, offset) == b'`' {
+        let end = span_end(Class::Symbol, text, offset + 1);
+        found.push(&text[offset + 1..end])?;
+        offset = end;
     }
     Ok(())
 }
 
-/// The value of the symbol literal at a place.
+/// The value of the symbol literal that begins at `at`: one name is an atom, several are a vector.
 pub fn symbols_of(alloc: Global, text: &[u8], at: usize) -> Result<Value, NoMemory>
     requires within { at < length text.now }
     requires tick { slice_index text.now at ≡ 96 }

@@ -1,9 +1,9 @@
-//! The bytes of a text: classes, words, and where a literal begins.
+//! The bytes of a text: classes of bytes, words, and where a literal begins.
 ghost use Rattle.std.specs.Prelude.{◌≡◌, ◌<◌, ◌≤◌, ◌+◌, ◌&&◌, length, drop, take, slice_index, true, false};
 ghost use Rattle.std.specs.Str.{bytes_eq};
 ghost use Rattle.q_text.specs.Words as spec;
 
-/// What a byte is to a literal.
+/// A class of bytes.
 #[derive(Clone, Copy)]
 pub enum Class {
     /// Space, tab, newline or carriage return.
@@ -14,15 +14,16 @@ pub enum Class {
     Hex,
     /// 0 or 1.
     Bit,
-    /// What a word takes: letters, digits, `.` and `:`.
+    /// The bytes of a word: letters, digits, `.` and `:`.
     Word,
-    /// What a symbol takes: the same and `_`.
+    /// The bytes of a symbol: those of a word and `_`.
     Symbol,
-    /// The same and the backtick: what symbols without blanks between them take.
+    /// The bytes of several symbols in a row: those of a symbol and the backtick.
     Symbols,
 }
 
-fn is_letter(b: u8) -> bool
+/// Whether the byte is one of A to Z or a to z.
+pub fn is_letter(b: u8) -> bool
     ensures { result ≡ spec.is_letter b }
 {
     (b'A' <= b && b <= b'Z') || (b'a' <= b && b <= b'z')
@@ -41,7 +42,8 @@ fn is_hex(b: u8) -> bool
     is_digit(b) || ((b'A' <= b && b <= b'F') || (b'a' <= b && b <= b'f'))
 }
 
-fn is_blank(b: u8) -> bool
+/// Whether the byte is a space, a tab, a newline or a carriage return.
+pub fn is_blank(b: u8) -> bool
     ensures { result ≡ spec.is_blank b }
 {
     (b == b' ' || b == b'\t') || (b == b'\n' || b == b'\r')
@@ -75,7 +77,7 @@ impl Class {
     }
 }
 
-/// The byte at a place; 0 behind the end.
+/// The byte at an offset; 0 past the end.
 pub fn byte_at(text: &[u8], at: usize) -> u8
     ensures { result ≡ slice_index text.now at }
 {
@@ -89,21 +91,21 @@ pub fn is_same(some: &[u8], other: &[u8]) -> bool
     some == other
 }
 
-/// The place behind the bytes of the class that stand at a place.
-pub fn behind(class: Class, text: &[u8], at: usize) -> usize
+/// The offset just past the bytes of the class that begin at `at`.
+pub fn span_end(class: Class, text: &[u8], at: usize) -> usize
     requires { at ≤ length text.now }
-    ensures value { result ≡ spec.behind class text.now at }
+    ensures value { result ≡ spec.span_end class text.now at }
     ensures forward { at ≤ result }
     ensures within { result ≤ length text.now }
 {
-    let mut place = at;
-    while place < text.len() && class.has(text[place]) {
-        place += 1;
+    let mut offset = at;
+    while offset < text.len() && class.has(text[offset]) {
+        offset += 1;
     }
-    place
+    offset
 }
 
-/// Whether a digit, or `-` directly before a digit, stands at a place.
+/// Whether the bytes at `at` are a digit, or `-` and a digit.
 pub fn begins_word(text: &[u8], at: usize) -> bool
     requires { at ≤ length text.now }
     ensures value { result ≡ spec.begins_word text.now at }
@@ -112,7 +114,7 @@ pub fn begins_word(text: &[u8], at: usize) -> bool
     at < text.len() && (is_digit(text[at]) || (text[at] == b'-' && is_digit(byte_at(text, at + 1))))
 }
 
-/// The place behind the word that begins at a place.
+/// The offset just past the word that begins at `at`.
 pub fn word_end(text: &[u8], at: usize) -> usize
     requires { at ≤ length text.now }
     ensures value { result ≡ spec.word_end text.now at }
@@ -121,13 +123,13 @@ pub fn word_end(text: &[u8], at: usize) -> usize
     ensures within { result ≤ length text.now }
 {
     if at < text.len() && text[at] == b'-' {
-        behind(Class::Word, text, at + 1)
+        span_end(Class::Word, text, at + 1)
     } else {
-        behind(Class::Word, text, at)
+        span_end(Class::Word, text, at)
     }
 }
 
-/// The word that begins at a place.
+/// The word that begins at `at`.
 pub fn word_at(text: &[u8], at: usize) -> &[u8]
     requires { at ≤ length text.now }
     ensures { result.now ≡ spec.word_at text.now at }
@@ -136,29 +138,30 @@ pub fn word_at(text: &[u8], at: usize) -> &[u8]
     &text[at..end]
 }
 
+// Whether `-` is a verb after this byte.
 fn ends_operand(b: u8) -> bool
     ensures { result ≡ spec.ends_operand b }
 {
     (is_letter(b) || is_digit(b)) || ((b == b'_' || b == b')') || (b == b']' || b == b'"'))
 }
 
-// Whether the byte before the place belongs to a symbol literal. The walk back ends at the first byte that no symbol
-// takes, so that texts with many signs are walked over once.
+// Whether the byte before `at` belongs to a symbol literal. The walk back ends at the first byte that isn't part of a
+// symbol, so a text with many signs is walked over once.
 fn ends_symbol(text: &[u8], at: usize) -> bool
     requires { at ≤ length text.now }
     ensures { result ≡ spec.in_symbol false (take at text.now) }
 {
-    let mut place = at;
-    while place > 0 && is_symbol(text[place - 1]) {
-        place -= 1;
+    let mut offset = at;
+    while offset > 0 && is_symbol(text[offset - 1]) {
+        offset -= 1;
     }
-    place > 0 && text[place - 1] == b'`'
+    offset > 0 && text[offset - 1] == b'`'
 }
 
-/// Whether the byte before the place ends what a `-` there would take away from.
-pub fn is_behind_operand(text: &[u8], at: usize) -> bool
+/// Whether a `-` at `at` is a verb, since the byte before it ends an operand.
+pub fn follows_operand(text: &[u8], at: usize) -> bool
     requires { at ≤ length text.now }
-    ensures { result ≡ spec.is_behind_operand text.now at }
+    ensures { result ≡ spec.follows_operand text.now at }
 {
     at > 0 && (ends_operand(text[at - 1]) || ends_symbol(text, at))
 }

@@ -2,24 +2,24 @@
 use Rattle.std.proofs.Common.{◌≡◌, ℕ, List, [], ◌∷◌, ◌++◌, Option, Some, None, Result, Ok, Err, refl, sym, ap, ◌∙◌, append_assoc}
 use Rattle.qsql_request.specs.Forms.{RequestForm}
 use Rattle.qsql_tokens.specs.Tokens.{Token, Placed, only_tokens}
-use Rattle.qsql_parse.specs.Grammar.{IsRequest, GoesOn, IsStuck, IsFault, place_of}
+use Rattle.qsql_parse.specs.Grammar.{IsRequest, GoesOn, IsStuck, IsFault, offset_of}
 use Rattle.qsql_parse.specs.Machine.{StateForm, start, step, whole, then_read, after, run}
 use Rattle.qsql_parse.specs.Reading.{reading, ended_at, goes_from}
 use Rattle.qsql_parse.proofs.Complete.{request-read}
 use Rattle.qsql_parse.proofs.Sound.{request-sound}
 use Rattle.qsql_parse.proofs.Live.{Live, live}
 
-no-fault : {X : Type 0} (found : Result RequestForm ℕ) (r : RequestForm) (place : ℕ) → found ≡ Err place → found ≡ Ok r → X
-no-fault found r place h more = absurd (apart h more)
+no-fault : {X : Type 0} (found : Result RequestForm ℕ) (r : RequestForm) (offset : ℕ) → found ≡ Err offset → found ≡ Ok r → X
+no-fault found r offset h more = absurd (apart h more)
   where
-    apart : found ≡ Err place → found ≡ Ok r → ⊥
+    apart : found ≡ Err offset → found ≡ Ok r → ⊥
     apart e f = cc
 
 same-request : (found : Result RequestForm ℕ) (r other : RequestForm) → found ≡ Ok r → found ≡ Ok other → Some r ≡ Some other
 same-request found r other h more = cc
 
-same-place : (found : Result RequestForm ℕ) (place other : ℕ) → found ≡ Err place → found ≡ Err other → other ≡ place
-same-place found place other h more = cc
+same-offset : (found : Result RequestForm ℕ) (offset other : ℕ) → found ≡ Err offset → found ≡ Err other → other ≡ offset
+same-offset found offset other h more = cc
 
 reading-ok : (placed : List Placed) (s : StateForm) (end : ℕ) (r : RequestForm) → reading s placed end ≡ Ok r → run s (only_tokens placed) ≡ Some r
 reading-ok [] s end r h = ended (whole s) h
@@ -39,27 +39,27 @@ StuckAt s [] = whole s ≡ None
 StuckAt s (t ∷ ts) = step s t ≡ None
 
 -- where reading stops
-record Stuck (s : StateForm) (placed : List Placed) (end place : ℕ) : Type 0 where
+record Stuck (s : StateForm) (placed : List Placed) (end offset : ℕ) : Type 0 where
   before : List Placed
-  behind : List Placed
+  left : List Placed
   next : StateForm
-  parts : placed ≡ before ++ behind
-  stands : place ≡ place_of behind end
+  parts : placed ≡ before ++ left
+  stands : offset ≡ offset_of left end
   reached : after s (only_tokens before) ≡ Some next
-  stuck : StuckAt next (only_tokens behind)
+  stuck : StuckAt next (only_tokens left)
 
-reading-err : (placed : List Placed) (s : StateForm) (end place : ℕ) → reading s placed end ≡ Err place → Stuck s placed end place
-reading-err [] s end place h = ended (whole s) refl h
+reading-err : (placed : List Placed) (s : StateForm) (end offset : ℕ) → reading s placed end ≡ Err offset → Stuck s placed end offset
+reading-err [] s end offset h = ended (whole s) refl h
   where
-    ended : (found : Option RequestForm) → whole s ≡ found → ended_at end found ≡ Err place → Stuck s [] end place
-    ended None is e = record { before = []; behind = []; next = s; parts = refl; stands = same-place (Err end) end place refl e; reached = refl; stuck = is }
-    ended (Some other) is e = no-fault (Ok other) other place e refl
-reading-err (p ∷ placed) s end place h = on (λ (next : StateForm) (e : reading next placed end ≡ Err place). reading-err placed next end place e) (step s p.token) refl h
+    ended : (found : Option RequestForm) → whole s ≡ found → ended_at end found ≡ Err offset → Stuck s [] end offset
+    ended None is e = record { before = []; left = []; next = s; parts = refl; stands = same-offset (Err end) end offset refl e; reached = refl; stuck = is }
+    ended (Some other) is e = no-fault (Ok other) other offset e refl
+reading-err (p ∷ placed) s end offset h = on (λ (next : StateForm) (e : reading next placed end ≡ Err offset). reading-err placed next end offset e) (step s p.token) refl h
   where
-    further : (next : StateForm) → step s p.token ≡ Some next → Stuck next placed end place → Stuck s (p ∷ placed) end place
+    further : (next : StateForm) → step s p.token ≡ Some next → Stuck next placed end offset → Stuck s (p ∷ placed) end offset
     further next is found = record {
       before = p ∷ found.before;
-      behind = found.behind;
+      left = found.left;
       next = found.next;
       parts = ap (λ ps. p ∷ ps) found.parts;
       stands = found.stands;
@@ -67,9 +67,9 @@ reading-err (p ∷ placed) s end place h = on (λ (next : StateForm) (e : readin
       stuck = found.stuck;
     }
 
-    on : ((next : StateForm) → reading next placed end ≡ Err place → Stuck next placed end place)
-        → (found : Option StateForm) → step s p.token ≡ found → goes_from p.place found (λ next. reading next placed end) ≡ Err place → Stuck s (p ∷ placed) end place
-    on more None is e = record { before = []; behind = p ∷ placed; next = s; parts = refl; stands = same-place (Err p.place) p.place place refl e; reached = refl; stuck = is }
+    on : ((next : StateForm) → reading next placed end ≡ Err offset → Stuck next placed end offset)
+        → (found : Option StateForm) → step s p.token ≡ found → goes_from p.place found (λ next. reading next placed end) ≡ Err offset → Stuck s (p ∷ placed) end offset
+    on more None is e = record { before = []; left = p ∷ placed; next = s; parts = refl; stands = same-offset (Err p.place) p.place offset refl e; reached = refl; stuck = is }
     on more (Some next) is e = further next is (more next e)
 
 some-state : (s other : StateForm) → Some s ≡ Some other → s ≡ other
@@ -103,12 +103,12 @@ goes-on ts next h = found (live next)
     found : Live next → GoesOn ts
     found (rest, r, more) = (rest, r, request-sound (ts ++ rest) r (run-after ts start next rest h ∙ more))
 
-is-stuck : (before behind : List Token) (next : StateForm) → after start before ≡ Some next → StuckAt next behind → IsStuck before behind
+is-stuck : (before left : List Token) (next : StateForm) → after start before ≡ Some next → StuckAt next left → IsStuck before left
 is-stuck before [] next h stuck = refused
   where
     refused : (r : RequestForm) → IsRequest before r → ⊥
     refused r request = none-request r (sym stuck ∙ (sym (run-after before start next [] h) ∙ (ap (λ ts. run start ts) (append-nil before) ∙ request-read request)))
-is-stuck before (t ∷ behind) next h stuck = refused
+is-stuck before (t ∷ left) next h stuck = refused
   where
     none : (rest : List Token) → run next (t ∷ rest) ≡ None
     none rest = rw stuck refl
@@ -122,6 +122,6 @@ pub reading-request : (placed : List Placed) (end : ℕ) (r : RequestForm) → r
 reading-request placed end r h = request-sound (only_tokens placed) r (reading-ok placed start end r h)
 
 -- where reading stops no request goes on
-pub reading-fault : (placed : List Placed) (end place : ℕ) → reading start placed end ≡ Err place → IsFault placed end place
-reading-fault placed end place h = let s = reading-err placed start end place h in
-    (s.before, s.behind, s.parts, s.stands, goes-on (only_tokens s.before) s.next s.reached, is-stuck (only_tokens s.before) (only_tokens s.behind) s.next s.reached s.stuck)
+pub reading-fault : (placed : List Placed) (end offset : ℕ) → reading start placed end ≡ Err offset → IsFault placed end offset
+reading-fault placed end offset h = let s = reading-err placed start end offset h in
+    (s.before, s.left, s.parts, s.stands, goes-on (only_tokens s.before) s.next s.reached, is-stuck (only_tokens s.before) (only_tokens s.left) s.next s.reached s.stuck)

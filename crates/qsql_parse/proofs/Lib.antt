@@ -1,5 +1,8 @@
 pub mod Columns
 pub mod Complete
+pub mod Leads
+pub mod QuerySteps
+pub mod OuterSteps
 pub mod Sound
 pub mod Live
 pub mod Faults

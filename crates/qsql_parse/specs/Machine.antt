@@ -1,4 +1,4 @@
--- The reader of requests, a token at a time: what has been read, and what is wanted next.
+-- The reader of requests, one token at a time: what has been read, and what is expected next.
 use Rattle.std.specs.Prelude.{ℕ, ℤ, ◌&&◌, not, if◌then◌else◌, Bool, true, false, List, [], ◌∷◌, ◌++◌, map, Option, Some, None}
 use Rattle.q_values.specs.Tree.{Tree, atom, vector}
 use Rattle.q_values.specs.Atom.{kind_of}
@@ -10,7 +10,8 @@ use Rattle.q_verbs.specs.declared.verb.Verb1.{Verb1}
 use Rattle.qsql_tokens.specs.declared.token.Word.{Word}
 use Rattle.qsql_tokens.specs.declared.token.Word.TheVariants as w
 use Rattle.qsql_tokens.specs.declared.token.Mark.TheVariants as m
-use Rattle.qsql_request.specs.Forms.{Form, constant, column, one, two, ColumnForm, QueryForm, SourceForm, all_of, rows_of, SubForm, RequestForm, query_form, aj_form, count_form, day_form, sub_form}
+use Rattle.qsql_request.specs.Forms.{Form, constant, column, one, two, ColumnForm, QueryForm, SourceForm, all_of, rows_of, SubForm, RequestForm}
+use Rattle.qsql_request.specs.Forms.{query_form, aj_form, count_form, day_form, sub_form}
 use Rattle.qsql_tokens.specs.Tokens.{Token, number, literal, name, monad, sign, dyad, word, mark}
 use Rattle.qsql_tokens.specs.Parts.{name_of, number_of, verb_of, word_of, is_mark}
 use Rattle.qsql_parse.specs.Grammar.{symbol_of, is_null_symbol}
@@ -22,23 +23,23 @@ pub record DraftForm : Type 0 where
   pub columns : List ColumnForm
   pub by : List ColumnForm
 
--- the side of an as-of join, with what stands before it
+-- the side of an as-of join, with what precedes it
 pub data SideForm : Type 0 where
   to_left : List (List ℕ) → SideForm
   to_right : List (List ℕ) → SourceForm → SideForm
 
--- what a query stands in
+-- what a query is part of
 pub data OuterForm : Type 0 where
   alone : OuterForm
   bare : SideForm → OuterForm
   bracketed : SideForm → OuterForm
 
--- what a whole expression stands in: a column's, or a phrase
+-- what a whole expression is part of: a column or a phrase
 pub data BaseForm : Type 0 where
   of_column : OuterForm → DraftForm → Bool → Option (List ℕ) → BaseForm
   of_phrase : OuterForm → QueryForm → BaseForm
 
--- what an expression stands in, the innermost first
+-- what an expression is part of, innermost first
 pub data StackForm : Type 0 where
   base : BaseForm → StackForm
   right_of : Verb → Form → StackForm → StackForm
@@ -115,7 +116,7 @@ abbrev pub found_or : {X Y : Type 0} → Option X → (X → Option Y) → Optio
 found_or (Some x) f other = f x
 found_or None f other = other
 
--- a draft with a column more, behind `by` or before it
+-- a draft with one more column, after `by` or before it
 abbrev pub grown : DraftForm → Bool → Option (List ℕ) → Form → DraftForm
 grown d true n e = record { exec = d.exec; first = d.first; columns = d.columns; by = d.by ++ record { name = n; expr = e } ∷ [] }
 grown d false n e = record { exec = d.exec; first = d.first; columns = d.columns ++ record { name = n; expr = e } ∷ []; by = d.by }
@@ -129,18 +130,18 @@ with_phrase q e = record { exec = q.exec; first = q.first; columns = q.columns; 
 abbrev pub fresh : Bool → Option ℤ → DraftForm
 fresh exec first = record { exec = exec; first = first; columns = []; by = [] }
 
--- behind a source
+-- after a source
 abbrev pub step_source : SideForm → SourceForm → Token → Option StateForm
 step_source (to_left keys) s t = when (is_mark m.Semicolon t) (source_wanted (to_right keys s))
 step_source (to_right keys l) s t = when (is_mark m.Close t) (done (aj_form (record { keys = keys; left = l; right = s })))
 
--- behind a query that may end here
+-- after a query that may end here
 abbrev pub step_end : OuterForm → QueryForm → Token → Option StateForm
 step_end alone q t = None
 step_end (bare side) q t = step_source side (rows_of q) t
 step_end (bracketed side) q t = when (is_mark m.Right t) (source_read side (rows_of q))
 
--- behind columns
+-- after columns
 abbrev pub step_columns : OuterForm → DraftForm → Bool → Token → Option StateForm
 step_columns o d g t = if is_from (word_of t) then Some (table_wanted o d) else when (is_by (word_of t) && not g) (column_wanted o d true)
 
@@ -148,7 +149,7 @@ abbrev pub step_base : BaseForm → Form → Token → Option StateForm
 step_base (of_column o d g n) e t = if is_mark m.Comma t then Some (column_wanted o (grown d g n e) g) else step_columns o (grown d g n e) g t
 step_base (of_phrase o q) e t = if is_mark m.Comma t then Some (wanted (base (of_phrase o (with_phrase q e)))) else step_end o (with_phrase q e) t
 
--- behind an expression that ends here
+-- after an expression that ends here
 abbrev pub step_close : StackForm → Form → Token → Option StateForm
 step_close (base b) e t = step_base b e t
 step_close (right_of v l k) e t = step_close k (two v l e) t
@@ -158,7 +159,7 @@ step_close (applied u k) e t = when (is_mark m.Close t) (got (one u e) k)
 step_close (first_of_two v k) e t = when (is_mark m.Semicolon t) (wanted (second_of_two v e k))
 step_close (second_of_two v l k) e t = when (is_mark m.Close t) (got (two v l e) k)
 
--- behind a term
+-- after a term
 abbrev pub step_got : Form → StackForm → Token → Option StateForm
 step_got e k t = found_or (verb_of t) (λ v. Some (wanted (right_of v e k))) (step_close k e t)
 
@@ -216,7 +217,7 @@ step_side side t = found_or (name_of t) (λ n. Some (source_read side (all_of n)
 abbrev pub sub_with : List (List ℕ) → Bool → List (List ℕ) → StateForm
 sub_with tables all names = names_read (record { tables = tables; all = all; names = names })
 
--- what is read and wanted behind a token more, None where no request goes on so
+-- the state after one more token, or None where no request continues with it
 abbrev pub step : StateForm → Token → Option StateForm
 step start t = found_or (word_of t) start_with None
 step (verb_read o x) t = step_verb o x t
@@ -269,12 +270,12 @@ abbrev pub then_read : {X : Type 0} → Option StateForm → (StateForm → Opti
 then_read None more = None
 then_read (Some next) more = more next
 
--- behind tokens more
+-- the state after more tokens
 abbrev pub after : StateForm → List Token → Option StateForm
 after s [] = Some s
 after s (t ∷ ts) = then_read (step s t) (λ next. after next ts)
 
--- the request that the tokens go on to
+-- the request that the tokens lead to
 abbrev pub run : StateForm → List Token → Option RequestForm
 run s [] = whole s
 run s (t ∷ ts) = then_read (step s t) (λ next. run next ts)

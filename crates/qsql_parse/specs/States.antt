@@ -1,7 +1,11 @@
--- What the reader's types say.
+-- The states of the reader as contracts see them.
 use Rattle.std.specs.Prelude.{◌≡◌, Option, Some, None, Result, Ok, Err, map}
 use Rattle.qsql_request.specs.Views.{form, column_form, query_of, source_of, sub_of, request_of}
-use Rattle.qsql_parse.specs.Machine.{DraftForm, SideForm, to_left, to_right, OuterForm, alone, bare, bracketed, BaseForm, of_column, of_phrase, StackForm, base, right_of, under, in_brackets, applied, first_of_two, second_of_two, StateForm, start, verb_read, number_wanted, number_read, columns_wanted, column_wanted, name_read, wanted, monad_read, dyad_read, got, table_wanted, table_read, aj_read, keys_wanted, keys_read, source_wanted, query_wanted, source_read, sub_read, tables_wanted, tables_read, names_wanted, names_read, done, whole}
+use Rattle.qsql_parse.specs.Machine.{DraftForm, SideForm, to_left, to_right, OuterForm, alone, bare, bracketed, BaseForm, of_column, of_phrase}
+use Rattle.qsql_parse.specs.Machine.{StackForm, base, right_of, under, in_brackets, applied, first_of_two, second_of_two, StateForm, start}
+use Rattle.qsql_parse.specs.Machine.{verb_read, number_wanted, number_read, columns_wanted, column_wanted, name_read, wanted, monad_read, dyad_read}
+use Rattle.qsql_parse.specs.Machine.{got, table_wanted, table_read, aj_read, keys_wanted, keys_read, source_wanted, query_wanted, source_read}
+use Rattle.qsql_parse.specs.Machine.{sub_read, tables_wanted, tables_read, names_wanted, names_read, done, whole}
 use Rattle.qsql_request.specs.declared.request.Expr.{Expr}
 use Rattle.qsql_parse.specs.declared.state.Draft.{Draft}
 use Rattle.qsql_parse.specs.declared.state.Side.{Side}
@@ -98,7 +102,7 @@ state_of (s.InJoin state) = join_state_of state
 state_of (s.InSub state) = sub_state_of state
 state_of (s.Done request) = done (request_of request)
 
--- what a function returned, seen by view, is what the definition has; want of memory aside
+-- what a function returned, seen by view, is what the definition gives, unless memory ran out
 abbrev pub Stops : {Y : Type 0} → Stop → Option Y → Type 0
 Stops e.Here found = found ≡ None
 Stops e.NoMemory found = Unit {0}

@@ -7,37 +7,44 @@ ghost use Rattle.qsql_request.specs.Views.{form};
 ghost use Rattle.qsql_parse.specs.Machine.{got, step_close, step_got, step_wanted, step_monad};
 ghost use Rattle.qsql_tokens.specs.Tokens;
 
-use crate::outer_steps::at_sign;
-use crate::query_steps::behind_base;
+use crate::outer_steps::expect_mark;
+use crate::query_steps::after_base;
 use crate::refusal::Stop;
 use crate::state::{ExpressionState, Stack, State};
-use q_values::{Atom, Value};
+use q_values::{Atom, NoMemory, Value};
 use q_verbs::{Verb, Verb1};
 use qsql_request::Expr;
 use qsql_tokens::{Mark, Token};
-use std::alloc::{AllocError, Global};
+use std::alloc::Global;
 
-fn one_of(alloc: Global, verb: Verb1, side: Expr) -> Result<Expr, AllocError>
+/// The value in a box of its own.
+pub fn boxed<T: Drop>(alloc: Global, value: T) -> Result<Box<T>, NoMemory>
+    ensures { IfOk result (λ boxed. boxed.value ≡ value) }
+{
+    Ok(Box::new(alloc, value)?)
+}
+
+fn one_of(alloc: Global, verb: Verb1, side: Expr) -> Result<Expr, NoMemory>
     ensures { IfOk result (λ expr. form expr ≡ one verb (form side)) }
 {
     Ok(Expr::One(verb, Box::new(alloc, side)?))
 }
 
-fn two_of(alloc: Global, verb: Verb, left: Expr, right: Expr) -> Result<Expr, AllocError>
+fn two_of(alloc: Global, verb: Verb, left: Expr, right: Expr) -> Result<Expr, NoMemory>
     ensures { IfOk result (λ expr. form expr ≡ two verb (form left) (form right)) }
 {
     Ok(Expr::Two(verb, Box::new(alloc, left)?, Box::new(alloc, right)?))
 }
 
-// The term in the brackets is read.
+// After a term in brackets, within what the brackets are part of.
 fn got_in(outer: Box<Stack>, expr: Expr) -> State
     ensures { state_of result ≡ got (form expr) (stack_of outer.value) }
 {
     State::InExpression(Box::into_inner(outer), ExpressionState::Got(expr))
 }
 
-/// Behind an expression that ends here: the verbs before it take it as their right side.
-pub fn behind_expression(
+/// The state after an expression that ends with this token: the verbs before it take it as their right side.
+pub fn after_expression(
     alloc: Global,
     stack: Stack,
     expr: Expr,
@@ -46,23 +53,23 @@ pub fn behind_expression(
     ensures { Steps result (step_close (stack_of stack) (form expr) (token_of token.now)) }
 {
     match stack {
-        Stack::Base(base) => behind_base(alloc, base, expr, token),
+        Stack::Base(base) => after_base(alloc, base, expr, token),
         Stack::RightOf(verb, left, outer) => {
             let both = two_of(alloc, verb, left, expr)?;
-            behind_expression(alloc, Box::into_inner(outer), both, token)
+            after_expression(alloc, Box::into_inner(outer), both, token)
         }
         Stack::Under(verb, outer) => {
             let one = one_of(alloc, verb, expr)?;
-            behind_expression(alloc, Box::into_inner(outer), one, token)
+            after_expression(alloc, Box::into_inner(outer), one, token)
         }
-        Stack::InBrackets(outer) => at_sign(token, Mark::Right, got_in(outer, expr)),
+        Stack::InBrackets(outer) => expect_mark(token, Mark::Right, got_in(outer, expr)),
         Stack::Applied(verb, outer) => {
             let one = one_of(alloc, verb, expr)?;
-            at_sign(token, Mark::Close, got_in(outer, one))
+            expect_mark(token, Mark::Close, got_in(outer, one))
         }
         Stack::FirstOfTwo(verb, outer) => {
             let second = Stack::SecondOfTwo(verb, expr, outer);
-            at_sign(
+            expect_mark(
                 token,
                 Mark::Semicolon,
                 State::InExpression(second, ExpressionState::Wanted),
@@ -70,37 +77,38 @@ pub fn behind_expression(
         }
         Stack::SecondOfTwo(verb, left, outer) => {
             let both = two_of(alloc, verb, left, expr)?;
-            at_sign(token, Mark::Close, got_in(outer, both))
+            expect_mark(token, Mark::Close, got_in(outer, both))
         }
     }
 }
 
-/// Behind a term: a verb wants its right side, and any other token ends the expression.
-pub fn behind_term(alloc: Global, expr: Expr, stack: Stack, token: &Token) -> Result<State, Stop>
+/// The state after a term: a verb takes it as its left side, and any other token ends the expression.
+pub fn after_term(alloc: Global, expr: Expr, stack: Stack, token: &Token) -> Result<State, Stop>
     ensures { Steps result (step_got (form expr) (stack_of stack) (token_of token.now)) }
 {
     match token.verb() {
         Some(verb) => Ok(State::InExpression(
-            Stack::RightOf(verb, expr, Box::new(alloc, stack)?),
+            Stack::RightOf(verb, expr, boxed(alloc, stack)?),
             ExpressionState::Wanted,
         )),
-        None => behind_expression(alloc, stack, expr, token),
+        None => after_expression(alloc, stack, expr, token),
     }
 }
 
-fn at_mark(alloc: Global, stack: Stack, mark: Mark) -> Result<State, Stop>
+// The state before an expression, where the next token is a mark.
+fn before_mark(alloc: Global, stack: Stack, mark: Mark) -> Result<State, Stop>
     ensures { Steps result (step_wanted (stack_of stack) (Tokens.mark mark)) }
 {
     match mark {
         Mark::Left => Ok(State::InExpression(
-            Stack::InBrackets(Box::new(alloc, stack)?),
+            Stack::InBrackets(boxed(alloc, stack)?),
             ExpressionState::Wanted,
         )),
         _ => Err(Stop::Here),
     }
 }
 
-/// Before an expression.
+/// The state before an expression, given its first token.
 pub fn before_expression(alloc: Global, stack: Stack, token: Token) -> Result<State, Stop>
     ensures { Steps result (step_wanted (stack_of stack) (token_of token)) }
 {
@@ -118,15 +126,15 @@ pub fn before_expression(alloc: Global, stack: Stack, token: Token) -> Result<St
         Token::Sign(_) => Err(Stop::Here),
         Token::Dyad(verb) => Ok(State::InExpression(stack, ExpressionState::DyadRead(verb))),
         Token::Word(_) => Err(Stop::Here),
-        Token::Mark(mark) => at_mark(alloc, stack, mark),
+        Token::Mark(mark) => before_mark(alloc, stack, mark),
     }
 }
 
-/// Behind a verb with one side.
-pub fn behind_monad(alloc: Global, verb: Verb1, stack: Stack, token: Token) -> Result<State, Stop>
+/// The state after a verb with one side, which has brackets or takes the expression that follows.
+pub fn after_monad(alloc: Global, verb: Verb1, stack: Stack, token: Token) -> Result<State, Stop>
     ensures { Steps result (step_monad verb (stack_of stack) (token_of token)) }
 {
-    let outer = Box::new(alloc, stack)?;
+    let outer = boxed(alloc, stack)?;
     if token.is(Mark::Open) {
         Ok(State::InExpression(Stack::Applied(verb, outer), ExpressionState::Wanted))
     } else {

@@ -1,19 +1,20 @@
-//! A request is read from its tokens, one after the other.
+//! Reading a request from its tokens, one at a time.
 ghost use Rattle.std.specs.Prelude.{◌≡◌, map, []};
 ghost use Rattle.qsql_tokens.specs.Views.{token_of, placed_of};
-ghost use Rattle.qsql_parse.specs.States.{state_of, query_state_of, expression_state_of, join_state_of, sub_state_of, outer_of, stack_of, Steps, Finds, IsFinished};
+ghost use Rattle.qsql_parse.specs.States.{state_of, query_state_of, expression_state_of, join_state_of, sub_state_of, outer_of, stack_of, Steps};
+ghost use Rattle.qsql_parse.specs.States.{Finds, IsFinished};
 ghost use Rattle.qsql_request.specs.Views.{form, query_of, request_of};
 ghost use Rattle.qsql_parse.specs.Machine.{step, start, dyad_read, whole, whole_query, whole_base, whole_expr};
 ghost use Rattle.qsql_parse.specs.Reading.{reading, Reads};
 
-use crate::expression_steps::{before_expression, behind_monad, behind_term};
+use crate::expression_steps::{after_monad, after_term, before_expression, boxed};
 use crate::outer_steps::{
-    at_sign, at_start, before_keys, before_names, before_query, before_source, before_tables,
-    behind_source,
+    after_source, at_start, before_keys, before_names, before_query, before_source, before_tables,
+    expect_mark,
 };
 use crate::query_steps::{
-    before_column, before_columns, before_number, before_table, behind_name, behind_number,
-    behind_table, behind_verb, with_condition,
+    after_name, after_number, after_table, after_verb, before_column, before_columns,
+    before_number, before_table, with_condition,
 };
 use crate::refusal::{ParseRefusal, Stop};
 use crate::state::{
@@ -25,7 +26,7 @@ use qsql_tokens::{Mark, Placed, Token};
 use std::alloc::Global;
 use std::collections::VecDeque;
 
-// A step within a query.
+// The state after one more token of a query.
 fn next_in_query(
     alloc: Global,
     outer: Outer,
@@ -35,34 +36,34 @@ fn next_in_query(
     ensures { Steps result (step (query_state_of (outer_of outer) state) (token_of token)) }
 {
     match state {
-        QueryState::VerbRead(exec) => behind_verb(alloc, outer, exec, token),
+        QueryState::VerbRead(exec) => after_verb(alloc, outer, exec, token),
         QueryState::NumberWanted(exec) => before_number(outer, exec, &token),
-        QueryState::NumberRead(exec, number) => behind_number(alloc, outer, exec, number, &token),
+        QueryState::NumberRead(exec, number) => after_number(alloc, outer, exec, number, &token),
         QueryState::ColumnsWanted(draft) => before_columns(alloc, outer, draft, token),
         QueryState::ColumnWanted(draft, grouped) => {
             before_column(alloc, outer, draft, grouped, token)
         }
         QueryState::NameRead(draft, grouped, name) => {
-            behind_name(alloc, outer, draft, grouped, name, &token)
+            after_name(alloc, outer, draft, grouped, name, &token)
         }
         QueryState::TableWanted(draft) => before_table(alloc, outer, draft, token),
-        QueryState::TableRead(query) => behind_table(alloc, outer, query, &token),
+        QueryState::TableRead(query) => after_table(alloc, outer, query, &token),
     }
 }
 
-// A step behind a verb with two sides that is written before its brackets.
-fn behind_dyad(alloc: Global, verb: Verb, stack: Stack, token: &Token) -> Result<State, Stop>
+// The state after a verb with two sides that precedes its brackets.
+fn after_dyad(alloc: Global, verb: Verb, stack: Stack, token: &Token) -> Result<State, Stop>
     ensures { Steps result (step (dyad_read verb (stack_of stack)) (token_of token.now)) }
 {
-    let outer = Box::new(alloc, stack)?;
-    at_sign(
+    let outer = boxed(alloc, stack)?;
+    expect_mark(
         token,
         Mark::Open,
         State::InExpression(Stack::FirstOfTwo(verb, outer), ExpressionState::Wanted),
     )
 }
 
-// A step within an expression.
+// The state after one more token of an expression.
 fn next_in_expression(
     alloc: Global,
     stack: Stack,
@@ -73,48 +74,48 @@ fn next_in_expression(
 {
     match state {
         ExpressionState::Wanted => before_expression(alloc, stack, token),
-        ExpressionState::MonadRead(verb) => behind_monad(alloc, verb, stack, token),
-        ExpressionState::DyadRead(verb) => behind_dyad(alloc, verb, stack, &token),
-        ExpressionState::Got(expr) => behind_term(alloc, expr, stack, &token),
+        ExpressionState::MonadRead(verb) => after_monad(alloc, verb, stack, token),
+        ExpressionState::DyadRead(verb) => after_dyad(alloc, verb, stack, &token),
+        ExpressionState::Got(expr) => after_term(alloc, expr, stack, &token),
     }
 }
 
-// A step within an as-of join.
+// The state after one more token of an as-of join.
 fn next_in_join(alloc: Global, state: JoinState, token: Token) -> Result<State, Stop>
     ensures { Steps result (step (join_state_of state) (token_of token)) }
 {
     match state {
-        JoinState::Begun => at_sign(&token, Mark::Open, State::InJoin(JoinState::KeysWanted)),
+        JoinState::Begun => expect_mark(&token, Mark::Open, State::InJoin(JoinState::KeysWanted)),
         JoinState::KeysWanted => before_keys(alloc, &token),
-        JoinState::KeysRead(keys) => at_sign(
+        JoinState::KeysRead(keys) => expect_mark(
             &token,
             Mark::Semicolon,
             State::InJoin(JoinState::SourceWanted(Side::ToLeft(keys))),
         ),
         JoinState::SourceWanted(side) => before_source(side, token),
         JoinState::QueryWanted(side) => before_query(side, &token),
-        JoinState::SourceRead(side, source) => behind_source(side, source, &token),
+        JoinState::SourceRead(side, source) => after_source(side, source, &token),
     }
 }
 
-// A step within a subscription.
+// The state after one more token of a subscription.
 fn next_in_sub(alloc: Global, state: SubState, token: &Token) -> Result<State, Stop>
     ensures { Steps result (step (sub_state_of state) (token_of token.now)) }
 {
     match state {
-        SubState::Begun => at_sign(token, Mark::Open, State::InSub(SubState::TablesWanted)),
+        SubState::Begun => expect_mark(token, Mark::Open, State::InSub(SubState::TablesWanted)),
         SubState::TablesWanted => before_tables(alloc, token),
-        SubState::TablesRead(tables) => at_sign(
+        SubState::TablesRead(tables) => expect_mark(
             token,
             Mark::Semicolon,
             State::InSub(SubState::NamesWanted(tables)),
         ),
         SubState::NamesWanted(tables) => before_names(alloc, tables, token),
-        SubState::NamesRead(sub) => at_sign(token, Mark::Close, State::Done(Request::Sub(sub))),
+        SubState::NamesRead(sub) => expect_mark(token, Mark::Close, State::Done(Request::Sub(sub))),
     }
 }
 
-// What is read and wanted behind a token more.
+// The state after one more token.
 fn next_state(alloc: Global, state: State, token: Token) -> Result<State, Stop>
     ensures { Steps result (step (state_of state) (token_of token)) }
 {
@@ -128,7 +129,7 @@ fn next_state(alloc: Global, state: State, token: Token) -> Result<State, Stop>
     }
 }
 
-// A query that may end the text.
+// The request of a query that ends the text.
 fn whole_of_query(outer: Outer, query: Query) -> Result<Request, Stop>
     ensures { Finds request_of result (whole_query (outer_of outer) (query_of query)) }
 {
@@ -139,7 +140,7 @@ fn whole_of_query(outer: Outer, query: Query) -> Result<Request, Stop>
     }
 }
 
-// An expression that may end the text.
+// The request of a query whose last expression ends the text.
 fn whole_of_expression(alloc: Global, stack: Stack, expr: Expr) -> Result<Request, Stop>
     ensures { Finds request_of result (whole_expr (stack_of stack) (form expr)) }
 {
@@ -150,11 +151,11 @@ fn whole_of_expression(alloc: Global, stack: Stack, expr: Expr) -> Result<Reques
         }
         Stack::Base(Base::Column(_, _, _, _)) => Err(Stop::Here),
         Stack::RightOf(verb, left, outer) => {
-            let both = Expr::Two(verb, Box::new(alloc, left)?, Box::new(alloc, expr)?);
+            let both = Expr::Two(verb, boxed(alloc, left)?, boxed(alloc, expr)?);
             whole_of_expression(alloc, Box::into_inner(outer), both)
         }
         Stack::Under(verb, outer) => {
-            let one = Expr::One(verb, Box::new(alloc, expr)?);
+            let one = Expr::One(verb, boxed(alloc, expr)?);
             whole_of_expression(alloc, Box::into_inner(outer), one)
         }
         Stack::InBrackets(_) => Err(Stop::Here),
@@ -164,7 +165,7 @@ fn whole_of_expression(alloc: Global, stack: Stack, expr: Expr) -> Result<Reques
     }
 }
 
-// The request of a query, where the text may end.
+// The request of a query where the text ends, if it may end there.
 fn whole_in_query(outer: Outer, state: QueryState) -> Result<Request, Stop>
     ensures { Finds request_of result (whole (query_state_of (outer_of outer) state)) }
 {
@@ -180,7 +181,7 @@ fn whole_in_query(outer: Outer, state: QueryState) -> Result<Request, Stop>
     }
 }
 
-// The expression that has been read, where it may end.
+// The expression that has been read, if it may end here.
 fn finished(state: ExpressionState) -> Option<Expr>
     ensures { IsFinished result state }
 {
@@ -192,7 +193,7 @@ fn finished(state: ExpressionState) -> Option<Expr>
     }
 }
 
-// The request that an expression ends, where the text may end.
+// The request of a query where the text ends within an expression, if it may end there.
 fn whole_in_expression(alloc: Global, stack: Stack, state: ExpressionState) -> Result<Request, Stop>
     ensures { Finds request_of result (whole (expression_state_of (stack_of stack) state)) }
 {
@@ -202,7 +203,7 @@ fn whole_in_expression(alloc: Global, stack: Stack, state: ExpressionState) -> R
     }
 }
 
-// No as-of join may end before its bracket.
+// No request: an as-of join doesn't end before its bracket.
 fn whole_in_join(state: JoinState) -> Result<Request, Stop>
     ensures { Finds request_of result (whole (join_state_of state)) }
 {
@@ -216,7 +217,7 @@ fn whole_in_join(state: JoinState) -> Result<Request, Stop>
     }
 }
 
-// No subscription may end before its bracket.
+// No request: a subscription doesn't end before its bracket.
 fn whole_in_sub(state: SubState) -> Result<Request, Stop>
     ensures { Finds request_of result (whole (sub_state_of state)) }
 {
@@ -229,7 +230,7 @@ fn whole_in_sub(state: SubState) -> Result<Request, Stop>
     }
 }
 
-// The request that has been read, where the text may end.
+// The request that has been read, if the text may end here.
 fn whole_of(alloc: Global, state: State) -> Result<Request, Stop>
     ensures { Finds request_of result (whole (state_of state)) }
 {
@@ -243,7 +244,7 @@ fn whole_of(alloc: Global, state: State) -> Result<Request, Stop>
     }
 }
 
-// The request at the text's end.
+// The request, given the offset where the text ends.
 fn ended(alloc: Global, state: State, end: usize) -> Result<Request, ParseRefusal>
     ensures { Reads result (reading (state_of state) [] end) }
 {
@@ -254,7 +255,8 @@ fn ended(alloc: Global, state: State, end: usize) -> Result<Request, ParseRefusa
     }
 }
 
-/// The request of these tokens of a text of so many bytes.
+/// The request of these tokens of a text with `end` bytes, or the offset of the first token with which no request continues,
+/// which is `end` where the text ends too early.
 pub fn read_request(
     alloc: Global,
     tokens: VecDeque<Placed>,

@@ -10,16 +10,16 @@ ghost use Rattle.qsql_parse.specs.Machine;
 use crate::refusal::Stop;
 use q_values::{Atom, Kind, Names, NoMemory, Sym, Value, Vector};
 use qsql_tokens::Token;
-use std::alloc::{AllocError, Global};
+use std::alloc::Global;
 
-fn copy_of(alloc: Global, name: &Sym) -> Result<Sym, AllocError>
+fn copy_of(alloc: Global, name: &Sym) -> Result<Sym, NoMemory>
     ensures { IfOk result (λ s. s ≡ name.now) }
 {
     Sym::copied(alloc, name.bytes())
 }
 
-// The name of an atom, empty where it is no symbol.
-fn name_of_atom(alloc: Global, atom: &Atom) -> Result<Sym, AllocError>
+// The name of an atom; empty where it is no symbol.
+fn name_of_atom(alloc: Global, atom: &Atom) -> Result<Sym, NoMemory>
     ensures { IfOk result (λ s. s ≡ symbol_of atom.now) }
 {
     match atom {
@@ -46,7 +46,7 @@ fn is_symbols(kind: Kind) -> bool
     matches!(kind, Kind::Symbol)
 }
 
-// The names of a vector's atoms, empty ones where they are no symbols.
+// The names of a vector's atoms; empty where they are no symbols.
 fn names_of_vector(alloc: Global, vector: &Vector) -> Result<Names, NoMemory>
     ensures { IfOk result (λ names. names ≡ map symbol_of vector.now.atoms) }
 {
@@ -83,7 +83,7 @@ fn names_of_value(alloc: Global, value: &Value) -> Result<Names, Stop>
     }
 }
 
-/// The names of a token that is a symbol literal.
+/// The names of a token that is a symbol literal: one for an atom, any number for a vector.
 pub fn names_of_token(alloc: Global, token: &Token) -> Result<Names, Stop>
     ensures { Finds (λ names. names) result (symbols_of (token_of token.now)) }
 {
@@ -135,7 +135,7 @@ fn is_null_value(value: &Value) -> bool
     }
 }
 
-/// Whether the token is the null symbol, as an atom.
+/// Whether the token is the null symbol as an atom, which stands for all names.
 pub fn is_null_name(token: &Token) -> bool
     ensures { result ≡ is_null_symbol (token_of token.now) }
 {

@@ -1,11 +1,13 @@
-//! Steps behind whole queries, and within as-of joins and subscriptions.
+//! Steps after whole queries, and within as-of joins and subscriptions.
 ghost use Rattle.std.specs.Prelude.{◌≡◌};
 ghost use Rattle.qsql_tokens.specs.Views.{token_of};
 ghost use Rattle.qsql_parse.specs.States.{side_of, outer_of, state_of, Steps};
 ghost use Rattle.qsql_request.specs.Views.{source_of, query_of};
 ghost use Rattle.qsql_tokens.specs.Parts.{is_mark};
-ghost use Rattle.qsql_parse.specs.Machine.{step_source, step_end, step_side, step_query, query_source, start_with, query_verb, when, step, start, keys_wanted, tables_wanted, names_wanted};
+ghost use Rattle.qsql_parse.specs.Machine.{step_source, step_end, step_side, step_query, query_source, start_with, query_verb, when, step, start};
+ghost use Rattle.qsql_parse.specs.Machine.{keys_wanted, tables_wanted, names_wanted};
 
+use crate::expression_steps::boxed;
 use crate::names::{is_null_name, names_of_token};
 use crate::refusal::Stop;
 use crate::state::{JoinState, Outer, QueryState, Side, State, SubState};
@@ -14,8 +16,8 @@ use qsql_request::{AjQuery, Query, Request, Source, SubRequest};
 use qsql_tokens::{Mark, Token, Word};
 use std::alloc::Global;
 
-/// The state where the token is this sign, the only one that goes on.
-pub fn at_sign(token: &Token, mark: Mark, state: State) -> Result<State, Stop>
+/// The given state, if the token is this mark; no request continues with another token.
+pub fn expect_mark(token: &Token, mark: Mark, state: State) -> Result<State, Stop>
     ensures { Steps result (when (is_mark mark (token_of token.now)) (state_of state)) }
 {
     if token.is(mark) {
@@ -25,12 +27,12 @@ pub fn at_sign(token: &Token, mark: Mark, state: State) -> Result<State, Stop>
     }
 }
 
-/// Behind a source.
-pub fn behind_source(side: Side, source: Source, token: &Token) -> Result<State, Stop>
+/// The state after a source.
+pub fn after_source(side: Side, source: Source, token: &Token) -> Result<State, Stop>
     ensures { Steps result (step_source (side_of side) (source_of source) (token_of token.now)) }
 {
     match side {
-        Side::ToLeft(keys) => at_sign(
+        Side::ToLeft(keys) => expect_mark(
             token,
             Mark::Semicolon,
             State::InJoin(JoinState::SourceWanted(Side::ToRight(keys, source))),
@@ -41,24 +43,24 @@ pub fn behind_source(side: Side, source: Source, token: &Token) -> Result<State,
                 left,
                 right: source,
             };
-            at_sign(token, Mark::Close, State::Done(Request::Aj(joined)))
+            expect_mark(token, Mark::Close, State::Done(Request::Aj(joined)))
         }
     }
 }
 
-/// Behind a query that may end here.
-pub fn behind_query(alloc: Global, outer: Outer, query: Query, token: &Token) -> Result<State, Stop>
+/// The state after a query that may end here.
+pub fn after_query(alloc: Global, outer: Outer, query: Query, token: &Token) -> Result<State, Stop>
     ensures { Steps result (step_end (outer_of outer) (query_of query) (token_of token.now)) }
 {
     match outer {
         Outer::Alone => Err(Stop::Here),
         Outer::Bare(side) => {
-            let rows = Source::Of(Box::new(alloc, query)?);
-            behind_source(side, rows, token)
+            let rows = Source::Of(boxed(alloc, query)?);
+            after_source(side, rows, token)
         }
         Outer::Bracketed(side) => {
-            let rows = Source::Of(Box::new(alloc, query)?);
-            at_sign(
+            let rows = Source::Of(boxed(alloc, query)?);
+            expect_mark(
                 token,
                 Mark::Right,
                 State::InJoin(JoinState::SourceRead(side, rows)),
@@ -67,7 +69,7 @@ pub fn behind_query(alloc: Global, outer: Outer, query: Query, token: &Token) ->
     }
 }
 
-// Whether the word begins a query, and whether it is `exec`.
+// If the word begins a query, whether it is `exec`.
 fn verb_of_query(word: Option<Word>) -> Option<bool>
     ensures { result ≡ query_verb word }
 {
@@ -78,13 +80,13 @@ fn verb_of_query(word: Option<Word>) -> Option<bool>
     }
 }
 
-// Before a source that is no name.
+// The state before a source, where the token is no name.
 fn before_query_source(side: Side, token: &Token) -> Result<State, Stop>
     ensures { Steps result (query_source (side_of side) (token_of token.now)) }
 {
     match verb_of_query(token.word()) {
         Some(exec) => Ok(State::InQuery(Outer::Bare(side), QueryState::VerbRead(exec))),
-        None => at_sign(
+        None => expect_mark(
             token,
             Mark::Left,
             State::InJoin(JoinState::QueryWanted(side)),
@@ -92,7 +94,7 @@ fn before_query_source(side: Side, token: &Token) -> Result<State, Stop>
     }
 }
 
-/// Before a source.
+/// The state before a source, given its first token.
 pub fn before_source(side: Side, token: Token) -> Result<State, Stop>
     ensures { Steps result (step_side (side_of side) (token_of token)) }
 {
@@ -102,7 +104,7 @@ pub fn before_source(side: Side, token: Token) -> Result<State, Stop>
     }
 }
 
-/// Before a query in parentheses.
+/// The state before a query in parentheses, given its first token.
 pub fn before_query(side: Side, token: &Token) -> Result<State, Stop>
     ensures { Steps result (step_query (side_of side) (token_of token.now)) }
 {
@@ -112,6 +114,7 @@ pub fn before_query(side: Side, token: &Token) -> Result<State, Stop>
     }
 }
 
+// The state after the first word of a text.
 fn started(word: Word) -> Result<State, Stop>
     ensures { Steps result (start_with word) }
 {
@@ -126,7 +129,7 @@ fn started(word: Word) -> Result<State, Stop>
     }
 }
 
-/// At the start of a text.
+/// The state after the first token of a text.
 pub fn at_start(token: &Token) -> Result<State, Stop>
     ensures { Steps result (step start (token_of token.now)) }
 {
@@ -136,7 +139,7 @@ pub fn at_start(token: &Token) -> Result<State, Stop>
     }
 }
 
-/// Before the keys of an as-of join.
+/// The state before the keys of an as-of join, given their token.
 pub fn before_keys(alloc: Global, token: &Token) -> Result<State, Stop>
     ensures { Steps result (step keys_wanted (token_of token.now)) }
 {
@@ -144,7 +147,7 @@ pub fn before_keys(alloc: Global, token: &Token) -> Result<State, Stop>
     Ok(State::InJoin(JoinState::KeysRead(keys)))
 }
 
-/// Before the tables of a subscription.
+/// The state before the tables of a subscription, given their token.
 pub fn before_tables(alloc: Global, token: &Token) -> Result<State, Stop>
     ensures { Steps result (step tables_wanted (token_of token.now)) }
 {
@@ -152,7 +155,7 @@ pub fn before_tables(alloc: Global, token: &Token) -> Result<State, Stop>
     Ok(State::InSub(SubState::TablesRead(tables)))
 }
 
-/// Before the names of a subscription.
+/// The state before the names of a subscription, given their token.
 pub fn before_names(alloc: Global, tables: Names, token: &Token) -> Result<State, Stop>
     ensures { Steps result (step (names_wanted tables) (token_of token.now)) }
 {

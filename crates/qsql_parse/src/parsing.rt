@@ -1,4 +1,4 @@
-//! Texts become requests.
+//! From a text to its request.
 ghost use Rattle.std.specs.Prelude.{◌≡◌, IfOk, IfErr, false};
 ghost use Rattle.qsql_request.specs.Views.{request_of};
 ghost use Rattle.qsql_request.specs.Unbuilt.{is_unbuilt};
@@ -23,7 +23,7 @@ fn read_text(alloc: Global, text: &[u8]) -> Result<Request, ParseRefusal>
     read_request(alloc, VecDeque::from(tokens), text.len())
 }
 
-// What the text asks for, or why nothing.
+// The request of a text, which is built.
 fn read_built(alloc: Global, text: &[u8]) -> Result<Request, ParseRefusal>
     ensures ok { IfOk result (λ request. IsText text.now (request_of request) × (is_unbuilt (request_of request) ≡ false)) }
     ensures refused { IfErr result (RefusesText text.now) }
@@ -39,15 +39,15 @@ fn read_built(alloc: Global, text: &[u8]) -> Result<Request, ParseRefusal>
 /// The request of a text (KX, Reference card; Q for Mortals, 9).
 ///
 /// A text is `select` or `exec`, `aj[keys;source;source]`, `.u.i`, `.u.d` or `.u.sub[tables;names]`. Expressions are read
-/// from right to left without precedence. A refusal is the first that holds, in the order of `ParseRefusal`; the place of
-/// `Parse` is counted in bytes from 0, and is that of the first byte that begins no token, or else of the first token that no
-/// request goes on with, or the text's length.
+/// from right to left without precedence.
+///
+/// The refusal is the first that holds, in the order of `ParseRefusal`. The offset of `Parse` counts bytes from 0. It is
+/// that of the first byte that begins no token, or else of the first token with which no request continues, or the text's
+/// length where it ends too early.
 pub fn parse(alloc: Global, text: &[u8]) -> Result<Request, ParseRefusal>
-    // What is read is what the text asks for, and is built.
     ensures ok { IfOk result (λ request. IsText text.now (request_of request) × (is_unbuilt (request_of request) ≡ false)) }
-    // A refusal has its cause.
     ensures refused { IfErr result (RefusesText text.now) }
-    // Where the text has a request that is built, or a cause for a refusal, the answer is that one; want of memory aside.
+    // Where the text has a request that is built, or a cause for a refusal, the answer is that one, unless memory ran out.
     ensures exact { GivesOnly text.now result }
 {
     read_built(alloc, text)

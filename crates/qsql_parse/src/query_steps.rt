@@ -3,10 +3,11 @@ ghost use Rattle.std.specs.Prelude.{◌≡◌, IfOk};
 ghost use Rattle.qsql_tokens.specs.Views.{token_of};
 ghost use Rattle.qsql_parse.specs.States.{state_of, base_of, outer_of, draft_of, Steps};
 ghost use Rattle.qsql_request.specs.Views.{form, query_of};
-ghost use Rattle.qsql_parse.specs.Machine.{step, step_base, step_columns, step_column, step_name, step_selected, step_verb, step_table, is_from, is_by, is_where, grown, with_table, with_phrase, fresh, table_wanted, number_wanted, number_read};
+ghost use Rattle.qsql_parse.specs.Machine.{step, step_base, step_columns, step_column, step_name, step_selected, step_verb, step_table, is_from};
+ghost use Rattle.qsql_parse.specs.Machine.{is_by, is_where, grown, with_table, with_phrase, fresh, table_wanted, number_wanted, number_read};
 
-use crate::expression_steps::{before_expression, behind_term};
-use crate::outer_steps::{at_sign, behind_query};
+use crate::expression_steps::{after_term, before_expression};
+use crate::outer_steps::{after_query, expect_mark};
 use crate::refusal::Stop;
 use crate::state::{Base, Draft, ExpressionState, Outer, QueryState, Stack, State};
 use q_values::{NoMemory, Sym};
@@ -32,6 +33,7 @@ fn is_where_word(word: Option<Word>) -> bool
     matches!(word, Some(Word::Where))
 }
 
+// A query without columns yet.
 fn fresh_draft(alloc: Global, exec: bool, first: Option<i64>) -> Draft
     ensures { draft_of result ≡ fresh exec first }
 {
@@ -43,7 +45,7 @@ fn fresh_draft(alloc: Global, exec: bool, first: Option<i64>) -> Draft
     }
 }
 
-// A draft with a column more.
+// The draft with one more column, after `by` where `grouped` is set.
 fn with_column(
     draft: Draft,
     grouped: bool,
@@ -76,6 +78,7 @@ fn query_with(alloc: Global, draft: Draft, table: Sym) -> Query
     }
 }
 
+/// The query with one more phrase after `where`.
 pub fn with_condition(query: Query, expr: Expr) -> Result<Query, NoMemory>
     ensures { IfOk result (λ q. query_of q ≡ with_phrase (query_of query) (form expr)) }
 {
@@ -84,8 +87,8 @@ pub fn with_condition(query: Query, expr: Expr) -> Result<Query, NoMemory>
     Ok(query)
 }
 
-// Behind columns.
-fn behind_columns(outer: Outer, draft: Draft, grouped: bool, token: &Token) -> Result<State, Stop>
+// The state after columns.
+fn after_columns(outer: Outer, draft: Draft, grouped: bool, token: &Token) -> Result<State, Stop>
     ensures { Steps result (step_columns (outer_of outer) (draft_of draft) grouped (token_of token.now)) }
 {
     let word = token.word();
@@ -98,8 +101,8 @@ fn behind_columns(outer: Outer, draft: Draft, grouped: bool, token: &Token) -> R
     }
 }
 
-/// Behind a whole expression of a query.
-pub fn behind_base(alloc: Global, base: Base, expr: Expr, token: &Token) -> Result<State, Stop>
+/// The state after a whole expression of a query.
+pub fn after_base(alloc: Global, base: Base, expr: Expr, token: &Token) -> Result<State, Stop>
     ensures { Steps result (step_base (base_of base) (form expr) (token_of token.now)) }
 {
     match base {
@@ -108,7 +111,7 @@ pub fn behind_base(alloc: Global, base: Base, expr: Expr, token: &Token) -> Resu
             if token.is(Mark::Comma) {
                 Ok(State::InQuery(outer, QueryState::ColumnWanted(draft, grouped)))
             } else {
-                behind_columns(outer, draft, grouped, token)
+                after_columns(outer, draft, grouped, token)
             }
         }
         Base::Phrase(outer, query) => {
@@ -119,13 +122,13 @@ pub fn behind_base(alloc: Global, base: Base, expr: Expr, token: &Token) -> Resu
                     ExpressionState::Wanted,
                 ))
             } else {
-                behind_query(alloc, outer, query, token)
+                after_query(alloc, outer, query, token)
             }
         }
     }
 }
 
-/// Before a column.
+/// The state before a column, given its first token.
 pub fn before_column(
     alloc: Global,
     outer: Outer,
@@ -144,8 +147,8 @@ pub fn before_column(
     }
 }
 
-/// Behind the name that begins a column.
-pub fn behind_name(
+/// The state after a name that begins a column: the column's own name, or a term.
+pub fn after_name(
     alloc: Global,
     outer: Outer,
     draft: Draft,
@@ -160,11 +163,11 @@ pub fn behind_name(
         Ok(State::InExpression(Stack::Base(base), ExpressionState::Wanted))
     } else {
         let base = Base::Column(outer, draft, grouped, None);
-        behind_term(alloc, Expr::Name(name), Stack::Base(base), token)
+        after_term(alloc, Expr::Name(name), Stack::Base(base), token)
     }
 }
 
-/// Before the columns, `by` or `from`.
+/// The state before the columns, `by` or `from`.
 pub fn before_columns(
     alloc: Global,
     outer: Outer,
@@ -183,8 +186,8 @@ pub fn before_columns(
     }
 }
 
-/// Behind `select` or `exec`.
-pub fn behind_verb(alloc: Global, outer: Outer, exec: bool, token: Token) -> Result<State, Stop>
+/// The state after `select` or `exec`.
+pub fn after_verb(alloc: Global, outer: Outer, exec: bool, token: Token) -> Result<State, Stop>
     ensures { Steps result (step_verb (outer_of outer) exec (token_of token)) }
 {
     if token.is(Mark::Open) {
@@ -194,7 +197,7 @@ pub fn behind_verb(alloc: Global, outer: Outer, exec: bool, token: Token) -> Res
     }
 }
 
-/// Before the number in brackets.
+/// The state before the number in brackets.
 pub fn before_number(outer: Outer, exec: bool, token: &Token) -> Result<State, Stop>
     ensures { Steps result (step (number_wanted (outer_of outer) exec) (token_of token.now)) }
 {
@@ -204,8 +207,8 @@ pub fn before_number(outer: Outer, exec: bool, token: &Token) -> Result<State, S
     }
 }
 
-/// Behind the number in brackets.
-pub fn behind_number(
+/// The state after the number in brackets.
+pub fn after_number(
     alloc: Global,
     outer: Outer,
     exec: bool,
@@ -215,14 +218,14 @@ pub fn behind_number(
     ensures { Steps result (step (number_read (outer_of outer) exec number) (token_of token.now)) }
 {
     let draft = fresh_draft(alloc, exec, Some(number));
-    at_sign(
+    expect_mark(
         token,
         Mark::Close,
         State::InQuery(outer, QueryState::ColumnsWanted(draft)),
     )
 }
 
-/// Before the table.
+/// The state before the table.
 pub fn before_table(alloc: Global, outer: Outer, draft: Draft, token: Token) -> Result<State, Stop>
     ensures { Steps result (step (table_wanted (outer_of outer) (draft_of draft)) (token_of token)) }
 {
@@ -235,8 +238,8 @@ pub fn before_table(alloc: Global, outer: Outer, draft: Draft, token: Token) -> 
     }
 }
 
-/// Behind the table.
-pub fn behind_table(alloc: Global, outer: Outer, query: Query, token: &Token) -> Result<State, Stop>
+/// The state after the table.
+pub fn after_table(alloc: Global, outer: Outer, query: Query, token: &Token) -> Result<State, Stop>
     ensures { Steps result (step_table (outer_of outer) (query_of query) (token_of token.now)) }
 {
     if is_where_word(token.word()) {
@@ -245,6 +248,6 @@ pub fn behind_table(alloc: Global, outer: Outer, query: Query, token: &Token) ->
             ExpressionState::Wanted,
         ))
     } else {
-        behind_query(alloc, outer, query, token)
+        after_query(alloc, outer, query, token)
     }
 }

@@ -2,33 +2,33 @@
 
 use q_values::NoMemory;
 use qsql_tokens::TokenRefusal;
-use std::alloc::{AllocError, AllocFailed};
 use thiserror::Error;
 
-/// Why a text is no request: the first that holds, in this order, with the token faults of `Parse` before the second
-/// `Limit`.
+/// Why a text is no request: the first cause that holds. The order is that of the variants, but an offset where no token
+/// begins comes before too many tokens or brackets.
 #[derive(Clone, Copy, Debug, PartialEq, Eq, Error)]
 pub enum ParseRefusal {
     /// The text is longer than 65,536 bytes, has more than 1,024 tokens, or nests brackets deeper than 64.
     #[error("limit")]
     Limit,
-    /// No token begins at this place, or no request goes on with the token there, or the text ends too early there.
+    /// At this offset, in bytes from 0, no token begins, or no request continues with the token there, or the text ends too
+    /// early.
     #[error("parse")]
     Parse(usize),
     /// The request has a form that is not built.
     #[error("nyi")]
     Nyi,
-    /// Memory was wanting.
+    /// Out of memory.
     #[error("out of memory")]
     NoMemory,
 }
 
-/// Why a token is not read on to.
+/// Why the reader doesn't go on.
 #[derive(Clone, Copy, Debug, PartialEq, Eq)]
 pub enum Stop {
-    /// No request goes on with it.
+    /// No request continues with the token, or the text may not end here.
     Here,
-    /// Memory was wanting.
+    /// Out of memory.
     NoMemory,
 }
 
@@ -41,7 +41,7 @@ impl From<TokenRefusal> for ParseRefusal {
     fn from(refusal: TokenRefusal) -> ParseRefusal {
         match refusal {
             TokenRefusal::TooLong => ParseRefusal::Limit,
-            TokenRefusal::NoToken(place) => ParseRefusal::Parse(place),
+            TokenRefusal::NoToken(offset) => ParseRefusal::Parse(offset),
             TokenRefusal::NoMemory => ParseRefusal::NoMemory,
         }
     }
@@ -58,28 +58,6 @@ impl From<NoMemory> for ParseRefusal {
     }
 }
 
-impl From<AllocError> for ParseRefusal {
-    ghost use Rattle.std.specs.Prelude.{◌≡◌};
-    ghost use Rattle.qsql_parse.specs.declared.refusal.ParseRefusal.TheVariants as r;
-
-    ghost from_gives = { λ _ e. e ≡ r.NoMemory };
-
-    fn from(_e: AllocError) -> ParseRefusal {
-        ParseRefusal::NoMemory
-    }
-}
-
-impl<T: Drop> From<AllocFailed<T>> for ParseRefusal {
-    ghost use Rattle.std.specs.Prelude.{◌≡◌};
-    ghost use Rattle.qsql_parse.specs.declared.refusal.ParseRefusal.TheVariants as r;
-
-    ghost from_gives = { λ _ e. e ≡ r.NoMemory };
-
-    fn from(_e: AllocFailed<T>) -> ParseRefusal {
-        ParseRefusal::NoMemory
-    }
-}
-
 impl From<NoMemory> for Stop {
     ghost use Rattle.std.specs.Prelude.{◌≡◌};
     ghost use Rattle.qsql_parse.specs.declared.refusal.Stop.TheVariants as r;
@@ -87,28 +65,6 @@ impl From<NoMemory> for Stop {
     ghost from_gives = { λ _ e. e ≡ r.NoMemory };
 
     fn from(_e: NoMemory) -> Stop {
-        Stop::NoMemory
-    }
-}
-
-impl From<AllocError> for Stop {
-    ghost use Rattle.std.specs.Prelude.{◌≡◌};
-    ghost use Rattle.qsql_parse.specs.declared.refusal.Stop.TheVariants as r;
-
-    ghost from_gives = { λ _ e. e ≡ r.NoMemory };
-
-    fn from(_e: AllocError) -> Stop {
-        Stop::NoMemory
-    }
-}
-
-impl<T: Drop> From<AllocFailed<T>> for Stop {
-    ghost use Rattle.std.specs.Prelude.{◌≡◌};
-    ghost use Rattle.qsql_parse.specs.declared.refusal.Stop.TheVariants as r;
-
-    ghost from_gives = { λ _ e. e ≡ r.NoMemory };
-
-    fn from(_e: AllocFailed<T>) -> Stop {
         Stop::NoMemory
     }
 }

@@ -1,6 +1,6 @@
-//! What has been read of a request, and what is wanted next.
+//! The state of the reader: what has been read of a request, and what is expected next.
 //!
-//! Brackets and pending verbs stand on a stack of their own, so that no text drives the reader into recursion.
+//! Brackets and pending verbs are kept on a stack on the heap, so no text can make the reader recurse deeply.
 
 use q_values::{Names, Sym};
 use q_verbs::{Verb, Verb1};
@@ -9,23 +9,29 @@ use qsql_request::{Cols, Expr, Query, Request, Source, SubRequest};
 /// A query before its `from`.
 #[derive(Drop)]
 pub struct Draft {
+    /// Whether it is an `exec`.
     pub exec: bool,
+    /// The number in brackets after the verb.
     pub first: Option<i64>,
+    /// The columns so far.
     pub columns: Cols,
+    /// The columns after `by` so far.
     pub by: Cols,
 }
 
-/// The side of an as-of join, with what stands before it.
+/// A side of an as-of join, with what precedes it.
 #[derive(Drop)]
 pub enum Side {
+    /// The left side, after the keys.
     ToLeft(Names),
+    /// The right side, after the keys and the left side.
     ToRight(Names, Source),
 }
 
-/// What a query stands in.
+/// What a query is part of.
 #[derive(Drop)]
 pub enum Outer {
-    /// Nothing.
+    /// Nothing: it is the whole text.
     Alone,
     /// An as-of join.
     Bare(Side),
@@ -33,16 +39,16 @@ pub enum Outer {
     Bracketed(Side),
 }
 
-/// What a whole expression stands in.
+/// What a whole expression is part of.
 #[derive(Drop)]
 pub enum Base {
-    /// A column, behind `by` where the flag is set.
+    /// A column, after `by` where the flag is set, with the name that the text gives it.
     Column(Outer, Draft, bool, Option<Sym>),
-    /// A phrase behind `where`.
+    /// A phrase after `where`.
     Phrase(Outer, Query),
 }
 
-/// What an expression stands in, the innermost first.
+/// What an expression is part of, innermost first.
 #[derive(Drop)]
 pub enum Stack {
     /// A column or a phrase.
@@ -55,62 +61,91 @@ pub enum Stack {
     InBrackets(Box<Stack>),
     /// The brackets of a verb with one side.
     Applied(Verb1, Box<Stack>),
-    /// The brackets of a verb between two sides, before `;`.
+    /// The brackets of a verb with two sides, before `;`.
     FirstOfTwo(Verb, Box<Stack>),
-    /// The same behind `;`.
+    /// The brackets of a verb with two sides, after `;`.
     SecondOfTwo(Verb, Expr, Box<Stack>),
 }
 
-/// Where the reader stands within a query.
+/// The state within a query. A flag `exec` says whether it is an `exec`.
 #[derive(Drop)]
 pub enum QueryState {
+    /// After `select` or `exec`.
     VerbRead(bool),
+    /// After `[`, before the number.
     NumberWanted(bool),
+    /// After the number, before `]`.
     NumberRead(bool, i64),
+    /// After `]`, before the columns, `by` or `from`.
     ColumnsWanted(Draft),
+    /// Before a column, which comes after `by` where the flag is set.
     ColumnWanted(Draft, bool),
+    /// After a name that begins a column.
     NameRead(Draft, bool, Sym),
+    /// After `from`.
     TableWanted(Draft),
+    /// After the table.
     TableRead(Query),
 }
 
-/// Where the reader stands within an expression.
+/// The state within an expression.
 #[derive(Drop)]
 pub enum ExpressionState {
+    /// Before an expression.
     Wanted,
+    /// After a verb with one side.
     MonadRead(Verb1),
+    /// After a verb with two sides that precedes its brackets.
     DyadRead(Verb),
+    /// After a term.
     Got(Expr),
 }
 
-/// Where the reader stands within an as-of join.
+/// The state within an as-of join.
 #[derive(Drop)]
 pub enum JoinState {
+    /// After `aj`.
     Begun,
+    /// After `[`.
     KeysWanted,
+    /// After the keys.
     KeysRead(Names),
+    /// Before a side.
     SourceWanted(Side),
+    /// Before a query in parentheses.
     QueryWanted(Side),
+    /// After a side.
     SourceRead(Side, Source),
 }
 
-/// Where the reader stands within a subscription.
+/// The state within a subscription.
 #[derive(Drop)]
 pub enum SubState {
+    /// After `.u.sub`.
     Begun,
+    /// After `[`.
     TablesWanted,
+    /// After the tables.
     TablesRead(Names),
+    /// After `;`.
     NamesWanted(Names),
+    /// After the names.
     NamesRead(SubRequest),
 }
 
-/// Where the reader stands.
+/// The state of the reader.
 #[derive(Drop)]
 pub enum State {
+    /// Before the first token.
     Start,
+    /// Within a query.
     InQuery(Outer, QueryState),
+    /// Within an expression.
     InExpression(Stack, ExpressionState),
+    /// Within an as-of join.
     InJoin(JoinState),
+    /// Within a subscription.
     InSub(SubState),
+    /// After a request that nothing may follow.
     Done(Request),
 }

@@ -1,4 +1,4 @@
--- What expressions, queries and requests say, apart from where they lie in memory.
+-- Expressions, queries and requests as contracts see them, apart from where they lie in memory.
 use Rattle.std.specs.Prelude.{ℕ, ℤ, Bool, List, Option}
 use Rattle.q_values.specs.Tree.{Tree}
 use Rattle.q_verbs.specs.declared.verb.Verb.{Verb}
@@ -23,7 +23,7 @@ pub record QueryForm : Type 0 where
   pub table : List ℕ
   pub phrases : List Form
 
--- what stands left or right in an as-of join
+-- a side of an as-of join
 pub data SourceForm : Type 0 where
   all_of : List ℕ → SourceForm
   rows_of : QueryForm → SourceForm

@@ -1,4 +1,4 @@
--- Whether a value is one for each row, one for all, or a list of its own.
+-- Shapes: whether an expression has a value for each row, a single value, or a list.
 use Rattle.std.specs.Prelude.{Bool, true, false}
 use Rattle.q_values.specs.Tree.{Tree, atom}
 use Rattle.q_verbs.specs.declared.verb.Verb.{Verb}

@@ -1,7 +1,8 @@
--- What the types of requests say.
+-- The types of requests as contracts see them.
 use Rattle.std.specs.Prelude.{map}
 use Rattle.q_values.specs.Tree.{tree}
-use Rattle.qsql_request.specs.Forms.{Form, constant, column, one, two, ColumnForm, QueryForm, SourceForm, all_of, rows_of, AjForm, SubForm, RequestForm, query_form, aj_form, count_form, day_form, sub_form}
+use Rattle.qsql_request.specs.Forms.{Form, constant, column, one, two, ColumnForm, QueryForm, SourceForm, all_of, rows_of, AjForm, SubForm}
+use Rattle.qsql_request.specs.Forms.{RequestForm, query_form, aj_form, count_form, day_form, sub_form}
 use Rattle.qsql_request.specs.declared.request.Expr.{Expr}
 use Rattle.qsql_request.specs.declared.request.Expr.TheOpen.{Expr-F}
 use Rattle.qsql_request.specs.declared.request.Expr.TheFolds.{fold-Expr}
@@ -14,7 +15,7 @@ use Rattle.qsql_request.specs.declared.request.SubRequest.{SubRequest}
 use Rattle.qsql_request.specs.declared.request.Request.{Request}
 use Rattle.qsql_request.specs.declared.request.Request.TheVariants as r
 
--- one level of an expression, with its sides already seen
+-- one level of an expression, given the forms of its sides
 abbrev pub form_step : Expr-F Form → Form
 form_step (Expr-F.Literal value) = constant (tree value)
 form_step (Expr-F.Name name) = column name
@@ -28,7 +29,8 @@ abbrev pub column_form : Col → ColumnForm
 column_form c = record { name = c.name; expr = form c.expr }
 
 abbrev pub query_of : Query → QueryForm
-query_of q = record { exec = q.exec; first = q.first; columns = map column_form q.columns; by = map column_form q.by; table = q.table; phrases = map form q.phrases }
+query_of q =
+    record { exec = q.exec; first = q.first; columns = map column_form q.columns; by = map column_form q.by; table = q.table; phrases = map form q.phrases }
 
 abbrev pub source_of : Source → SourceForm
 source_of (s.All name) = all_of name

@@ -12,13 +12,16 @@ use crate::shapes::{Shape, is_list, is_test, shape_of_one, shape_of_two, shape_o
 use q_values::{Atom, ByteKind, Column, Value, Vector};
 use q_verbs::Verb;
 
-/// Whether an expression has a form that is not built, and the shape of its value.
+/// What is known of an expression without a schema.
 #[derive(Clone, Copy)]
 pub struct Judgement {
+    /// Whether it has a form that is not built.
     pub unbuilt: bool,
+    /// The shape of its value.
     pub shape: Shape,
 }
 
+// Whether a list may be the right side of the verb.
 fn takes_list(verb: Verb) -> bool
     ensures { result ≡ Unbuilt.takes_list verb }
 {
@@ -93,7 +96,7 @@ fn is_pattern_literal(value: &Value) -> bool
     }
 }
 
-// Whether it is a char literal without `[`.
+// Whether the expression is a pattern that `like` takes: characters without `[`.
 fn is_pattern(expr: &Expr) -> bool
     ensures { result ≡ Unbuilt.is_pattern (form expr.now) }
 {
@@ -105,6 +108,7 @@ fn is_pattern(expr: &Expr) -> bool
     }
 }
 
+// Whether the verb can't take this right side.
 fn has_wrong_right(verb: Verb, right: &Expr, shape: Shape) -> bool
     requires { shape ≡ Shapes.shape (form right.now) }
     ensures { result ≡ is_wrong_right verb (form right.now) }
@@ -116,7 +120,8 @@ fn has_wrong_right(verb: Verb, right: &Expr, shape: Shape) -> bool
     }
 }
 
-/// Judges an expression. It is not built where a list stands at a verb that takes none, or a `like` has no pattern.
+/// Judges an expression. It is not built where a list is a side of a verb that takes none, or the right side of `like` is
+/// no pattern.
 pub fn judged(expr: &Expr) -> Judgement
     ensures unbuilt { result.unbuilt ≡ has_unbuilt (form expr.now) }
     ensures shape { result.shape ≡ Shapes.shape (form expr.now) }

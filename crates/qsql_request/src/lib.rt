@@ -1,4 +1,25 @@
-//! What the texts of the query language ask for, and which of it is built.
+//! The requests that texts of the query language make, and which of them are built.
+//!
+//! A [`Request`] is a [`Query`], an as-of join ([`AjQuery`]), a subscription ([`SubRequest`]), or one of the two calls
+//! without arguments. A query's columns and phrases are expressions ([`Expr`]), which are trees: the language reads them
+//! from right to left without precedence. [`is_request_unbuilt`] says whether a request has a form that is not built.
+//!
+//! ```text
+//! select high:max price by sym from trade where size>100*lot
+//!
+//! Query {
+//!     exec: false, first: None, table: trade,
+//!     columns: [high: One(Max, Name(price))],
+//!     by: [Name(sym)],
+//!     phrases: [Two(Gt, Name(size), Two(Mul, Literal(100), Name(lot)))],
+//! }
+//! ```
+//!
+//! Whether a form is built is decided from the shapes of its values (`shapes`, `judging`) and the names of its columns
+//! (`mentions`). The rules are in `specs/Unbuilt.antt`.
+//!
+//! The crate reads no text (`qsql_parse` does) and runs no query. It knows no schema, so it doesn't find unknown tables or
+//! columns, or kinds that a verb doesn't take.
 #![tactic(auto)]
 
 mod judging;

@@ -1,24 +1,25 @@
-//! The names that expressions mention, and the names of columns.
+//! The names that an expression mentions, and the names of result columns.
 ghost use Rattle.std.specs.Prelude.{◌≡◌};
 ghost use Rattle.qsql_request.specs.Views.{form, column_form};
-ghost use Rattle.qsql_request.specs.Unbuilt.{is_place, mentioned, has_other, are_two, column_name, is_nameless, head_of, map_option};
+ghost use Rattle.qsql_request.specs.Unbuilt.{is_row_number, mentioned, has_other, are_two, column_name, is_nameless, head_of, map_option};
 
 use crate::request::{Col, Expr};
 
-fn is_place_name(name: &[u8]) -> bool
-    ensures { result ≡ is_place name.now }
+// Whether the name is `i`, the virtual column with the row numbers.
+fn is_row_number_name(name: &[u8]) -> bool
+    ensures { result ≡ is_row_number name.now }
 {
     name == b"i".as_slice()
 }
 
-// The first name that is mentioned, `i` aside.
+// The first name that the expression mentions, other than `i`.
 fn first_name(expr: &Expr) -> Option<&[u8]>
     ensures { map_option (λ name. name.now) result ≡ head_of (mentioned (form expr.now)) }
 {
     match expr {
         Expr::Literal(_) => None,
         Expr::Name(name) => {
-            if is_place_name(name.bytes()) {
+            if is_row_number_name(name.bytes()) {
                 None
             } else {
                 Some(name.bytes())
@@ -32,19 +33,20 @@ fn first_name(expr: &Expr) -> Option<&[u8]>
     }
 }
 
-// Whether another name is mentioned, `i` aside.
+// Whether the expression mentions a name other than this one and `i`.
 #[tactic(auto, using(crate::proofs::Lists::has_other_first, crate::proofs::Lists::has_other_rest))]
 fn mentions_other(expr: &Expr, name: &[u8]) -> bool
     ensures { result ≡ has_other name.now (mentioned (form expr.now)) }
 {
     match expr {
         Expr::Literal(_) => false,
-        Expr::Name(own) => !is_place_name(own.bytes()) && name != own.bytes(),
+        Expr::Name(own) => !is_row_number_name(own.bytes()) && name != own.bytes(),
         Expr::One(_, side) => mentions_other(side, name),
         Expr::Two(_, left, right) => mentions_other(left, name) || mentions_other(right, name),
     }
 }
 
+// Whether the expression mentions two different names, other than `i`.
 fn mentions_two(expr: &Expr) -> bool
     ensures { result ≡ are_two (mentioned (form expr.now)) }
 {
@@ -54,7 +56,7 @@ fn mentions_two(expr: &Expr) -> bool
     }
 }
 
-/// Whether the column has no name and mentions two.
+/// Whether the text gives the column no name, and its expression mentions two, so that it has none.
 pub fn is_nameless_column(column: &Col) -> bool
     ensures { result ≡ is_nameless (column_form column.now) }
 {
@@ -64,7 +66,8 @@ pub fn is_nameless_column(column: &Col) -> bool
     }
 }
 
-/// The name of a result's column: its own, or else the only one that it mentions, or else `x`.
+/// The name of a result column: the one that the text gives it, or else the first one that its expression mentions, or
+/// else `x`.
 pub fn name_of_column(column: &Col) -> &[u8]
     ensures { result.now ≡ column_name (column_form column.now) }
 {

@@ -1,4 +1,4 @@
-//! What a text asks for.
+//! The types of requests.
 
 use q_values::{Names, Sequence, Sym, Value};
 use q_verbs::{Verb, Verb1};
@@ -38,19 +38,19 @@ pub struct Col {
 pub struct Query {
     /// Whether it is an `exec`.
     pub exec: bool,
-    /// The number in brackets behind the verb: so many first rows, or last rows where it is below 0.
+    /// The number in brackets after the verb: the first n rows, or the last n where it is negative.
     pub first: Option<i64>,
-    /// The columns, none for all.
+    /// The columns; empty for all of them.
     pub columns: Cols,
-    /// The columns behind `by`, none where there is no `by`.
+    /// The columns after `by`; empty where there is no `by`.
     pub by: Cols,
     /// The table.
     pub table: Sym,
-    /// The phrases behind `where`, none where there is no `where`.
+    /// The phrases after `where`; empty where there is no `where`.
     pub phrases: Exprs,
 }
 
-/// What stands left or right in an as-of join.
+/// A side of an as-of join.
 #[derive(Drop)]
 pub enum Source {
     /// A table with all its columns.
@@ -62,22 +62,22 @@ pub enum Source {
 /// An as-of join (KX, aj).
 #[derive(Drop)]
 pub struct AjQuery {
-    /// The columns to join on, the last of them as of.
+    /// The columns to join on. All but the last must be equal; for the last one the latest row counts.
     pub keys: Names,
-    /// The rows that are kept.
+    /// The rows of the result.
     pub left: Source,
-    /// The rows that are looked up.
+    /// The rows that are looked up for each row of the left side.
     pub right: Source,
 }
 
 /// A subscription (KX, tick).
 #[derive(Drop)]
 pub struct SubRequest {
-    /// The tables as the text names them, one where it is in order; the null symbol means every table.
+    /// The tables as the text names them: one, in a valid subscription. The null symbol means every table.
     pub tables: Names,
     /// Whether the names are the null symbol alone, as an atom.
     pub all: bool,
-    /// The names whose rows are wanted.
+    /// The symbols whose rows are wanted.
     pub names: Names,
 }
 

@@ -1,4 +1,4 @@
-//! Whether a value is one for each row, one for all, or a list of its own.
+//! Shapes: whether an expression has a value for each row, a single value, or a list.
 ghost use Rattle.std.specs.Prelude.{◌≡◌};
 ghost use Rattle.q_values.specs.Tree.{tree};
 ghost use Rattle.qsql_request.specs.Shapes.{literal_shape};
@@ -33,6 +33,8 @@ fn is_atom(value: &Value) -> bool
     }
 }
 
+/// The shape of a verb with one side, from that of its side. `distinct` gives a list, `not` and `neg` keep the shape, and
+/// each other verb gives one value.
 pub fn shape_of_one(verb: Verb1, side: Shape) -> Shape
     ensures { result ≡ Shapes.shape_of_one verb side }
 {
@@ -43,30 +45,35 @@ pub fn shape_of_one(verb: Verb1, side: Shape) -> Shape
     }
 }
 
+/// Whether the verb tests each item of its left side, and so has its shape.
 pub fn is_test(verb: Verb) -> bool
     ensures { result ≡ Shapes.is_test verb }
 {
     matches!(verb, Verb::In | Verb::Within | Verb::Like)
 }
 
+/// Whether it is one value.
 pub fn is_scalar(shape: Shape) -> bool
     ensures { result ≡ Shapes.is_scalar shape }
 {
     matches!(shape, Shape::Scalar)
 }
 
+/// Whether it is a list.
 pub fn is_list(shape: Shape) -> bool
     ensures { result ≡ Shapes.is_list shape }
 {
     matches!(shape, Shape::List)
 }
 
+/// Whether it is a value for each row.
 pub fn is_rows(shape: Shape) -> bool
     ensures { result ≡ Shapes.is_rows shape }
 {
     matches!(shape, Shape::Rows)
 }
 
+/// The shape of a verb with two sides, from those of its sides; `test` says whether the verb is a test.
 pub fn shape_of_two(test: bool, left: Shape, right: Shape) -> Shape
     ensures { result ≡ Shapes.shape_of_two test left right }
 {

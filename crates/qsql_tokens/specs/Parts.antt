@@ -1,4 +1,4 @@
--- What stands in a token.
+-- The parts of a token.
 use Rattle.std.specs.Prelude.{ℕ, ℤ, ◌==◌, Bool, false, List, Option, Some, None}
 use Rattle.q_verbs.specs.declared.verb.Verb.{Verb}
 use Rattle.qsql_tokens.specs.Tokens.{Token, number, name, sign, dyad, word, mark}
@@ -14,7 +14,7 @@ abbrev pub number_of : Token → Option ℤ
 number_of (number n) = Some n
 number_of _ = None
 
--- the verb of a token that may stand between two sides
+-- the verb of a token that takes two sides
 abbrev pub verb_of : Token → Option Verb
 verb_of (sign v) = Some v
 verb_of (dyad v) = Some v
@@ -24,6 +24,7 @@ abbrev pub word_of : Token → Option Word
 word_of (word own) = Some own
 word_of _ = None
 
+-- the byte of a mark
 abbrev pub mark_number : Mark → ℕ
 mark_number m.Left = 40
 mark_number m.Right = 41

@@ -1,10 +1,15 @@
--- The tokens of a text, with their places, or the place of the first fault (KX, Reference card; the words are reserved).
-use Rattle.std.specs.Prelude.{◌≡◌, ◌<◌, ◌≤◌, ℕ, ℤ, suc, ◌+◌, ◌-◌, ◌==◌, ◌||◌, ◌&&◌, nat_lt, Bool, not, if◌then◌else◌, List, [], ◌∷◌, length, take, drop, map, codes, Option, Some, None, slice_index}
+-- The tokens of a text with their offsets, or the offset of the first fault (KX, Reference card).
+use Rattle.std.specs.Prelude.{◌≡◌, ◌<◌, ◌≤◌, ℕ, ℤ, suc, ◌+◌, ◌-◌, ◌==◌, ◌||◌, ◌&&◌, Bool, not, if◌then◌else◌, List, [], ◌∷◌, length, take}
+use Rattle.std.specs.Prelude.{drop, map, codes, Option, Some, None, slice_index}
 use Rattle.std.specs.Str.{bytes_eq}
 use Rattle.q_values.specs.Tree.{Tree, atom}
 use Rattle.q_values.specs.declared.atom.Atom.{Atom}
 use Rattle.q_values.specs.declared.atom.Atom.TheVariants as a
+use Rattle.q_text.specs.Words.{is_blank, is_digit, is_letter}
 use Rattle.q_text.specs.Literal.{starts_literal, Literal, literal_at}
+use Rattle.q_words.specs.Words.{reserved_word}
+use Rattle.q_words.specs.declared.word.ReservedWord.{ReservedWord}
+use Rattle.q_words.specs.declared.word.ReservedWord.TheVariants as rw
 use Rattle.q_verbs.specs.declared.verb.Verb.{Verb}
 use Rattle.q_verbs.specs.declared.verb.Verb.TheVariants as v
 use Rattle.q_verbs.specs.declared.verb.Verb1.{Verb1}
@@ -27,87 +32,79 @@ pub data Token : Type 0 where
   word : Word → Token
   mark : Mark → Token
 
--- a token, and its place: that of its first byte
+-- a token, and the offset of its first byte
 pub record Placed : Type 0 where
   pub token : Token
   pub place : ℕ
 
--- a token, and the place behind it
+abbrev pub placed_at : Token → ℕ → Placed
+placed_at token offset = record { token = token; place = offset }
+
+-- a token, and the offset just past it
 pub record Read : Type 0 where
   pub token : Token
   pub end : ℕ
 
-abbrev pub is_blank : ℕ → Bool
-is_blank b = b == 32 || (b == 9 || (b == 10 || b == 13))
+-- a byte of a name: a letter, a digit or "_"
+abbrev pub is_name_byte : ℕ → Bool
+is_name_byte b = is_letter b || (is_digit b || b == 95)
 
-abbrev pub is_letter : ℕ → Bool
-is_letter b = (not (nat_lt b 65) && nat_lt b 91) || (not (nat_lt b 97) && nat_lt b 123)
-
-abbrev pub is_word : ℕ → Bool
-is_word b = is_letter b || ((not (nat_lt b 48) && nat_lt b 58) || b == 95)
-
--- the number of bytes at the front for which p holds
+-- the number of bytes at the start for which p holds
 abbrev pub front : (ℕ → Bool) → List ℕ → ℕ
 front p [] = 0
 front p (b ∷ bs) = if p b then suc (front p bs) else 0
 
--- the place of the next byte that is no blank
-abbrev pub behind_blanks : List ℕ → ℕ → ℕ
-behind_blanks text at = at + front is_blank (drop at text)
+-- the offset of the next byte that is no blank
+abbrev pub past_blanks : List ℕ → ℕ → ℕ
+past_blanks text at = at + front is_blank (drop at text)
 
--- the letters, digits and `_` from a place on
-abbrev pub word_at : List ℕ → ℕ → List ℕ
-word_at text at = take (front is_word (drop at text)) (drop at text)
+-- the letters, digits and `_` from an offset on
+abbrev pub name_at : List ℕ → ℕ → List ℕ
+name_at text at = take (front is_name_byte (drop at text)) (drop at text)
 
 abbrev pub or_else : {X : Type 0} → Option X → Option X → Option X
 or_else (Some x) other = Some x
 or_else None other = other
 
-abbrev pub clause_word : List ℕ → Option Word
-clause_word text =
-    if bytes_eq text (codes "select") then Some w.Select
-    else (if bytes_eq text (codes "exec") then Some w.Exec
-    else (if bytes_eq text (codes "by") then Some w.By
-    else (if bytes_eq text (codes "from") then Some w.From
-    else (if bytes_eq text (codes "where") then Some w.Where
-    else (if bytes_eq text (codes "aj") then Some w.Aj
-    else None)))))
+-- the token of a reserved word; `and` is `&`, `or` is `|`
+abbrev pub reserved_token : ReservedWord → Token
+reserved_token rw.Select = word w.Select
+reserved_token rw.Exec = word w.Exec
+reserved_token rw.By = word w.By
+reserved_token rw.From = word w.From
+reserved_token rw.Where = word w.Where
+reserved_token rw.Aj = word w.Aj
+reserved_token rw.Div = dyad v.Div
+reserved_token rw.Mod = dyad v.Mod
+reserved_token rw.Xbar = dyad v.Xbar
+reserved_token rw.Within = dyad v.Within
+reserved_token rw.In = dyad v.In
+reserved_token rw.Like = dyad v.Like
+reserved_token rw.And = dyad v.Lesser
+reserved_token rw.Or = dyad v.Greater
+reserved_token rw.Not = monad u.Not
+reserved_token rw.Neg = monad u.Neg
+reserved_token rw.Count = monad u.Count
+reserved_token rw.Sum = monad u.Sum
+reserved_token rw.Min = monad u.Min
+reserved_token rw.Max = monad u.Max
+reserved_token rw.First = monad u.First
+reserved_token rw.Last = monad u.Last
+reserved_token rw.Distinct = monad u.Distinct
 
--- `and` is `&`, `or` is `|`
-abbrev pub dyad_word : List ℕ → Option Verb
-dyad_word text =
-    if bytes_eq text (codes "div") then Some v.Div
-    else (if bytes_eq text (codes "mod") then Some v.Mod
-    else (if bytes_eq text (codes "xbar") then Some v.Xbar
-    else (if bytes_eq text (codes "within") then Some v.Within
-    else (if bytes_eq text (codes "in") then Some v.In
-    else (if bytes_eq text (codes "like") then Some v.Like
-    else (if bytes_eq text (codes "and") then Some v.Lesser
-    else (if bytes_eq text (codes "or") then Some v.Greater
-    else None)))))))
+abbrev pub reserved_or_name : Option ReservedWord → List ℕ → Token
+reserved_or_name (Some reserved) text = reserved_token reserved
+reserved_or_name None text = name text
 
-abbrev pub monad_word : List ℕ → Option Verb1
-monad_word text =
-    if bytes_eq text (codes "not") then Some u.Not
-    else (if bytes_eq text (codes "neg") then Some u.Neg
-    else (if bytes_eq text (codes "count") then Some u.Count
-    else (if bytes_eq text (codes "sum") then Some u.Sum
-    else (if bytes_eq text (codes "min") then Some u.Min
-    else (if bytes_eq text (codes "max") then Some u.Max
-    else (if bytes_eq text (codes "first") then Some u.First
-    else (if bytes_eq text (codes "last") then Some u.Last
-    else (if bytes_eq text (codes "distinct") then Some u.Distinct
-    else None))))))))
+-- a reserved word, or else a name
+abbrev pub named : List ℕ → Token
+named text = reserved_or_name (reserved_word text) text
 
 abbrev pub token_or : {X : Type 0} → (X → Token) → Option X → Token → Token
 token_or f None other = other
 token_or f (Some x) other = f x
 
--- a reserved word, or else a name
-abbrev pub named : List ℕ → Token
-named text = token_or word (clause_word text) (token_or dyad (dyad_word text) (token_or monad (monad_word text) (name text)))
-
--- what follows `.u.`
+-- the calls that follow `.u.`
 abbrev pub plant_word : List ℕ → Option Word
 plant_word text =
     if bytes_eq text (codes "i") then Some w.Count
@@ -154,22 +151,22 @@ taken f length (Some x) = Some (f x, length)
 abbrev pub sign_at : ℕ → ℕ → Option (Token × ℕ)
 sign_at b next = or_else (taken sign 2 (long_sign b next)) (or_else (taken sign 1 (short_sign b)) (taken mark 1 (mark_of b)))
 
--- whether `.u.` stands there
+-- whether the text has `.u.` at an offset
 abbrev pub is_dotted : List ℕ → ℕ → Bool
 is_dotted text at = slice_index text at == 46 && (slice_index text (at + 1) == 117 && slice_index text (at + 2) == 46)
 
--- what begins with a dot
+-- a call, which begins with a dot, and its length
 abbrev pub dotted : List ℕ → ℕ → Option (Token × ℕ)
 dotted text at =
     if is_dotted text at
-    then taken word (3 + length (word_at text (at + 3))) (plant_word (word_at text (at + 3)))
+    then taken word (3 + length (name_at text (at + 3))) (plant_word (name_at text (at + 3)))
     else None
 
 abbrev pub read_at : ℕ → Option (Token × ℕ) → Option Read
 read_at at None = None
 read_at at (Some found) = Some (record { token = found.0; end = at + found.1 })
 
--- whether a literal's last byte is no suffix of a long
+-- whether a literal that ends at an offset has no suffix of a long
 abbrev pub is_plain : List ℕ → ℕ → Bool
 is_plain text end = not (slice_index text (end - 1) == 106)
 
@@ -191,27 +188,27 @@ literal_read text (Some l) = Some (record { token = literal_token l.value (is_pl
 abbrev pub sign_or_dotted : List ℕ → ℕ → Option (Token × ℕ)
 sign_or_dotted text at = or_else (dotted text at) (sign_at (slice_index text at) (slice_index text (at + 1)))
 
--- the token that begins at a place
+-- the token that begins at an offset
 abbrev pub token_at : List ℕ → ℕ → Option Read
 token_at text at =
     if starts_literal text at then literal_read text (literal_at text at)
-    else (if is_letter (slice_index text at) then Some (record { token = named (word_at text at); end = at + length (word_at text at) })
+    else (if is_letter (slice_index text at) then Some (record { token = named (name_at text at); end = at + length (name_at text at) })
     else read_at at (sign_or_dotted text at))
 
--- the next byte from a place on that is no blank begins this token, or none
+-- the next byte from an offset on that is no blank begins this token, or none
 abbrev pub IsNext : List ℕ → ℕ → Option Read → Type 0
-IsNext text at found = (behind_blanks text at < length text) × (token_at text (behind_blanks text at) ≡ found)
+IsNext text at found = (past_blanks text at < length text) × (token_at text (past_blanks text at) ≡ found)
 
--- the tokens from a place on: one behind the other, with nothing but blanks between them and behind the last
+-- the tokens from an offset on, in order, with nothing but blanks between them and after the last
 pub data AreTokens : List ℕ → ℕ → List Placed → Type 0 where
-  no_more : {text : List ℕ} {at : ℕ} → length text ≤ behind_blanks text at → AreTokens text at []
+  no_more : {text : List ℕ} {at : ℕ} → length text ≤ past_blanks text at → AreTokens text at []
   one_more : {text : List ℕ} {at : ℕ} {read : Read} {placed : List Placed} → IsNext text at (Some read) → AreTokens text read.end placed
-      → AreTokens text at (record { token = read.token; place = behind_blanks text at } ∷ placed)
+      → AreTokens text at (record { token = read.token; place = past_blanks text at } ∷ placed)
 
--- the first place from a place on where a token should begin and none does
+-- the first offset from another on where a token should begin and none does
 pub data IsTokenFault : List ℕ → ℕ → ℕ → Type 0 where
-  none_begins : {text : List ℕ} {at : ℕ} → IsNext text at None → IsTokenFault text at (behind_blanks text at)
-  behind_one : {text : List ℕ} {at place : ℕ} {read : Read} → IsNext text at (Some read) → IsTokenFault text read.end place → IsTokenFault text at place
+  none_begins : {text : List ℕ} {at : ℕ} → IsNext text at None → IsTokenFault text at (past_blanks text at)
+  after_one : {text : List ℕ} {at fault : ℕ} {read : Read} → IsNext text at (Some read) → IsTokenFault text read.end fault → IsTokenFault text at fault
 
 abbrev pub only_tokens : List Placed → List Token
 only_tokens placed = map (λ p. p.token) placed

@@ -1,22 +1,24 @@
-//! The tokens of a text.
-ghost use Rattle.std.specs.Prelude.{◌≡◌, ◌≤◌, ◌<◌, ◌+◌, length, map, IfSome, IfOk, IfErr};
+//! Reading the tokens of a text, from its start to its end.
+ghost use Rattle.std.specs.Prelude.{◌≡◌, ◌≤◌, ◌<◌, ◌+◌, ◌++◌, [], ◌∷◌, length, map, IfSome, IfOk, IfErr, OnOk};
 ghost use Rattle.q_values.specs.Tree.{tree};
 ghost use Rattle.q_text.specs.Literal.{literal_at};
-ghost use Rattle.qsql_tokens.specs.Tokens.{token_at, literal_read, literal_token, atom_token, long_in, dotted, is_dotted, sign_or_dotted, read_at, AreTokens};
+ghost use Rattle.qsql_tokens.specs.Tokens.{placed_at, token_at, literal_read, literal_token, atom_token, long_in, dotted, is_dotted, sign_or_dotted, read_at};
+ghost use Rattle.qsql_tokens.specs.Tokens.{AreTokens};
 ghost use Rattle.qsql_tokens.specs.Views.{token_of, placed_of, SignRead, TokenRead, RefusesTokens};
 
-use crate::characters::{behind_blanks_at, byte_at, is_letter_byte, word_from};
+use crate::characters::{name_from, skip_blanks};
 use crate::keywords::{named_token, plant_word_of};
 use crate::refusal::TokenRefusal;
 use crate::signs::sign_of;
 use crate::token::{Placed, Token};
-use q_text::{LiteralRefusal, begins_literal, read_literal};
-use q_values::{Atom, Value};
-use std::alloc::{AllocError, Global};
+use q_text::{LiteralRefusal, begins_literal, byte_at, is_letter, read_literal};
+use q_values::{Atom, NoMemory, Value};
+use std::alloc::Global;
 
+// In bytes.
 const LONGEST_TEXT: usize = 65_536;
 
-// The token of a literal; `plain` says whether its last byte is no suffix.
+// The token of a literal; `plain` says whether it has no suffix of a long.
 fn token_of_value(value: Value, plain: bool) -> Token
     ensures { token_of result ≡ literal_token (tree value) plain }
 {
@@ -66,13 +68,14 @@ fn long_of(atom: &Atom) -> Option<i64>
     }
 }
 
+// The literal at an offset and the offset just past it, or `None` where no literal begins there.
 fn literal_token_at(
     alloc: Global,
     text: &[u8],
     at: usize,
-) -> Result<Option<(Token, usize)>, AllocError>
+) -> Result<Option<(Token, usize)>, NoMemory>
     ensures value { IfOk result (λ found. TokenRead found (literal_read text.now (literal_at text.now at))) }
-    ensures behind { IfOk result (λ found. IfSome found (λ read. at < read.1)) }
+    ensures advances { IfOk result (λ found. IfSome found (λ read. at < read.1)) }
 {
     match read_literal(alloc, text, at) {
         Ok((value, end)) => {
@@ -80,11 +83,11 @@ fn literal_token_at(
             Ok(Some((token_of_value(value, plain), end)))
         }
         Err(LiteralRefusal::BadLiteral(_)) => Ok(None),
-        Err(LiteralRefusal::NoMemory) => Err(AllocError),
+        Err(LiteralRefusal::NoMemory) => Err(NoMemory),
     }
 }
 
-// Whether `.u.` stands at a place.
+// Whether the text has `.u.` at an offset.
 fn begins_dotted(text: &[u8], at: usize) -> bool
     requires short { length text.now ≤ 65536 }
     requires within { at < length text.now }
@@ -93,6 +96,7 @@ fn begins_dotted(text: &[u8], at: usize) -> bool
     byte_at(text, at) == b'.' && byte_at(text, at + 1) == b'u' && byte_at(text, at + 2) == b'.'
 }
 
+// A call such as `.u.sub` at an offset, and its length.
 fn dotted_token(text: &[u8], at: usize) -> Option<(Token, usize)>
     requires short { length text.now ≤ 65536 }
     requires within { at < length text.now }
@@ -102,19 +106,19 @@ fn dotted_token(text: &[u8], at: usize) -> Option<(Token, usize)>
     if !begins_dotted(text, at) {
         return None;
     }
-    let name = word_from(text, at + 3);
+    let name = name_from(text, at + 3);
     match plant_word_of(name) {
         Some(word) => Some((Token::Word(word), 3 + name.len())),
         None => None,
     }
 }
 
-// A sign, or a text that begins with a dot.
+// The sign or the call at an offset, and the offset just past it.
 fn sign_token(text: &[u8], at: usize) -> Option<(Token, usize)>
     requires short { length text.now ≤ 65536 }
     requires within { at < length text.now }
     ensures value { TokenRead result (read_at at (sign_or_dotted text.now at)) }
-    ensures behind { IfSome result (λ read. at < read.1) }
+    ensures advances { IfSome result (λ read. at < read.1) }
 {
     if let Some((token, len)) = dotted_token(text, at) {
         return Some((token, at + len));
@@ -125,44 +129,55 @@ fn sign_token(text: &[u8], at: usize) -> Option<(Token, usize)>
     }
 }
 
-// The token at a place, and the place behind it.
-fn token_from(alloc: Global, text: &[u8], at: usize) -> Result<Option<(Token, usize)>, AllocError>
+// The token at an offset and the offset just past it, or `None` where none begins there.
+fn token_from(alloc: Global, text: &[u8], at: usize) -> Result<Option<(Token, usize)>, NoMemory>
     requires short { length text.now ≤ 65536 }
     requires within { at < length text.now }
     ensures value { IfOk result (λ found. TokenRead found (token_at text.now at)) }
-    ensures behind { IfOk result (λ found. IfSome found (λ read. at < read.1)) }
+    ensures advances { IfOk result (λ found. IfSome found (λ read. at < read.1)) }
 {
     if begins_literal(text, at) {
         literal_token_at(alloc, text, at)
-    } else if is_letter_byte(byte_at(text, at)) {
-        let name = word_from(text, at);
+    } else if is_letter(byte_at(text, at)) {
+        let name = name_from(text, at);
         Ok(Some((named_token(alloc, name)?, at + name.len())))
     } else {
         Ok(sign_token(text, at))
     }
 }
 
-/// The tokens of a text with their places, which are counted in bytes from 0 (KX, Reference card).
+// Appends a token that begins at an offset.
+fn push_token(tokens: &mut Vec<Placed>, token: Token, offset: usize) -> Result<(), NoMemory>
+    ensures { OnOk result (map placed_of tokens.new.items
+        ≡ map placed_of tokens.old.items ++ placed_at (token_of token) offset ∷ []) }
+{
+    tokens.push(Placed {
+        token,
+        place: offset,
+    })?;
+    Ok(())
+}
+
+/// The tokens of a text with their offsets, which count bytes from 0 (KX, Reference card).
 ///
-/// A refusal is that the text is longer than 65,536 bytes, or else the first place where a token should begin and none does.
+/// Refused with `TooLong` where the text is longer than 65,536 bytes, and else with `NoToken` at the first offset where a
+/// token should begin and none does.
 pub fn read_tokens(alloc: Global, text: &[u8]) -> Result<Vec<Placed>, TokenRefusal>
-    // What is read is the text's tokens, from its front to its end.
     ensures ok { IfOk result (λ tokens. (length text.now ≤ 65536) × AreTokens text.now 0 (map placed_of tokens.items)) }
-    // A refusal has its cause.
     ensures refused { IfErr result (RefusesTokens text.now) }
 {
     if text.len() > LONGEST_TEXT {
         return Err(TokenRefusal::TooLong);
     }
     let mut tokens = Vec::new(alloc);
-    let mut place = behind_blanks_at(text, 0);
-    while place < text.len() {
-        match token_from(alloc, text, place)? {
+    let mut offset = skip_blanks(text, 0);
+    while offset < text.len() {
+        match token_from(alloc, text, offset)? {
             Some((token, end)) => {
-                tokens.push(Placed { token, place })?;
-                place = behind_blanks_at(text, end);
+                push_token(&mut tokens, token, offset)?;
+                offset = skip_blanks(text, end);
             }
-            None => return Err(TokenRefusal::NoToken(place)),
+            None => return Err(TokenRefusal::NoToken(offset)),
         }
     }
     Ok(tokens)

@@ -1,14 +1,19 @@
-//! Limits of a text's tokens.
+//! The limits on the number of tokens and on the depth of brackets.
 ghost use Rattle.std.specs.Prelude.{◌≡◌, ◌≤◌, ◌<◌, ◌+◌, ◌^◌, map};
 ghost use Rattle.qsql_tokens.specs.Tokens.{only_tokens};
 ghost use Rattle.qsql_tokens.specs.Views.{token_of, placed_of};
-ghost use Rattle.qsql_tokens.specs.Limits.{open_behind, open_behind_mark, nests, is_too_much};
+ghost use Rattle.qsql_tokens.specs.Limits as spec;
 
 use crate::token::{Mark, Placed, Token};
 
-fn open_behind_sign(depth: usize, mark: Mark) -> usize
+const MOST_TOKENS: usize = 1024;
+
+const DEEPEST: usize = 64;
+
+// The number of open brackets after a mark. A closing bracket closes the last open one, of either kind.
+fn depth_after_mark(depth: usize, mark: Mark) -> usize
     requires { depth ≤ 64 }
-    ensures { result ≡ open_behind_mark depth mark }
+    ensures { result ≡ spec.depth_after_mark depth mark }
 {
     match mark {
         Mark::Left | Mark::Open => depth + 1,
@@ -17,13 +22,13 @@ fn open_behind_sign(depth: usize, mark: Mark) -> usize
     }
 }
 
-// How many brackets are open behind a token.
-fn open_behind_token(depth: usize, token: &Token) -> usize
+// The number of open brackets after a token.
+fn depth_after(depth: usize, token: &Token) -> usize
     requires { depth ≤ 64 }
-    ensures { result ≡ open_behind depth (token_of token.now) }
+    ensures { result ≡ spec.depth_after depth (token_of token.now) }
 {
     match token {
-        Token::Mark(mark) => open_behind_sign(depth, *mark),
+        Token::Mark(mark) => depth_after_mark(depth, *mark),
         Token::Number(_) => depth,
         Token::Literal(_) => depth,
         Token::Name(_) => depth,
@@ -34,22 +39,23 @@ fn open_behind_token(depth: usize, token: &Token) -> usize
     }
 }
 
+// Whether more than 64 brackets are open after one of the tokens.
 fn nests_deep(tokens: &[Placed]) -> bool
-    ensures { result ≡ nests 0 (only_tokens (map placed_of tokens.now)) }
+    ensures { result ≡ spec.nests 0 (only_tokens (map placed_of tokens.now)) }
 {
     let mut depth = 0;
     for placed in tokens {
-        depth = open_behind_token(depth, &placed.token);
-        if depth > 64 {
+        depth = depth_after(depth, &placed.token);
+        if depth > DEEPEST {
             return true;
         }
     }
     false
 }
 
-/// Whether there are more than 1,024 tokens, or brackets deeper than 64.
+/// Whether there are more than 1,024 tokens, or more than 64 brackets are open at one of them.
 pub fn are_too_many(tokens: &[Placed]) -> bool
-    ensures { result ≡ is_too_much (only_tokens (map placed_of tokens.now)) }
+    ensures { result ≡ spec.is_too_much (only_tokens (map placed_of tokens.now)) }
 {
-    tokens.len() > 1024 || nests_deep(tokens)
+    tokens.len() > MOST_TOKENS || nests_deep(tokens)
 }

@@ -1,6 +1,6 @@
 //! Why a text has no tokens.
 
-use std::alloc::{AllocError, AllocFailed};
+use q_values::NoMemory;
 use thiserror::Error;
 
 /// Why a text has no tokens.
@@ -9,32 +9,21 @@ pub enum TokenRefusal {
     /// The text is longer than 65,536 bytes.
     #[error("limit")]
     TooLong,
-    /// At this place a token should begin, and none does.
+    /// At this offset, counted in bytes from 0, a token should begin, and none does.
     #[error("parse")]
     NoToken(usize),
-    /// Memory was wanting.
+    /// Out of memory.
     #[error("out of memory")]
     NoMemory,
 }
 
-impl From<AllocError> for TokenRefusal {
+impl From<NoMemory> for TokenRefusal {
     ghost use Rattle.std.specs.Prelude.{◌≡◌};
     ghost use Rattle.qsql_tokens.specs.declared.refusal.TokenRefusal.TheVariants as r;
 
     ghost from_gives = { λ _ e. e ≡ r.NoMemory };
 
-    fn from(_e: AllocError) -> TokenRefusal {
-        TokenRefusal::NoMemory
-    }
-}
-
-impl<T: Drop> From<AllocFailed<T>> for TokenRefusal {
-    ghost use Rattle.std.specs.Prelude.{◌≡◌};
-    ghost use Rattle.qsql_tokens.specs.declared.refusal.TokenRefusal.TheVariants as r;
-
-    ghost from_gives = { λ _ e. e ≡ r.NoMemory };
-
-    fn from(_e: AllocFailed<T>) -> TokenRefusal {
+    fn from(_e: NoMemory) -> TokenRefusal {
         TokenRefusal::NoMemory
     }
 }

@@ -1,4 +1,4 @@
-//! Signs, the longest first.
+//! Signs: verbs and marks. A sign of two bytes is read before one of one byte.
 ghost use Rattle.std.specs.Prelude.{◌≡◌, ◌+◌, ◌<◌, ◌≤◌, ◌^◌, IfSome};
 ghost use Rattle.qsql_tokens.specs.Tokens.{long_sign, short_sign, mark_of, sign_at};
 ghost use Rattle.qsql_tokens.specs.Views.{SignRead};
@@ -6,6 +6,7 @@ ghost use Rattle.qsql_tokens.specs.Views.{SignRead};
 use crate::token::{Mark, Token};
 use q_verbs::Verb;
 
+// The verb of these two bytes.
 fn verb_of_two(b: u8, next: u8) -> Option<Verb>
     ensures { result ≡ long_sign b next }
 {
@@ -20,6 +21,7 @@ fn verb_of_two(b: u8, next: u8) -> Option<Verb>
     }
 }
 
+// The verb of this byte.
 fn verb_of_one(b: u8) -> Option<Verb>
     ensures { result ≡ short_sign b }
 {
@@ -44,6 +46,7 @@ fn verb_of_one(b: u8) -> Option<Verb>
     }
 }
 
+// The mark of this byte.
 fn mark_of_byte(b: u8) -> Option<Mark>
     ensures { result ≡ mark_of b }
 {
@@ -66,7 +69,7 @@ fn mark_of_byte(b: u8) -> Option<Mark>
     }
 }
 
-/// The sign of a byte and the one behind it, and the sign's length.
+/// The sign that begins with a byte, given the byte after it, and the sign's length: 1 or 2 bytes.
 pub fn sign_of(b: u8, next: u8) -> Option<(Token, usize)>
     ensures value { SignRead result (sign_at b next) }
     ensures some { IfSome result (λ read. (0 < read.1) × (read.1 ≤ 2)) }

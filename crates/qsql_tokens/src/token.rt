@@ -6,7 +6,7 @@ ghost use Rattle.qsql_tokens.specs.Parts;
 use q_values::{Sym, Value};
 use q_verbs::{Verb, Verb1};
 
-/// A reserved word that is no verb, and the three texts that begin with a dot.
+/// A reserved word that is no verb, or one of the calls that begin with a dot.
 #[derive(Clone, Copy)]
 pub enum Word {
     /// `select`
@@ -51,28 +51,30 @@ pub enum Mark {
 /// A token of a text.
 #[derive(Drop)]
 pub enum Token {
-    /// A long atom that is written without a suffix.
+    /// A long atom without a suffix.
     Number(i64),
     /// Any other literal.
     Literal(Value),
     /// A name.
     Name(Sym),
-    /// A verb with one side.
+    /// A verb with one side, such as `sum`.
     Monad(Verb1),
-    /// A verb between two sides, as a sign.
+    /// A verb between two sides that is a sign, such as `+`.
     Sign(Verb),
-    /// A verb between two sides, as a word.
+    /// A verb between two sides that is a word, such as `div`.
     Dyad(Verb),
-    /// Another word.
+    /// Any other word.
     Word(Word),
-    /// Another sign.
+    /// Any other sign.
     Mark(Mark),
 }
 
-/// A token and the place of its first byte.
+/// A token, and where it begins.
 #[derive(Drop)]
 pub struct Placed {
+    /// The token.
     pub token: Token,
+    /// The offset of its first byte in the text.
     pub place: usize,
 }
 
@@ -81,7 +83,7 @@ impl Token {
     ghost use Rattle.qsql_tokens.specs.Parts.{number_of, verb_of, word_of, is_mark, mark_number, name_of};
     ghost use Rattle.qsql_tokens.specs.Views.{NameOr};
 
-    /// The number of a long atom without suffix.
+    /// The number, where it is a long atom without a suffix.
     pub fn number(&self) -> Option<i64>
         ensures { result ≡ number_of (token_of self.now) }
     {
@@ -97,7 +99,7 @@ impl Token {
         }
     }
 
-    /// The verb, where one may stand between two sides.
+    /// The verb, where it is one that takes two sides.
     pub fn verb(&self) -> Option<Verb>
         ensures { result ≡ verb_of (token_of self.now) }
     {
@@ -113,7 +115,7 @@ impl Token {
         }
     }
 
-    /// The reserved word.
+    /// The word, where it is one that is no verb.
     pub fn word(&self) -> Option<Word>
         ensures { result ≡ word_of (token_of self.now) }
     {
@@ -129,7 +131,7 @@ impl Token {
         }
     }
 
-    /// Whether it is this sign.
+    /// Whether it is this mark.
     pub fn is(&self, mark: Mark) -> bool
         ensures { result ≡ is_mark mark (token_of self.now) }
     {
@@ -145,7 +147,7 @@ impl Token {
         }
     }
 
-    /// The name, or else the token again.
+    /// The name, or else the token as it was.
     pub fn into_name(self) -> Result<Sym, Token>
         ensures { NameOr result (token_of self) }
     {
@@ -162,7 +164,7 @@ impl Token {
     }
 }
 
-// The sign's byte.
+// The byte of a mark.
 fn number_of_mark(mark: Mark) -> u8
     ensures { result ≡ Parts.mark_number mark }
 {

@@ -4,8 +4,8 @@ use Rattle.q_text.proofs.columns.numbers_of.Given as goal
 
 abbrev pub invariant-loop-done : goal.invariant-loop-done
 invariant-loop-done l = record {
-  value : joined (Some l.numbers.items) (numbers_from (l.run.count - l.done) l.form l.run.kind l.text l.place) ≡ numbers_from l.run.count l.form l.run.kind l.text l.at;
-  within : l.place ≤ length l.text;
+  value : joined (Some l.numbers.items) (numbers_from (l.run.count - l.done) l.form l.run.kind l.text l.offset) ≡ numbers_from l.run.count l.form l.run.kind l.text l.at;
+  within : l.offset ≤ length l.text;
   few : l.done ≤ l.run.count;
 }
 

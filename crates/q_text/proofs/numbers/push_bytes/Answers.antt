@@ -4,5 +4,5 @@ use Rattle.std.proofs.Common.{◌++◌, drop}
 use Rattle.q_text.proofs.BytesOf.{bytes_of-one}
 use Rattle.q_text.proofs.numbers.push_bytes.Goals as goal
 
-pub returns-else-word-place-ge2 : goal.returns-else-word-place-ge2
-returns-else-word-place-ge2 c = bytes_of-one c.loop-place.numbers.items (c.args.numbers.now.items ++ bytes_of (drop c.args.from c.args.word.now)) c.args.word.now c.loop-place.place (omega arith) (omega arith) c.loop-place.invariant
+pub returns-else-word-offset-ge2 : goal.returns-else-word-offset-ge2
+returns-else-word-offset-ge2 c = bytes_of-one c.loop-offset.numbers.items (c.args.numbers.now.items ++ bytes_of (drop c.args.from c.args.word.now)) c.args.word.now c.loop-offset.offset (omega arith) (omega arith) c.loop-offset.invariant

@@ -6,6 +6,6 @@ use Rattle.q_text.proofs.patterns.is_front.Goals.{then-done-pattern-via-then-don
 pub returns-then-done-pattern : goal.returns-then-done-pattern
 returns-then-done-pattern c =
     elim c.then-done-pattern.branch [
-      | then-done-pattern-via-then-done-pattern w ↦ sym (is_front-short c.args.pattern.now c.args.word.now c.loop-place.done c.loop-place.place (omega arith) (omega arith)) ∙ c.loop-place.invariant.value
-      | then-done-pattern-via-else-done-pattern+then-not-fits w ↦ sym (is_front-differs c.args.pattern.now c.args.word.now c.loop-place.done c.loop-place.place (omega arith) (omega arith) (cc)) ∙ c.loop-place.invariant.value
+      | then-done-pattern-via-then-done-pattern w ↦ sym (is_front-short c.args.pattern.now c.args.word.now c.loop-offset.done c.loop-offset.offset (omega arith) (omega arith)) ∙ c.loop-offset.invariant.value
+      | then-done-pattern-via-else-done-pattern+then-not-fits w ↦ sym (is_front-differs c.args.pattern.now c.args.word.now c.loop-offset.done c.loop-offset.offset (omega arith) (omega arith) (cc)) ∙ c.loop-offset.invariant.value
     ]

@@ -2,12 +2,12 @@ use Rattle.std.proofs.Common.{◌≡◌, ◌≤◌, ◌-◌, length, drop, false
 use Rattle.q_text.specs.Strings.{before, quoted}
 use Rattle.q_text.proofs.strings.quoted_at.Given as goal
 
-abbrev pub invariant-loop-place : goal.invariant-loop-place
-invariant-loop-place l = record {
-  value : before l.bytes.items (l.place - l.from) (quoted l.escaped (drop l.place l.text)) ≡ quoted false (drop l.from l.text);
-  forward : l.from ≤ l.place;
-  within : l.place ≤ length l.text;
+abbrev pub invariant-loop-offset : goal.invariant-loop-offset
+invariant-loop-offset l = record {
+  value : before l.bytes.items (l.offset - l.from) (quoted l.escaped (drop l.offset l.text)) ≡ quoted false (drop l.from l.text);
+  forward : l.from ≤ l.offset;
+  within : l.offset ≤ length l.text;
 }
 
-abbrev pub decreases-loop-place : goal.decreases-loop-place
-decreases-loop-place l = length l.text - l.place
+abbrev pub decreases-loop-offset : goal.decreases-loop-offset
+decreases-loop-offset l = length l.text - l.offset

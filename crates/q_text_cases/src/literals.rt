@@ -1,34 +1,11 @@
-//! Tests with values from outside.
+//! Literals with the values that kdb+ gives them.
 
 ghost use Rattle.std.specs.Prelude.{◌≡◌};
 
-use crate::dates::write_date;
-use crate::literal::read_literal;
-use crate::refusal::LiteralRefusal;
-use q_values::{Atom, Column, Kind, Symbols, Value, Vector};
+use q_text::{LiteralRefusal, read_literal};
+use q_values::{Atom, Column, Symbols, Value, Vector};
 use std::alloc::Global;
 use std::test::Fail;
-
-// What reading a literal comes to, in plain numbers: the type number, negated for an atom, the values and the place
-// behind.
-fn kind_number(kind: Kind) -> i64 {
-    match kind {
-        Kind::Boolean => 1,
-        Kind::Byte => 4,
-        Kind::Short => 5,
-        Kind::Integer => 6,
-        Kind::Long => 7,
-        Kind::Character => 10,
-        Kind::Symbol => 11,
-        Kind::Timestamp => 12,
-        Kind::Month => 13,
-        Kind::Date => 14,
-        Kind::Timespan => 16,
-        Kind::Minute => 17,
-        Kind::Second => 18,
-        Kind::Time => 19,
-    }
-}
 
 fn is_number(atom: &Atom, number: i64) -> bool {
     match atom {
@@ -61,24 +38,25 @@ fn has_numbers(vector: &Vector, numbers: &[i64]) -> bool {
     vector.len() == numbers.len() && (0..numbers.len()).all(|i| has_number(vector, i, numbers[i]))
 }
 
+// Whether the value has this type number, which is negative for an atom, and these numbers.
 fn is_value(value: &Value, type_: i64, numbers: &[i64]) -> bool {
     match value {
         Value::Atom(atom) => {
             numbers.len() == 1
-                && kind_number(atom.kind()).wrapping_neg() == type_
+                && i64::from(atom.kind().type_number()) == type_.wrapping_neg()
                 && is_number(atom, numbers[0])
         }
         Value::Vector(vector) => {
-            kind_number(vector.kind()) == type_ && has_numbers(vector, numbers)
+            i64::from(vector.kind().type_number()) == type_ && has_numbers(vector, numbers)
         }
         _ => false,
     }
 }
 
-// Whether the literal at the front of the text is this one, with this place behind it.
+// Whether the text begins with this literal, which ends at this offset.
 fn reads(alloc: Global, text: &[u8], type_: i64, numbers: &[i64], end: usize) -> bool {
     match read_literal(alloc, text, 0) {
-        Ok((value, behind)) => behind == end && is_value(&value, type_, numbers),
+        Ok((value, past)) => past == end && is_value(&value, type_, numbers),
         Err(_) => false,
     }
 }
@@ -256,48 +234,50 @@ fn symbols(rt: HostRuntime) -> Result<(), Fail> {
     Ok(())
 }
 
+const NO_LITERALS: [&[u8]; 37] = [
+    b"",
+    b"x",
+    b"-x",
+    b"- 1",
+    b"-0N",
+    b"-09:30",
+    b"-0D01",
+    b"2h 3",
+    b"9:30",
+    b"0D.5",
+    b"10:00:00.5",
+    b"2024.1.2",
+    b"1.5",
+    b"1x",
+    b"12a:",
+    b"0x1",
+    b"0xg0",
+    b"02b",
+    b"2024.00m",
+    b"2024.13.01",
+    b"2023.02.29",
+    b"0000.01.01",
+    b"09:60",
+    b"0D24",
+    b"1234567D",
+    b"0D00:00:00.1234567890",
+    b"2024.01.02D24:00",
+    b"9223372036854775808",
+    b"-9223372036854775808",
+    b"32768h",
+    b"-32768h",
+    b"40000 1h",
+    b"2147483648i",
+    b"106751D23:47:16.854775808",
+    b"2292.04.10D23:47:16.854775808",
+    b"1707.09.22D00:12:43.145224192",
+    b"1 99999999999999999999999",
+];
+
 #[test]
 fn faults(rt: HostRuntime) {
     let alloc = rt.alloc();
-    for text in [
-        b"".as_slice(),
-        b"x",
-        b"-x",
-        b"- 1",
-        b"-0N",
-        b"-09:30",
-        b"-0D01",
-        b"2h 3",
-        b"9:30",
-        b"0D.5",
-        b"10:00:00.5",
-        b"2024.1.2",
-        b"1.5",
-        b"1x",
-        b"12a:",
-        b"0x1",
-        b"0xg0",
-        b"02b",
-        b"2024.00m",
-        b"2024.13.01",
-        b"2023.02.29",
-        b"0000.01.01",
-        b"09:60",
-        b"0D24",
-        b"1234567D",
-        b"0D00:00:00.1234567890",
-        b"2024.01.02D24:00",
-        b"9223372036854775808",
-        b"-9223372036854775808",
-        b"32768h",
-        b"-32768h",
-        b"40000 1h",
-        b"2147483648i",
-        b"106751D23:47:16.854775808",
-        b"2292.04.10D23:47:16.854775808",
-        b"1707.09.22D00:12:43.145224192",
-        b"1 99999999999999999999999",
-    ] {
+    for text in NO_LITERALS {
         assert!(rt; is_bad(alloc, text, 0));
     }
     assert!(rt; is_bad(alloc, b"1", 1));
@@ -344,16 +324,4 @@ fn signs(rt: HostRuntime) {
     ] {
         assert!(rt; !binds(alloc, text));
     }
-}
-
-#[test]
-fn dates_in_writing(rt: HostRuntime) -> Result<(), Fail> {
-    let alloc = rt.alloc();
-    let mut text = Vec::new(alloc);
-    write_date(&mut text, 8767)?;
-    write_date(&mut text, -106752)?;
-    write_date(&mut text, 106751)?;
-    write_date(&mut text, 59)?;
-    assert!(rt; text.as_slice() == b"2024.01.021707.09.222292.04.102000.02.29".as_slice());
-    Ok(())
 }

@@ -1,10 +1,10 @@
 use Rattle.std.proofs.Common.{length, ◌-◌, ◌≡◌, ◌≤◌, ◌+◌, drop}
-use Rattle.qsql_tokens.specs.Tokens.{front, is_word}
-use Rattle.qsql_tokens.proofs.characters.word_len.Given as goal
+use Rattle.qsql_tokens.specs.Tokens.{front, is_name_byte}
+use Rattle.qsql_tokens.proofs.characters.name_len.Given as goal
 
 abbrev pub invariant-loop-len : goal.invariant-loop-len
 invariant-loop-len l = record {
-  value : l.len + front is_word (drop l.len l.bytes) ≡ front is_word l.bytes;
+  value : l.len + front is_name_byte (drop l.len l.bytes) ≡ front is_name_byte l.bytes;
   within : l.len ≤ length l.bytes;
 }
 
