@@ -24,19 +24,7 @@ fn name_of_atom(alloc: Global, atom: &Atom) -> Result<Sym, NoMemory>
 {
     match atom {
         Atom::Symbol(name) => copy_of(alloc, name),
-        Atom::Boolean(_) => Sym::copied(alloc, &[]),
-        Atom::Byte(_) => Sym::copied(alloc, &[]),
-        Atom::Short(_) => Sym::copied(alloc, &[]),
-        Atom::Integer(_) => Sym::copied(alloc, &[]),
-        Atom::Long(_) => Sym::copied(alloc, &[]),
-        Atom::Character(_) => Sym::copied(alloc, &[]),
-        Atom::Timestamp(_) => Sym::copied(alloc, &[]),
-        Atom::Month(_) => Sym::copied(alloc, &[]),
-        Atom::Date(_) => Sym::copied(alloc, &[]),
-        Atom::Timespan(_) => Sym::copied(alloc, &[]),
-        Atom::Minute(_) => Sym::copied(alloc, &[]),
-        Atom::Second(_) => Sym::copied(alloc, &[]),
-        Atom::Time(_) => Sym::copied(alloc, &[]),
+        _ => Sym::copied(alloc, &[]),
     }
 }
 
@@ -104,19 +92,7 @@ fn is_null(atom: &Atom) -> bool
 {
     match atom {
         Atom::Symbol(name) => name.bytes().len() == 0,
-        Atom::Boolean(_) => false,
-        Atom::Byte(_) => false,
-        Atom::Short(_) => false,
-        Atom::Integer(_) => false,
-        Atom::Long(_) => false,
-        Atom::Character(_) => false,
-        Atom::Timestamp(_) => false,
-        Atom::Month(_) => false,
-        Atom::Date(_) => false,
-        Atom::Timespan(_) => false,
-        Atom::Minute(_) => false,
-        Atom::Second(_) => false,
-        Atom::Time(_) => false,
+        _ => false,
     }
 }
 

@@ -39,19 +39,7 @@ fn is_pattern_character(atom: &Atom) -> bool
 {
     match atom {
         Atom::Character(b) => *b != b'[',
-        Atom::Boolean(_) => false,
-        Atom::Byte(_) => false,
-        Atom::Short(_) => false,
-        Atom::Integer(_) => false,
-        Atom::Long(_) => false,
-        Atom::Symbol(_) => false,
-        Atom::Timestamp(_) => false,
-        Atom::Month(_) => false,
-        Atom::Date(_) => false,
-        Atom::Timespan(_) => false,
-        Atom::Minute(_) => false,
-        Atom::Second(_) => false,
-        Atom::Time(_) => false,
+        _ => false,
     }
 }
 

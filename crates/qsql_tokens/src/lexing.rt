@@ -52,19 +52,7 @@ fn long_of(atom: &Atom) -> Option<i64>
 {
     match atom {
         Atom::Long(number) => Some(*number),
-        Atom::Boolean(_) => None,
-        Atom::Byte(_) => None,
-        Atom::Short(_) => None,
-        Atom::Integer(_) => None,
-        Atom::Character(_) => None,
-        Atom::Symbol(_) => None,
-        Atom::Timestamp(_) => None,
-        Atom::Month(_) => None,
-        Atom::Date(_) => None,
-        Atom::Timespan(_) => None,
-        Atom::Minute(_) => None,
-        Atom::Second(_) => None,
-        Atom::Time(_) => None,
+        _ => None,
     }
 }
 
