@@ -125,7 +125,8 @@ pub data IsRequest : List Token → RequestForm → Type 0 where
   count : IsRequest (word w.Count ∷ []) count_form
   day : IsRequest (word w.Day ∷ []) day_form
   subscription : {t u : Token} {tables names : List (List ℕ)} → IsSymbols t tables → IsSymbols u names
-      → IsRequest (word w.Sub ∷ mark m.Open ∷ t ∷ mark m.Semicolon ∷ u ∷ mark m.Close ∷ []) (sub_form (record { tables = tables; all = is_null_symbol u; names = names }))
+      → IsRequest (word w.Sub ∷ mark m.Open ∷ t ∷ mark m.Semicolon ∷ u ∷ mark m.Close ∷ [])
+      (sub_form (record { tables = tables; all = is_null_symbol u; names = names }))
 
 -- some request begins with these tokens
 abbrev pub GoesOn : List Token → Type 0
