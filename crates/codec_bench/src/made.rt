@@ -1,14 +1,14 @@
-//! Objects as bytes.
+//! The objects that are timed, as bytes.
 
 use std::alloc::{AllocError, Global};
 
-// The head of a vector: its type, an attribute and a count.
+// The head of a vector: its type, the attribute 0 and a count.
 fn put_head(out: &mut Vec<u8>, code: u8, count: u32) -> Result<(), AllocError> {
     out.extend_from_slice(&[code, 0])?;
     out.extend_from_slice(&count.to_le_bytes())
 }
 
-// A vector of numbers of eight bytes that rise by this step.
+// A vector of numbers of eight bytes, each `step` more than the one before.
 fn put_numbers(out: &mut Vec<u8>, code: u8, count: u32, step: u64) -> Result<(), AllocError> {
     put_head(out, code, count)?;
     for i in 0..count {
@@ -17,7 +17,7 @@ fn put_numbers(out: &mut Vec<u8>, code: u8, count: u32, step: u64) -> Result<(),
     Ok(())
 }
 
-// A vector of symbols, a hundred in turn.
+// A vector of symbols: a hundred of them, over and over.
 fn put_symbols(out: &mut Vec<u8>, count: u32) -> Result<(), AllocError> {
     put_head(out, 11, count)?;
     for i in 0..count {
@@ -27,14 +27,14 @@ fn put_symbols(out: &mut Vec<u8>, count: u32) -> Result<(), AllocError> {
     Ok(())
 }
 
-/// A vector of longs.
+/// The bytes of a vector of `count` longs.
 pub fn longs(alloc: Global, count: u32) -> Result<Vec<u8>, AllocError> {
     let mut out = Vec::new(alloc);
     put_numbers(&mut out, 7, count, 1_000_003)?;
     Ok(out)
 }
 
-/// A table of trades: time, symbol, price and size.
+/// The bytes of a table of trades with `rows` rows: time, symbol, price and size.
 pub fn trades(alloc: Global, rows: u32) -> Result<Vec<u8>, AllocError> {
     let mut out = Vec::from_slice(alloc, b"b\0c\x0b\0\x04\0\0\0time\0sym\0price\0size\0")?;
     put_head(&mut out, 0, 4)?;

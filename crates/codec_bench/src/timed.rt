@@ -1,4 +1,4 @@
-//! Nanoseconds of the codec's and the framer's calls, one line for each call.
+//! The calls of the codec and the framer, timed in nanoseconds: one line for each call.
 
 use anyhow::{Result, bail};
 use ipc_codec::{Order, decode, encode, measure};
@@ -11,7 +11,7 @@ use std::time::Instant;
 /// How often each call is timed.
 const ROUNDS: u32 = 5;
 
-/// The bytes that a link gives at once.
+/// The bytes that the framer is fed at a time, as many as a session reads at once.
 const PIECE: usize = 65536;
 
 fn measure_timed<R: Clock + Print>(rt: &R, name: &str, object: &[u8]) -> Result<()> {
@@ -64,7 +64,7 @@ fn framer_timed<R: Clock + Print>(rt: &R, alloc: Global, name: &str, message: &[
     Ok(())
 }
 
-/// Times each call over this object.
+/// Times each call over this object, and prints a line for each time.
 pub fn report<R: Clock + Print + AllocGlobal>(rt: &R, name: &str, object: &Vec<u8>) -> Result<()> {
     let message = message_of(rt.alloc(), object)?;
     for _ in 0..ROUNDS {

@@ -1,4 +1,4 @@
-//! Columns to work on.
+//! The columns that are timed.
 ghost use Rattle.std.specs.Prelude.{◌≡◌, IfOk};
 ghost use Rattle.q_values.specs.declared.kind.Kind.TheVariants as k;
 
@@ -6,13 +6,13 @@ use anyhow::Result;
 use q_values::{Atom, Column, Kind, LongKind, NoMemory, Sym, Vector};
 use std::alloc::Global;
 
-/// What one long is from the next, so that they lie in no order.
+/// The difference of one long and the next, which puts them in no order.
 pub const STEP: u64 = 0x9e37_79b9_7f4a_7c15;
 
-/// The same of another column.
+/// The difference for a second column.
 pub const OTHER_STEP: u64 = 0xd1b5_4a32_d192_ed03;
 
-/// Longs of all 64 bits, by the step.
+/// `count` longs over all 64 bits, each `step` more than the one before.
 pub fn longs(alloc: Global, count: u32, step: u64) -> Result<Vector, NoMemory>
     ensures { IfOk result (λ v. v.kind ≡ k.Long) }
 {
@@ -23,7 +23,7 @@ pub fn longs(alloc: Global, count: u32, step: u64) -> Result<Vector, NoMemory>
     Ok(Vector::from_column(Column::Longs(LongKind::Long, items)))
 }
 
-/// Longs from 0 to 15.
+/// `count` longs from 0 to 15.
 pub fn codes(alloc: Global, count: u32) -> Result<Vector, NoMemory>
     ensures { IfOk result (λ v. v.kind ≡ k.Long) }
 {
@@ -34,7 +34,7 @@ pub fn codes(alloc: Global, count: u32) -> Result<Vector, NoMemory>
     Ok(Vector::from_column(Column::Longs(LongKind::Long, items)))
 }
 
-/// Five of the codes.
+/// Five of those longs.
 pub fn five(alloc: Global) -> Result<Vector, NoMemory>
     ensures { IfOk result (λ v. v.kind ≡ k.Long) }
 {
@@ -49,7 +49,7 @@ fn name_of(i: u32) -> [u8; 4] {
     [b'S', digit(n / 100), digit(n / 10), digit(n)]
 }
 
-/// Symbols of a letter and three digits.
+/// `count` symbols of a letter and three digits.
 pub fn symbols(alloc: Global, count: u32) -> Result<Vector> {
     let mut items = Vector::new(alloc, Kind::Symbol);
     for i in 0..count {
@@ -58,7 +58,7 @@ pub fn symbols(alloc: Global, count: u32) -> Result<Vector> {
     Ok(items)
 }
 
-/// Five of the symbols.
+/// Five of those symbols.
 pub fn five_symbols(alloc: Global) -> Result<Vector> {
     let mut items = Vector::new(alloc, Kind::Symbol);
     for name in ["S002", "S003", "S005", "S007", "S011"] {

@@ -1,5 +1,5 @@
-//! Nanoseconds of the verbs, one line for each call: what it worked on, its name, its nanoseconds and the sum of what it
-//! gave.
+//! The verbs, timed in nanoseconds: one line for each call, with the kind of the items, the verb, its nanoseconds and the
+//! sum of its result.
 ghost use Rattle.std.specs.Prelude.{IsTrue};
 ghost use Rattle.q_verbs.specs.Aggregates.{is_aggregate};
 ghost use Rattle.q_verbs.specs.Places.{is_by_place};
@@ -135,14 +135,14 @@ fn codes_reported<R: Clock + Print>(rt: &R, alloc: Global, count: u32) -> Result
     Ok(())
 }
 
-/// Times the verbs over so many longs.
+/// Times the verbs over `count` longs.
 pub fn report_longs<R: Clock + Print + AllocGlobal>(rt: &R, count: u32) -> Result<()> {
     numbers_reported(rt, rt.alloc(), count)?;
     codes_reported(rt, rt.alloc(), count)?;
     Ok(())
 }
 
-/// Times `in` and `like` over so many symbols.
+/// Times `in` and `like` over `count` symbols.
 pub fn report_symbols<R: Clock + Print + AllocGlobal>(rt: &R, count: u32) -> Result<()> {
     let alloc = rt.alloc();
     let items = made::symbols(alloc, count)?;
