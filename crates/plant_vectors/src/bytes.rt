@@ -1,6 +1,6 @@
-//! The bytes of worked messages, each as it stands on the wire (KX, IPC reference).
+//! The bytes of worked messages, each as it is sent (KX, IPC reference).
 
-/// The greeting of the user `u` with the password `p`, with the capability 3.
+/// The handshake of the user `u` with the password `p` and the capability 3.
 pub const GREETING: &[u8] = b"u:p\x03\0";
 
 /// The update of `trade` by one row: 0D09:30, KX, 10050, 200.
@@ -17,7 +17,7 @@ pub const BIG_QUERY: &[u8] = b"\0\x01\0\0\0\0\0\x1f\x0a\0\0\0\0\x11select from t
 /// The text `select from quote`.
 pub const QUOTE_QUERY: &[u8] = b"\x01\x01\0\0\x1f\0\0\0\x0a\0\x11\0\0\0select from quote";
 
-/// The answer to a greeting.
+/// The answer to the handshake.
 pub const GREETED: &[u8] = b"\x03";
 
 /// The answer `(::)` to an update that was logged.
@@ -39,7 +39,7 @@ pub const NO_QUOTE: &[u8] =
     b"\x01\x02\0\0c\0\0\0b\0c\x0b\0\x07\0\0\0date\0time\0sym\0bid\0ask\0bsize\0asize\0\0\0\x07\0\0\0\x0e\
 \0\0\0\0\0\x10\0\0\0\0\0\x0b\0\0\0\0\0\x07\0\0\0\0\0\x07\0\0\0\0\0\x07\0\0\0\0\0\x07\0\0\0\0\0";
 
-/// A float, which is no value of the plant.
+/// A float, which is outside the profile.
 pub const FLOAT: &[u8] = b"\x01\x01\0\0\x11\0\0\0\xf7\0\0\0\0\0\0\xf8?";
 
 /// The error `nyi`.
@@ -108,7 +108,7 @@ pub const SPREAD: &[u8] =
 \xce\x1a\x1f\0\0\0H!\xc7(\x1f\0\0\xf5a\0\x07\0\x02\0\0\0\x01\0\0\0\0\0\0\0\x02\0\0\0\0\0\0\0\x07\
 \0\x02\0\0\0\x03\0\0\0\0\0\0\0\x04\0\0\0\0\0\0\0";
 
-/// The two rows of it.
+/// The table with the two rows of `SPREAD`.
 pub const SPREAD_ROWS: &[u8] =
     b"\x01\x02\0\0\x8a\0\0\0b\0c\x0b\0\x05\0\0\0date\0time\0sym\0price\0size\0\0\0\x05\0\0\0\x0e\0\x02\
 \0\0\0?\x22\0\0?\x22\0\0\x10\0\x02\0\0\0\0\xf0\xd9\xce\x1a\x1f\0\0\0H!\xc7(\x1f\0\0\x0b\0\x02\0\0\
@@ -148,33 +148,33 @@ pub const WITHOUT_TIME: &[u8] =
 /// The symbols `.u.upd`, `trade` and `KX`.
 pub const THREE_SYMBOLS: &[u8] = b"\x01\x01\0\0\x1e\0\0\0\x0b\0\x03\0\0\0.u.upd\0trade\0KX\0";
 
-/// The same without a reply.
+/// The same as an async message.
 pub const ASYNC_THREE_SYMBOLS: &[u8] = b"\x01\0\0\0\x1e\0\0\0\x0b\0\x03\0\0\0.u.upd\0trade\0KX\0";
 
-/// The update, for which no reply is waited.
+/// The update as an async message.
 pub const ASYNC_UPDATE: &[u8] =
     b"\x01\0\0\0B\0\0\0\0\0\x03\0\0\0\xf5.u.upd\0\xf5trade\0\0\0\x04\0\0\0\xf0\0\xf0\xd9\xce\x1a\x1f\0\
 \0\xf5KX\0\xf9B'\0\0\0\0\0\0\xf9\xc8\0\0\0\0\0\0\0";
 
-/// The text `select from trade`, for which no reply is waited.
+/// The text `select from trade` as an async message.
 pub const ASYNC_QUERY: &[u8] = b"\x01\0\0\0\x1f\0\0\0\x0a\0\x11\0\0\0select from trade";
 
-/// A float, for which no reply is waited.
+/// A float as an async message.
 pub const ASYNC_FLOAT: &[u8] = b"\x01\0\0\0\x11\0\0\0\xf7\0\0\0\0\0\0\xf8?";
 
 /// The char atom `x`.
 pub const CHARACTER: &[u8] = b"\x01\x01\0\0\x0a\0\0\0\xf6x";
 
-/// A long vector with a count of 2147483647, of which nothing follows.
+/// A vector of longs with the count 2147483647, after which nothing follows.
 pub const PAST_THE_END: &[u8] = b"\x01\x01\0\0\x0e\0\0\0\x07\0\xff\xff\xff\x7f";
 
 /// The same with the count -1.
 pub const NEGATIVE: &[u8] = b"\x01\x01\0\0\x0e\0\0\0\x07\0\xff\xff\xff\xff";
 
-/// The front of an update whose symbol has 257 bytes.
+/// An update whose symbol has 257 bytes, up to that symbol.
 pub const LONG_FRONT: &[u8] =
     b"\x01\x01\0\0A\x01\0\0\0\0\x03\0\0\0\xf5.u.upd\0\xf5trade\0\0\0\x04\0\0\0\xf0\0\xf0\xd9\xce\x1a\x1f\
 \0\0\xf5";
 
-/// Its end.
+/// The rest of that update, from the zero of the symbol on.
 pub const LONG_BACK: &[u8] = b"\0\xf9\x01\0\0\0\0\0\0\0\xf9\x01\0\0\0\0\0\0\0";

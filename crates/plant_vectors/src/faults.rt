@@ -1,18 +1,14 @@
-//! Sessions whose link fails, or gives nothing for long.
+//! Sessions whose link fails or times out.
 use crate::bytes::{
     DONE, FIRST, GREETED, GREETING, NO_ROW, ONE_ROW, ORDERED, QUERY, SECOND, THIRD, UPDATE,
 };
-use crate::sitting::{DAY, NOW, Read, Wanted, script_goes, script_goes_at};
+use crate::sitting::{GREETED_TURN, LOGGED_TURN, NOW, Read, Wanted, script_goes, script_goes_at};
 use outside_mem::Taking;
-use q_values::{NoMemory, Turn};
+use q_values::{NANOSECONDS_PER_DAY, NoMemory, Turn};
 use session::End;
 use std::alloc::Global;
 use std::sync::Wait;
 use std::test::Fail;
-
-const GREETED_TURN: Turn = Turn::Greeted { capability: 3 };
-
-const LOGGED_TURN: Turn = Turn::Logged { place: 0, now: NOW };
 
 const QUIET_TURN: Turn = Turn::Quiet {
     length: 0,
@@ -57,7 +53,7 @@ fn idle_and_link_faults(rt: HostRuntime) -> Result<(), Fail> {
     Ok(())
 }
 
-// What was logged stays logged where a later read fails.
+/// What was logged stays logged where a later read fails.
 #[test]
 fn read_fault_behind_an_update(rt: HostRuntime) -> Result<(), Fail> {
     let wanted = Wanted {
@@ -70,7 +66,7 @@ fn read_fault_behind_an_update(rt: HostRuntime) -> Result<(), Fail> {
     Ok(())
 }
 
-// A response that is cut off stands at the end of what was sent.
+/// What was sent ends with the prefix of the response that was written.
 #[test]
 fn write_fault_within_an_answer(rt: HostRuntime) -> Result<(), Fail> {
     let wanted = Wanted {
@@ -124,7 +120,7 @@ fn three_idles_end<R: Wait>(rt: &R, alloc: Global) -> Result<bool, NoMemory> {
     script_goes(rt, alloc, &reads, &[], wanted)
 }
 
-// Idles between the bytes are counted, and find no date to end.
+/// Read timeouts between the bytes are counted, and end no date.
 #[test]
 fn idles_between_bytes(rt: HostRuntime) -> Result<(), Fail> {
     assert!(rt; two_idles_go(&rt, rt.alloc())?);
@@ -143,7 +139,7 @@ fn idle_rolls<R: Wait>(rt: &R, alloc: Global) -> Result<bool, NoMemory> {
             Turn::Logged { place: 2, now: NOW },
             Turn::Rolled {
                 place: 3,
-                now: NOW + DAY,
+                now: NOW + NANOSECONDS_PER_DAY,
             },
             Turn::Answered { length: 4 },
         ],
@@ -156,11 +152,11 @@ fn idle_rolls<R: Wait>(rt: &R, alloc: Global) -> Result<bool, NoMemory> {
         Read::Idle,
         Read::Bytes(QUERY),
     ];
-    let readings = [NOW, NOW, NOW, NOW + DAY];
+    let readings = [NOW, NOW, NOW, NOW + NANOSECONDS_PER_DAY];
     script_goes_at(rt, alloc, &readings, &reads, &[], wanted)
 }
 
-// An idle on the next date ends the open one, which is then shown by symbol.
+/// A read timeout on the next date ends the open one, whose rows are then shown by symbol.
 #[test]
 fn idle_ends_the_date(rt: HostRuntime) -> Result<(), Fail> {
     assert!(rt; idle_rolls(&rt, rt.alloc())?);

@@ -1,10 +1,11 @@
-//! Sessions that read good and bad messages to their ends.
+//! Sessions that read well-formed and malformed messages to their end.
 use crate::bytes::{
     BIG_QUERY, CHARACTER, DONE, FLOAT, GREETED, GREETING, NEGATIVE, NO_QUOTE, NO_ROW, NYI, ONE_ROW,
     PAST_THE_END, QUERY, QUOTE_QUERY, UPDATE,
 };
 use crate::sitting::{
-    NOW, Read, Wanted, bytes_go, greeted, messages_go, pieces_go, script_goes, single_bytes,
+    GREETED_TURN, LOGGED_TURN, Read, Wanted, bytes_go, greeted, messages_go, pieces_go,
+    script_goes, single_bytes,
 };
 use q_values::{Limits, NoMemory, Turn};
 use session::{Bad, End};
@@ -12,18 +13,16 @@ use std::alloc::Global;
 use std::sync::Wait;
 use std::test::Fail;
 
-const GREETED_TURN: Turn = Turn::Greeted { capability: 3 };
-
-const LOGGED_TURN: Turn = Turn::Logged { place: 0, now: NOW };
-
-// What the first update and the query behind it are answered.
+/// The responses to the handshake, the first update and the query after it.
 const SENT: &[&[u8]] = &[GREETED, DONE, ONE_ROW];
 
+/// The turns of the same.
 const TURNS: &[Turn] = &[GREETED_TURN, LOGGED_TURN, Turn::Answered { length: 1 }];
 
-// The place behind the greeting, and that behind the update.
+/// The offset where the handshake ends.
 const GREETING_END: usize = 5;
 
+/// The offset where the update ends.
 const UPDATE_END: usize = 71;
 
 #[test]
@@ -37,7 +36,7 @@ fn first_update_answered(rt: HostRuntime) -> Result<(), Fail> {
     Ok(())
 }
 
-// Whether the input goes so however it is cut into two pieces.
+/// Whether a session goes so wherever its input is divided into two pieces.
 fn each_cut_goes<R: Wait>(
     rt: &R,
     alloc: Global,
@@ -72,7 +71,7 @@ fn end_of_prefix(length: usize) -> End {
     }
 }
 
-// How many of the answers are sent where the input has this length.
+/// How many of the responses are sent where the input has this length.
 fn answers_of_prefix(length: usize) -> usize {
     if length < GREETING_END {
         0
@@ -118,7 +117,8 @@ fn big_endian_in_single_bytes(rt: HostRuntime) -> Result<(), Fail> {
     Ok(())
 }
 
-// Whether the input goes so in three pieces, the second of which holds the end of one message and the next one's front.
+/// Whether a session goes so whose input comes in three pieces, the second with the end of one message and the front of the
+/// next one.
 fn three_pieces_go<R: Wait>(
     rt: &R,
     alloc: Global,
@@ -168,7 +168,7 @@ fn empty_table(rt: HostRuntime) -> Result<(), Fail> {
     Ok(())
 }
 
-// Whether bytes behind the greeting are no message, for this cause at this place.
+/// Whether the bytes after the handshake are no message, for this cause at this offset.
 fn is_bad<R: Wait>(
     rt: &R,
     alloc: Global,
@@ -210,7 +210,7 @@ fn negative_count(rt: HostRuntime) -> Result<(), Fail> {
     Ok(())
 }
 
-// Sixty-five lists in one another, the innermost empty.
+/// Sixty-five nested lists, the innermost empty.
 fn nested_lists(alloc: Global) -> Result<Vec<u8>, NoMemory> {
     let mut bytes = Vec::from_slice(alloc, b"\x01\x01\x00\x00\x8e\x01\x00\x00")?;
     for _ in 0..64 {
@@ -245,7 +245,7 @@ fn truncated_and_empty_input(rt: HostRuntime) -> Result<(), Fail> {
     Ok(())
 }
 
-// Whether a message is declined as no request, and the next one served.
+/// Whether a message is declined as no request, and the next one served.
 fn is_unserved<R: Wait>(rt: &R, alloc: Global, message: &[u8]) -> Result<bool, NoMemory> {
     let wanted = Wanted {
         end: End::Closed,
@@ -261,7 +261,7 @@ fn float_not_built(rt: HostRuntime) -> Result<(), Fail> {
     Ok(())
 }
 
-// A character alone is a text, which isn't answered.
+/// A single character is a text, which isn't answered.
 #[test]
 fn character_is_a_text(rt: HostRuntime) -> Result<(), Fail> {
     assert!(rt; is_unserved(&rt, rt.alloc(), CHARACTER)?);

@@ -1,4 +1,4 @@
-//! One session over devices in memory.
+//! One session over devices in memory, and what is expected of it.
 ghost use Rattle.std.specs.Prelude.{◌≡◌};
 ghost use Rattle.q_values.specs.Limits.{AreLimits};
 
@@ -14,21 +14,27 @@ use std::sync::Wait;
 /// 2024.01.02D09:30, in nanoseconds since 2000.01.01.
 pub const NOW: i64 = 757_503_000_000_000_000;
 
-/// The nanoseconds of a day.
-pub const DAY: i64 = 86_400_000_000_000;
+/// The turn of the handshake with the capability 3.
+pub const GREETED_TURN: Turn = Turn::Greeted { capability: 3 };
+
+/// The turn of the first update, logged at `NOW`.
+pub const LOGGED_TURN: Turn = Turn::Logged { place: 0, now: NOW };
 
 /// 2024.01.02, in days since 2000.01.01.
 pub const TODAY: i32 = 8767;
 
-/// How a session is to end, what it is to send, and what it is to note.
+/// What is expected of a session.
 #[derive(Clone, Copy)]
 pub struct Wanted<'a> {
+    /// Why it ends.
     pub end: End,
+    /// What it sends, in parts.
     pub sent: &'a [&'a [u8]],
+    /// The turns that it notes.
     pub turns: &'a [Turn],
 }
 
-/// Whether the bytes are these parts, one behind the other.
+/// Whether the bytes are the concatenation of these parts.
 fn are_joined(bytes: &[u8], parts: &[&[u8]]) -> bool {
     let mut rest = bytes;
     for part in parts {
@@ -127,7 +133,7 @@ pub fn sat<R: Wait>(
     }
 }
 
-/// Whether the session over this link and clock goes as it is to go.
+/// Whether the session over this link and clock goes as expected.
 fn goes_by<R: Wait>(
     rt: &R,
     alloc: Global,
@@ -147,7 +153,7 @@ fn goes_by<R: Wait>(
     )
 }
 
-/// Whether the session over this link, with these readings of the clock, goes as it is to go.
+/// Whether the session over this link, with these readings of the clock, goes as expected.
 pub fn goes<R: Wait>(
     rt: &R,
     alloc: Global,
@@ -165,7 +171,7 @@ pub fn goes<R: Wait>(
     }
 }
 
-/// The bytes of these parts, one behind the other.
+/// The concatenation of these parts.
 pub fn joined(alloc: Global, parts: &[&[u8]]) -> Result<Vec<u8>, NoMemory> {
     let mut bytes = Vec::new(alloc);
     for part in parts {
@@ -174,7 +180,7 @@ pub fn joined(alloc: Global, parts: &[&[u8]]) -> Result<Vec<u8>, NoMemory> {
     Ok(bytes)
 }
 
-/// Whether a session whose input is these bytes goes so.
+/// Whether a session whose input is these bytes goes as expected.
 pub fn bytes_go<R: Wait>(
     rt: &R,
     alloc: Global,
@@ -188,7 +194,7 @@ pub fn bytes_go<R: Wait>(
     goes(rt, alloc, limits, &[NOW], link, wanted)
 }
 
-/// The bytes of the greeting and these messages.
+/// The bytes of the handshake and of these messages.
 pub fn greeted(alloc: Global, messages: &[&[u8]]) -> Result<Vec<u8>, NoMemory> {
     let mut bytes = joined(alloc, &[GREETING])?;
     for message in messages {
@@ -197,7 +203,7 @@ pub fn greeted(alloc: Global, messages: &[&[u8]]) -> Result<Vec<u8>, NoMemory> {
     Ok(bytes)
 }
 
-/// Whether a session whose input is the greeting and these messages, with these readings of the clock, goes so.
+/// Whether a session whose input is the handshake and these messages goes as expected, with these readings of the clock.
 pub fn messages_go_at<R: Wait>(
     rt: &R,
     alloc: Global,
@@ -210,7 +216,7 @@ pub fn messages_go_at<R: Wait>(
     goes(rt, alloc, &Limits::standard(), readings, link, wanted)
 }
 
-/// Whether a session whose input is the greeting and these messages goes so.
+/// Whether a session whose input is the handshake and these messages goes as expected.
 pub fn messages_go<R: Wait>(
     rt: &R,
     alloc: Global,
@@ -223,8 +229,11 @@ pub fn messages_go<R: Wait>(
 /// One read of a scripted link.
 #[derive(Clone, Copy)]
 pub enum Read<'a> {
+    /// The read gives these bytes.
     Bytes(&'a [u8]),
+    /// The read times out.
     Idle,
+    /// The read fails.
     Fault,
 }
 
@@ -244,7 +253,7 @@ fn input_of(alloc: Global, reads: &[Read]) -> Result<Pieces, NoMemory> {
     Ok(pieces)
 }
 
-/// The bytes cut into pieces of one byte.
+/// Each byte as a piece of its own.
 pub fn single_bytes(alloc: Global, bytes: &[u8]) -> Result<Pieces, NoMemory> {
     let mut pieces = Pieces::new(alloc);
     for byte in bytes {
@@ -261,14 +270,14 @@ fn takings_of(alloc: Global, writes: &[Taking]) -> Result<Takings, NoMemory> {
     Ok(takings)
 }
 
-/// A link with these reads, and whose writes go as these.
+/// A scripted link with these reads and writes.
 pub fn link_of(alloc: Global, reads: &[Read], writes: &[Taking]) -> Result<MemLink, NoMemory> {
     let input = input_of(alloc, reads)?;
     let takings = takings_of(alloc, writes)?;
     Ok(MemLink::script(alloc, input, takings))
 }
 
-/// Whether a session whose input comes in these pieces goes so.
+/// Whether a session whose input comes in these pieces goes as expected.
 pub fn pieces_go<R: Wait>(
     rt: &R,
     alloc: Global,
@@ -279,7 +288,8 @@ pub fn pieces_go<R: Wait>(
     goes(rt, alloc, &Limits::standard(), &[NOW], link, wanted)
 }
 
-/// Whether a session over a link with these reads and writes, which three idles end, goes so with these readings.
+/// Whether a session over a link with these reads and writes, which three read timeouts end, goes as expected with these
+/// readings of the clock.
 pub fn script_goes_at<R: Wait>(
     rt: &R,
     alloc: Global,
@@ -294,7 +304,7 @@ pub fn script_goes_at<R: Wait>(
     goes(rt, alloc, &limits, readings, link, wanted)
 }
 
-/// Whether a session over a link with these reads and writes, which three idles end, goes so.
+/// Whether a session over a link with these reads and writes, which three read timeouts end, goes as expected.
 pub fn script_goes<R: Wait>(
     rt: &R,
     alloc: Global,

@@ -1,20 +1,16 @@
-//! Sessions that update tables: their dates, their order, and their refusals.
+//! Sessions that update tables: dates, row order, and refusals.
 use crate::bytes::{
     ARRIVED, ASYNC_FLOAT, ASYNC_QUERY, ASYNC_THREE_SYMBOLS, ASYNC_UPDATE, BOTH_DATES, CHARACTERS,
     DONE, EMPTY_COLUMNS, FIRST, FOO, FOURTH, GREETED, LENGTH, LIMIT, LONG_BACK, LONG_FRONT,
     MORE_THAN_ONE_DAY, NO_ROW, OF_FOO, OF_INT, OF_TWO, ONE_ROW, QUERY, SECOND, SPREAD, SPREAD_ROWS,
     THIRD, THREE_SYMBOLS, TYPE, UPDATE, WITHOUT_TIME,
 };
-use crate::sitting::{DAY, NOW, Wanted, joined, messages_go, messages_go_at};
-use q_values::{NoMemory, Turn};
+use crate::sitting::{GREETED_TURN, LOGGED_TURN, NOW, Wanted, joined, messages_go, messages_go_at};
+use q_values::{NANOSECONDS_PER_DAY, NoMemory, Turn};
 use session::End;
 use std::alloc::Global;
 use std::sync::Wait;
 use std::test::Fail;
-
-const GREETED_TURN: Turn = Turn::Greeted { capability: 3 };
-
-const LOGGED_TURN: Turn = Turn::Logged { place: 0, now: NOW };
 
 const SECOND_TURN: Turn = Turn::Logged { place: 1, now: NOW };
 
@@ -42,7 +38,7 @@ fn arrival_within_open_date(rt: HostRuntime) -> Result<(), Fail> {
 }
 
 fn fourth_rolls<R: Wait>(rt: &R, alloc: Global) -> Result<bool, NoMemory> {
-    let next = NOW + DAY;
+    let next = NOW + NANOSECONDS_PER_DAY;
     let wanted = Wanted {
         end: End::Closed,
         sent: &[GREETED, DONE, DONE, DONE, DONE, BOTH_DATES],
@@ -72,7 +68,7 @@ fn symbol_order_after_roll(rt: HostRuntime) -> Result<(), Fail> {
     Ok(())
 }
 
-// Whether an update is logged, and this is then shown.
+/// Whether an update is logged, and this is then the answer to the query.
 fn is_shown<R: Wait>(rt: &R, alloc: Global, update: &[u8], shown: &[u8]) -> Result<bool, NoMemory> {
     let wanted = Wanted {
         end: End::Closed,
@@ -94,14 +90,14 @@ fn function_as_characters(rt: HostRuntime) -> Result<(), Fail> {
     Ok(())
 }
 
-// The time of the clock is put before the items where it is missing.
+/// Where the time is missing, that of the clock becomes the first item.
 #[test]
 fn time_put_first(rt: HostRuntime) -> Result<(), Fail> {
     assert!(rt; is_shown(&rt, rt.alloc(), WITHOUT_TIME, ONE_ROW)?);
     Ok(())
 }
 
-// Whether an update at this time is refused with this error, and changes nothing.
+/// Whether an update at this moment is refused with this error, and changes nothing.
 fn is_refused_at<R: Wait>(
     rt: &R,
     alloc: Global,
@@ -126,7 +122,7 @@ fn is_refused<R: Wait>(
     is_refused_at(rt, alloc, NOW, update, error)
 }
 
-// The update whose symbol has 257 bytes.
+/// The update whose symbol has 257 bytes.
 fn long_symbol(alloc: Global) -> Result<Vec<u8>, NoMemory> {
     joined(alloc, &[LONG_FRONT, &[b'x'; 257], LONG_BACK])
 }
@@ -147,7 +143,7 @@ fn refused_updates(rt: HostRuntime) -> Result<(), Fail> {
 }
 
 fn earlier_clock_logs<R: Wait>(rt: &R, alloc: Global) -> Result<bool, NoMemory> {
-    let earlier = NOW - DAY;
+    let earlier = NOW - NANOSECONDS_PER_DAY;
     let wanted = Wanted {
         end: End::Closed,
         sent: &[GREETED, DONE, ONE_ROW],
@@ -165,12 +161,13 @@ fn earlier_clock_logs<R: Wait>(rt: &R, alloc: Global) -> Result<bool, NoMemory> 
 
 #[test]
 fn clock_beyond_one_day(rt: HostRuntime) -> Result<(), Fail> {
-    assert!(rt; is_refused_at(&rt, rt.alloc(), NOW + 2 * DAY, UPDATE, MORE_THAN_ONE_DAY)?);
+    let later = NOW + 2 * NANOSECONDS_PER_DAY;
+    assert!(rt; is_refused_at(&rt, rt.alloc(), later, UPDATE, MORE_THAN_ONE_DAY)?);
     assert!(rt; earlier_clock_logs(&rt, rt.alloc())?);
     Ok(())
 }
 
-// Whether a message is `type`, and the next one served.
+/// Whether a message is answered with the error `type` if at all, and the next one served.
 fn is_mistyped<R: Wait>(
     rt: &R,
     alloc: Global,
