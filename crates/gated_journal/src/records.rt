@@ -1,7 +1,8 @@
 //! The payloads of a journal's records, all in one vector of bytes.
-ghost use Rattle.std.specs.Prelude.{◌≡◌, ◌==◌, ◌<◌, ◌+◌, ◌≤◌, ◌++◌, [], ◌∷◌, Some, slice_get, take, drop, length, OnOk, OnErr};
+ghost use Rattle.std.specs.Prelude.{◌≡◌, ◌==◌, ◌<◌, ◌+◌, ◌≤◌, ◌++◌, [], ◌∷◌, Some, slice_get, option_copied, take, drop, length, OnOk, OnErr};
 ghost use Rattle.gated_journal.specs.Records.{payloads_in, AreInside};
 
+use crate::payloads::Payloads;
 use q_values::NoMemory;
 use std::alloc::Global;
 use std::marker::Model;
@@ -69,6 +70,27 @@ impl Records {
         self.len() == 0
     }
 
+    /// Lends the payload at the index `i`, if there is one.
+    pub fn get(&self, i: usize) -> Option<&[u8]>
+        ensures { option_copied result ≡ slice_get self.now i }
+    {
+        if i < self.spans.len() {
+            Some(self.at(i))
+        } else {
+            None
+        }
+    }
+
+    /// Goes over the payloads, in order.
+    pub fn iter(&self) -> Payloads<'_>
+        ensures { result ≡ self.now }
+    {
+        Payloads {
+            bytes: self.bytes.as_slice(),
+            spans: self.spans.as_slice(),
+        }
+    }
+
     /// Lends the payload at the index `i`.
     pub fn at(&self, i: usize) -> &[u8]
         requires { i < length self.now }
@@ -93,7 +115,8 @@ impl Records {
     }
 }
 
-fn part(bytes: &[u8], start: usize, len: usize) -> &[u8]
+/// The `len` bytes from the offset `start` on.
+pub fn part(bytes: &[u8], start: usize, len: usize) -> &[u8]
     requires { start + len ≤ length bytes.now }
     ensures { result.now ≡ take len (drop start bytes.now) }
 {
