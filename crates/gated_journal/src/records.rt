@@ -2,6 +2,7 @@
 ghost use Rattle.std.specs.Prelude.{◌≡◌, ◌==◌, ◌<◌, ◌+◌, ◌≤◌, ◌++◌, [], ◌∷◌, Some, slice_get, option_copied, take, drop, length, OnOk, OnErr};
 ghost use Rattle.gated_journal.specs.Records.{payloads_in, AreInside};
 
+use crate::payloads::Payloads;
 use q_values::NoMemory;
 use std::alloc::Global;
 use std::marker::Model;
@@ -69,6 +70,27 @@ impl Records {
         self.len() == 0
     }
 
+    /// Lends the payload at the index `i`, if there is one.
+    pub fn get(&self, i: usize) -> Option<&[u8]>
+        ensures { option_copied result ≡ slice_get self.now i }
+    {
+        if i < self.spans.len() {
+            Some(self.at(i))
+        } else {
+            None
+        }
+    }
+
+    /// Goes over the payloads, in order.
+    pub fn iter(&self) -> Payloads<'_>
+        ensures { result ≡ self.now }
+    {
+        Payloads {
+            bytes: self.bytes.as_slice(),
+            spans: self.spans.as_slice(),
+        }
+    }
+
     /// Lends the payload at the index `i`.
     pub fn at(&self, i: usize) -> &[u8]
         requires { i < length self.now }
@@ -76,23 +98,6 @@ impl Records {
     {
         let span = self.spans[i];
         part(self.bytes.as_slice(), span.start, span.len)
-    }
-
-    /// Lends the payload at the index `i`, if there is one.
-    pub fn get(&self, i: usize) -> Option<&[u8]>
-        ensures { option_copied result ≡ slice_get self.now i }
-    {
-        if i < self.len() { Some(self.at(i)) } else { None }
-    }
-
-    /// Goes over the payloads, in order.
-    pub fn iter(&self) -> RecordsIter<'_>
-        ensures { result ≡ self.now }
-    {
-        RecordsIter {
-            records: self,
-            next: 0,
-        }
     }
 
     /// Puts a payload at the end. A refused call changes nothing.
@@ -110,43 +115,8 @@ impl Records {
     }
 }
 
-/// The payloads that are left to go over.
-#[derive(Drop)]
-pub struct RecordsIter<'a> {
-    records: &'a Records,
-    // The index of the payload that comes next; their number where none is left.
-    next: usize,
-}
-
-impl<'a> Model for RecordsIter<'a> {
-    ghost use Rattle.std.specs.Prelude.{ℕ, List, drop};
-
-    ghost Value = { List (List ℕ) };
-
-    ghost view = { λ it. drop it.next it.records.now };
-}
-
-impl<'a> Iterator for RecordsIter<'a> {
-    ghost use Rattle.std.specs.Iterator.{item_count, YieldsFirstRef};
-
-    type Item = &'a [u8];
-
-    ghost next_gives = { YieldsFirstRef (λ rest. rest) };
-
-    ghost remaining = { item_count (λ rest. rest) };
-
-    fn next(&mut self) -> Option<&'a [u8]> {
-        let records = self.records;
-        if self.next >= records.len() {
-            return None;
-        }
-        let payload = records.at(self.next);
-        self.next += 1;
-        Some(payload)
-    }
-}
-
-fn part(bytes: &[u8], start: usize, len: usize) -> &[u8]
+/// The `len` bytes from the offset `start` on.
+pub fn part(bytes: &[u8], start: usize, len: usize) -> &[u8]
     requires { start + len ≤ length bytes.now }
     ensures { result.now ≡ take len (drop start bytes.now) }
 {

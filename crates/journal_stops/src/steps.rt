@@ -46,8 +46,8 @@ pub fn one_failing(alloc: Global, place: usize, how: Calling) -> Result<Callings
 // The payloads, a comma after each.
 fn text_of(alloc: Global, records: &Records) -> Result<Vec<u8>, NoMemory> {
     let mut text = Vec::new(alloc);
-    for i in 0..records.len() {
-        text.extend_from_slice(records.at(i))?;
+    for payload in records.iter() {
+        text.extend_from_slice(payload)?;
         text.push(b',')?;
     }
     Ok(text)
