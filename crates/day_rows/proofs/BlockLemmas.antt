@@ -1,8 +1,8 @@
 -- Blocks: what their columns and marks are made of, and what they hold.
-use Rattle.std.proofs.Common.{◌≡◌, ℕ, zero, suc, ◌+◌, ◌-◌, ◌<◌, ◌≤◌, ◌==◌, ◌++◌, Bool, true, false, cond, List, [], ◌∷◌, length, get_or, take, drop, map, refl, sym, ap, ap₂, ◌∙◌, subst, arith, Some, None, slice_get, set, pos, inl, inr}
+use Rattle.std.proofs.Common.{◌≡◌, ℕ, zero, suc, ◌+◌, ◌<◌, ◌≤◌, ◌==◌, ◌++◌, Bool, true, false, cond, List, [], ◌∷◌, length, get_or, take, drop, map, refl, sym, ap, ap₂, ◌∙◌, subst, arith, Some, None, slice_get, set, pos, inl, inr}
 use Rattle.std.specs.List.{AllByRecursion, sum_by, flat_map}
 use Rattle.std.proofs.lemmas.Bool.{eqb-true, eq-eqb, cases_eq}
-use Rattle.std.proofs.lemmas.List.{length-map, take_more, length-take, get_or-map, get_or-set_same, get_or-set_other}
+use Rattle.std.proofs.lemmas.List.{length-map, take_more, get_or-map, get_or-set_same, get_or-set_other}
 use Rattle.std.proofs.lemmas.Grind.{flat_map-append}
 use Rattle.std.proofs.lemmas.List.Concat.{length-flat_map}
 use Rattle.std.proofs.lemmas.List.Sums.{sum_by-append, sum_by-le-sum_by}
@@ -12,7 +12,7 @@ use Rattle.q_values.specs.Table.{rows_of}
 use Rattle.q_values.specs.declared.atom.Atom.{Atom}
 use Rattle.q_values.specs.declared.kind.Kind.{Kind}
 use Rattle.day_rows.specs.Blocks.{mark_of, updates_in, columns_or_none, atoms_at, columns_with, tables_with}
-use Rattle.day_rows.specs.Day.{Day, AreColumns, IsUpdate, entry_rows, total_rows, arrived}
+use Rattle.day_rows.specs.Day.{Day, IsUpdate, entry_rows, total_rows, arrived}
 use Rattle.day_rows.specs.Rows.{field}
 use Rattle.day_rows.proofs.DayLemmas.{all-slice_get}
 use Rattle.day_rows.proofs.Lists.{flat_map_more}

@@ -1,4 +1,4 @@
-use Rattle.std.proofs.Common.{arith, take, drop, ◌-◌, length}
+use Rattle.std.proofs.Common.{arith, take, drop}
 use Rattle.std.proofs.lemmas.List.{length-append}
 use Rattle.day_rows.specs.Joined.{atoms_in, joined}
 use Rattle.day_rows.proofs.Lists.{flat_map_more, part_more_after, part_short}

@@ -1,8 +1,6 @@
-use Rattle.std.proofs.Common.{arith, take, flat_map, ap, ◌∙◌}
+use Rattle.std.proofs.Common.{arith, take, flat_map}
 use Rattle.std.proofs.lemmas.List.{length-append}
-use Rattle.std.proofs.lemmas.Grind.{flat_map-append}
-use Rattle.day_rows.specs.Joined.{atoms_in, joined}
-use Rattle.day_rows.specs.declared.entry.Entry.{Entry}
+use Rattle.day_rows.specs.Joined.{joined}
 use Rattle.day_rows.proofs.BlockLemmas.{joined_more}
 use Rattle.day_rows.proofs.Lists.{part_more}
 use Rattle.day_rows.proofs.copies.join_blocks.Goals as goal

@@ -3,7 +3,6 @@ use Rattle.std.specs.List.{sum_by}
 use Rattle.std.proofs.lemmas.List.Sums.{sum_by-le-sum_by}
 use Rattle.day_rows.specs.Day.{entry_rows}
 use Rattle.day_rows.specs.Joined.{rows_in}
-use Rattle.day_rows.specs.declared.entry.Entry.{Entry}
 use Rattle.day_rows.proofs.BlockLemmas.{block-sum}
 use Rattle.day_rows.proofs.RowsLemmas.{rows_in-le}
 use Rattle.day_rows.proofs.updates.count_joined.Goals as goal

@@ -1,4 +1,4 @@
-use Rattle.std.proofs.Common.{arith, ap, ◌∙◌, subst, sym, flat_map}
+use Rattle.std.proofs.Common.{arith, ap, subst, sym}
 use Rattle.std.specs.List.{AllByRecursion, sum_by}
 use Rattle.day_rows.specs.Day.{IsUpdate, entry_rows}
 use Rattle.day_rows.proofs.BlockLemmas.{block-sum, block-all}

@@ -1,7 +1,5 @@
-use Rattle.std.proofs.Common.{arith, ap, ◌∙◌, ◌≡◌, ◌<◌, ◌≤◌, length, List}
-use Rattle.q_values.specs.Contents.{Contents}
+use Rattle.std.proofs.Common.{arith, ap, ◌∙◌, ◌<◌, ◌≤◌, length}
 use Rattle.day_rows.specs.Joined.{joined}
-use Rattle.day_rows.specs.declared.entry.Entry.{Entry}
 use Rattle.day_rows.proofs.BlockLemmas.{column-there, column-past}
 use Rattle.day_rows.proofs.block.Block.column.Goals as goal
 

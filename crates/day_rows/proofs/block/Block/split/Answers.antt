@@ -1,10 +1,8 @@
-use Rattle.std.proofs.Common.{arith, ap, ◌≡◌, ◌∙◌, ◌<◌, ◌∷◌, ◌++◌, [], refl, sym, subst, map, length, take, drop, get_or, Some, slice_get, append_assoc}
-use Rattle.std.specs.List.{sum_by}
+use Rattle.std.proofs.Common.{arith, ap, ◌≡◌, ◌∙◌, ◌<◌, ◌∷◌, [], refl, map, length, take, get_or, Some, slice_get, append_assoc}
 use Rattle.std.proofs.lemmas.List.{length-set}
 use Rattle.std.proofs.lemmas.Option.{slice_get_within, slice_get_read}
 use Rattle.day_rows.specs.Blocks.{mark_of}
 use Rattle.day_rows.specs.Day.{IsUpdate}
-use Rattle.day_rows.specs.Joined.{rows_in}
 use Rattle.day_rows.specs.declared.block.Mark.{Mark}
 use Rattle.day_rows.proofs.BlockLemmas.{mark-got, marked, got-zero, starts-fit, starts-set, split-one, take_more_got}
 use Rattle.day_rows.proofs.DayLemmas.{all-slice_get}

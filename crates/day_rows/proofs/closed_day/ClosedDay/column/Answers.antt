@@ -1,16 +1,13 @@
 use Rattle.std.proofs.Common.{arith, ap, ◌∙◌, ◌≡◌, ◌<◌, sym, subst, map, length, take, drop, All, Some, slice_get}
-use Rattle.std.specs.List.{sum_by}
 use Rattle.std.proofs.lemmas.List.{length-map}
 use Rattle.std.proofs.lemmas.Option.{slice_get_within, get_or_from_slice_get}
 use Rattle.q_values.specs.Contents.{Contents}
 use Rattle.q_values.specs.Order.{IsOrder, atom_cmp}
 use Rattle.q_values.specs.declared.kind.Kind.{Kind}
 use Rattle.day_rows.specs.Day.{Day, IsDay, arrived, settled}
-use Rattle.day_rows.specs.Joined.{rows_in, joined}
+use Rattle.day_rows.specs.Joined.{joined}
 use Rattle.day_rows.specs.Rows.{Row, field, symbol_of, column_of}
-use Rattle.day_rows.proofs.DayLemmas.{All-part, kept-order, arrivals-settled, length-settled, whole-arrived, settled-part}
-use Rattle.day_rows.proofs.Lists.{part-all}
-use Rattle.day_rows.proofs.RowsLemmas.{length-arrived}
+use Rattle.day_rows.proofs.DayLemmas.{All-part, kept-order, arrivals-settled, whole-arrived, settled-part}
 use Rattle.day_rows.proofs.closed_day.ClosedDay.column.Goals as goal
 
 pub part-requires : goal.part-requires

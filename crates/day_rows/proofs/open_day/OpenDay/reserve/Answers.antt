@@ -1,4 +1,3 @@
-use Rattle.std.proofs.Common.{arith}
 use Rattle.day_rows.specs.Day.{IsUpdate}
 use Rattle.day_rows.proofs.BlockLemmas.{loose-all}
 use Rattle.day_rows.proofs.open_day.OpenDay.reserve.Goals as goal
