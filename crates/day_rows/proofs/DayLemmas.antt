@@ -1,7 +1,7 @@
 -- Days: what a push keeps, and what an ended day shows.
-use Rattle.std.proofs.Common.{◌≡◌, ℕ, zero, suc, ◌+◌, ◌<◌, ◌≤◌, ◌++◌, List, [], ◌∷◌, length, get_or, take, drop, map, refl, sym, ap, ◌∙◌, subst, arith, All, Some, slice_get}
+use Rattle.std.proofs.Common.{◌≡◌, ℕ, zero, suc, ◌+◌, ◌-◌, ◌<◌, ◌≤◌, ◌++◌, min, List, [], ◌∷◌, length, get_or, take, drop, map, refl, sym, ap, ◌∙◌, subst, arith, All, Some, slice_get}
 use Rattle.std.specs.List.{range_with_len, AllByRecursion}
-use Rattle.std.proofs.lemmas.List.{drop_more, length-map, take_more, get_or-map}
+use Rattle.std.proofs.lemmas.List.{drop_more, length-map, take_more, get_or-map, take-map, drop-map, get_or-take, get_or-drop, length-take, length-drop}
 use Rattle.std.proofs.lemmas.List.Elements.{All-head, All-tail}
 use Rattle.std.proofs.lemmas.List.FromFn.{get_or-range_with_len, length-range_with_len}
 use Rattle.std.proofs.lemmas.List.Sums.{sum_by-le-sum_by}
@@ -11,20 +11,21 @@ use Rattle.std.proofs.lemmas.Option.{slice_get_within, slice_get_read, get_or_fr
 use Rattle.q_values.specs.Contents.{Contents}
 use Rattle.q_values.specs.Lists.{gathered}
 use Rattle.q_values.specs.Order.{atom_cmp, IsOrder}
+use Rattle.q_values.specs.declared.atom.Atom.{Atom}
 use Rattle.q_values.specs.declared.kind.Kind.{Kind}
 use Rattle.q_values.specs.declared.kind.Kind.TheVariants as k
 use Rattle.q_values.proofs.ListLemmas.{map-gathered}
 use Rattle.day_rows.specs.Chronicle.{ended_cmp}
-use Rattle.day_rows.specs.Day.{Day, Opened, IsDay, HasRoom, IsUpdate, AreTableKinds, HasColumn, IsSettled, entry_rows, total_rows, arrived, settled, columns_from}
-use Rattle.day_rows.specs.Joined.{rows_in}
-use Rattle.day_rows.specs.Rows.{Row, numbered, field, symbol_of, column_of}
+use Rattle.day_rows.specs.Day.{Day, Opened, IsDay, HasRoom, IsUpdate, AreTableKinds, entry_rows, total_rows, arrived, settled}
+use Rattle.day_rows.specs.Joined.{rows_in, joined}
+use Rattle.day_rows.specs.Rows.{Row, absent, numbered, field, symbol_of, column_of}
 use Rattle.day_rows.specs.Schema.{IsShape}
-use Rattle.day_rows.specs.Settled.{AreSettled}
-use Rattle.day_rows.specs.declared.closed_day.SettledTable.{SettledTable}
+use Rattle.day_rows.specs.Settled.{AreOrders}
 use Rattle.day_rows.specs.declared.schema.Shape.{Shape}
 use Rattle.day_rows.specs.declared.entry.Entry.{Entry}
 use Rattle.day_rows.proofs.Sorting.{IsPermutation-in_order}
-use Rattle.day_rows.proofs.RowsLemmas.{gathered-numbered, arrived-numbered, arrivals-numbered, length-arrived, length-numbered, ended_total, lines_of_day, rows_in-le}
+use Rattle.day_rows.proofs.Lists.{part-all}
+use Rattle.day_rows.proofs.RowsLemmas.{column-arrived, gathered-read, gathered-numbered, arrived-numbered, arrivals-numbered, length-arrived, length-numbered, ended_total, lines_of_day, rows_in-le}
 
 pub take_one : {X : Type 0} (xs : List X) (x : X) → take 1 xs ≡ x ∷ [] → xs ≡ x ∷ drop 1 xs
 take_one [] x h = cc
@@ -88,19 +89,6 @@ pub column-settled : (day : Day) (t c : ℕ) (kind : Kind) (places : List ℕ) �
 column-settled day t c kind places is h =
     ap (λ a. record { kind = kind; atoms = a }) (sym (map-gathered (field c) (arrived day t) places) ∙ ap (map (field c)) (gathered-arrived day t places is h))
 
-pub columns_from-push : (place : ℕ) (kinds : List Kind) (kind : Kind) (shown : List Row) → columns_from place (kinds ++ kind ∷ []) shown ≡ columns_from place kinds shown ++ column_of kind (place + length kinds) shown ∷ []
-columns_from-push place [] kind shown = let same : place + 0 ≡ place = omega arith in rw same refl
-columns_from-push place (first ∷ kinds) kind shown =
-    let same : place + suc (length kinds) ≡ (place + 1) + length kinds = omega arith in
-    rw same (ap (λ l. column_of first place shown ∷ l) (columns_from-push (place + 1) kinds kind shown))
-
-pub slice_get-columns_from : (place : ℕ) (kinds : List Kind) (c : ℕ) (kind : Kind) (shown : List Row) → slice_get kinds c ≡ Some kind → slice_get (columns_from place kinds shown) c ≡ Some (column_of kind (place + c) shown)
-slice_get-columns_from place [] c kind shown is = cc
-slice_get-columns_from place (first ∷ kinds) zero kind shown is =
-    let same : first ≡ kind = cc in let here : place + 0 ≡ place = omega arith in rw (same, here) refl
-slice_get-columns_from place (first ∷ kinds) (suc c) kind shown is =
-    let same : place + suc c ≡ (place + 1) + c = omega arith in rw same (slice_get-columns_from (place + 1) kinds c kind shown is)
-
 -- each table has a symbol column
 pub has_symbols : (kinds : List Kind) → AreTableKinds kinds → slice_get kinds 1 ≡ Some k.Symbol
 has_symbols [] are = let h = are.begin in cc
@@ -111,15 +99,6 @@ pub bounded-arrived : (day : Day) (t : ℕ) → IsDay day → length (arrived da
 bounded-arrived day t is =
     let below = sum_by-le-sum_by (rows_in t) entry_rows day.updates (rows_in-le t) in
     omega (arith, length-arrived day t is.updates, below, is.bounded)
-
--- a table that is one of the day's
-pub kept-settled : (day : Day) (tables : List SettledTable) (t : ℕ) (kept : SettledTable) → AreSettled day tables → t < length day.kinds → kept ≡ get_or tables t kept → IsSettled day t kept.columns kept.arrivals
-kept-settled day tables t kept all t_in is = all.each t kept (slice_get_read tables (length tables) t kept refl (omega (arith, t_in, all.count)) is)
-
-pub column-kept : (day : Day) (t c : ℕ) (kind : Kind) (columns : List Contents) (arrivals : List ℕ) → IsSettled day t columns arrivals → HasColumn day t c kind → slice_get columns c ≡ Some (column_of kind c (settled day t))
-column-kept day t c kind columns arrivals kept has =
-    let here : 0 + c ≡ c = omega arith in
-    rw (kept.columns_are has.0 has.1) (subst (λ n. slice_get (columns_from 0 has.0 (settled day t)) c ≡ Some (column_of kind n (settled day t))) here (slice_get-columns_from 0 has.0 c kind (settled day t) has.2))
 
 -- what holds of each element and its index, with one more element
 pub each-push : {X : Type 0} (P : ℕ → X → Type 0) (xs : List X) (x : X) → ((t : ℕ) (y : X) → slice_get xs t ≡ Some y → P t y) → P (length xs) x → (t : ℕ) (y : X) → slice_get (xs ++ x ∷ []) t ≡ Some y → P t y
@@ -136,3 +115,38 @@ take_more_mapped f xs i x is =
 
 pub table_kinds : (shape : Shape) → IsShape shape → AreTableKinds shape.kinds
 table_kinds shape is = record { begin = is.first_kinds; few = omega (arith, is.few, is.named) }
+
+-- the order of a table that is one of the day's
+pub kept-order : (day : Day) (orders : List (List ℕ)) (t : ℕ) (order : List ℕ) → AreOrders day orders → t < length day.kinds → order ≡ get_or orders t order → IsOrder atom_cmp (map symbol_of (arrived day t)) order
+kept-order day orders t order all t_in is = all.each t order (slice_get_read orders (length orders) t order refl (omega (arith, t_in, all.count)) is)
+
+pub All-part : (P : ℕ → Type 0) (n from : ℕ) (xs : List ℕ) → All P xs → All P (take n (drop from xs))
+All-part P n from xs all =
+    λ k d k_in.
+    let size : length (take n (drop from xs)) ≡ min n (length xs - from) = length-take n (drop from xs) ∙ ap (min n) (length-drop from xs) in
+    let k_n : k < n = omega (arith, k_in, size) in
+    let k_all : from + k < length xs = omega (arith, k_in, size) in
+    subst P (sym (get_or-take n (drop from xs) k d k_n ∙ get_or-drop from xs k d)) (all (from + k) d k_all)
+
+-- a part of a column in an order is the column, read at the part of the order
+pub gathered-part : {X : Type 0} (xs : List X) (d : X) (n from : ℕ) (places : List ℕ) → All (λ p. p < length xs) places → gathered xs (take n (drop from places)) ≡ take n (drop from (gathered xs places))
+gathered-part xs d n from places within =
+    gathered-read xs (take n (drop from places)) d (All-part (λ p. p < length xs) n from places within) ∙ sym (take-map (λ p. get_or xs p d) n (drop from places)) ∙ ap (take n) (sym (drop-map (λ p. get_or xs p d) from places)) ∙ ap (λ l. take n (drop from l)) (sym (gathered-read xs places d within))
+
+-- a table's joined column is its column by arrival
+pub whole-arrived : (day : Day) (t c rows : ℕ) (kinds : List Kind) (kind : Kind) → IsDay day → slice_get day.kinds t ≡ Some kinds → c < length kinds → rows ≡ length (settled day t)
+    → record { kind = kind; atoms = take rows (drop 0 (joined t c day.updates)) } ≡ column_of kind c (arrived day t)
+whole-arrived day t c rows kinds kind is known c_in rows_are =
+    let read = column-arrived day t c kinds is.updates known c_in in
+    let size : rows ≡ length (joined t c day.updates) = rows_are ∙ length-settled day t ∙ sym (length-map (arrived day t) (field c)) ∙ ap length read in
+    ap (λ a. record { kind = kind; atoms = a }) (part-all rows (joined t c day.updates) size ∙ sym read)
+
+-- a part of a column of the ended day is the column by arrival, gathered by a part of the order
+pub settled-part : (day : Day) (t c n from : ℕ) (kind : Kind) (order : List ℕ) (whole part : Contents) → IsDay day → IsOrder atom_cmp (map symbol_of (arrived day t)) order → whole ≡ column_of kind c (arrived day t)
+    → part ≡ record whole { atoms = gathered whole.atoms (take n (drop from order)) } → part ≡ record { kind = kind; atoms = take n (drop from (column_of kind c (settled day t)).atoms) }
+settled-part day t c n from kind order whole part is h whole_is part_is =
+    let atoms : List Atom = map (field c) (arrived day t) in
+    let size : length (map symbol_of (arrived day t)) ≡ length atoms = length-map (arrived day t) symbol_of ∙ sym (length-map (arrived day t) (field c)) in
+    let within : All (λ p. p < length atoms) order = subst (λ m. All (λ p. p < m) order) size h.within in
+    part_is ∙ ap (λ (v : Contents). record { kind = v.kind; atoms = gathered v.atoms (take n (drop from order)) }) whole_is
+    ∙ ap (λ a. record { kind = kind; atoms = a }) (gathered-part atoms absent n from order within ∙ ap (λ (v : Contents). take n (drop from v.atoms)) (column-settled day t c kind order is h))

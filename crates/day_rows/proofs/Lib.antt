@@ -1,3 +1,4 @@
+pub mod BlockLemmas
 pub mod DayLemmas
 pub mod Lists
 pub mod RowsLemmas

@@ -1,6 +1,6 @@
 -- Lists: parts, sums and joins.
-use Rattle.std.proofs.Common.{map, ◌≡◌, ℕ, ◌+◌, ◌-◌, ◌<◌, ◌++◌, List, [], ◌∷◌, length, get_or, take, drop, refl, sym, ap, ◌∙◌, arith, append-nil, zero, suc}
-use Rattle.std.proofs.lemmas.List.{length-map, get_or-map, take_more, length-take, take_all}
+use Rattle.std.proofs.Common.{map, ◌≡◌, ℕ, ◌+◌, ◌-◌, ◌<◌, ◌++◌, List, [], ◌∷◌, length, get_or, take, drop, refl, sym, ap, ◌∙◌, arith, ◌≤◌, append-nil, append_assoc, zero, suc}
+use Rattle.std.proofs.lemmas.List.{length-map, get_or-map, take_more, length-take, length-append, take_all}
 use Rattle.std.proofs.lemmas.Grind.{flat_map-append}
 use Rattle.std.specs.List.{flat_map}
 use Rattle.q_values.specs.Contents.{Contents}
@@ -46,3 +46,15 @@ take_more_same f xs ys i x d i_in i_in' x_is same before =
     let size : i < length (map f xs) = omega (arith, i_in, length-map xs f) in
     let here = get_or-map f xs i x (f x) i_in ∙ ap f (sym x_is) ∙ same in
     take_more (map f xs) i (f x) size ∙ ap (λ y. take i (map f xs) ++ y ∷ []) here ∙ ap (λ l. l ++ get_or ys i d ∷ []) before ∙ sym (take_more ys i d i_in')
+
+-- the same, where something stands before the part
+pub part_more_after : (n skip left : ℕ) (J A : List Atom) (I F G : Contents) → F ≡ record I { atoms = I.atoms ++ take (n - length I.atoms) (drop skip J) } → left ≡ skip - length J
+    → G ≡ record F { atoms = F.atoms ++ take (n - length F.atoms) (drop left A) } → G ≡ record I { atoms = I.atoms ++ take (n - length I.atoms) (drop skip (J ++ A)) }
+part_more_after n skip left J A I F G f s g =
+    let T : List Atom = take (n - length I.atoms) (drop skip J) in
+    let size : n - length (I.atoms ++ T) ≡ (n - length I.atoms) - length T = omega (arith, length-append I.atoms T) in
+    g ∙ rw (f, s, size) (ap (λ a. record { kind = I.kind; atoms = a }) (append_assoc I.atoms T (take ((n - length I.atoms) - length T) (drop (skip - length J) A)) ∙ ap (λ a. I.atoms ++ a) (sym (part-append (n - length I.atoms) skip J A))))
+
+pub part_short : (n : ℕ) (F G : Contents) (X : List Atom) → length F.atoms ≤ n → G ≡ record F { atoms = F.atoms ++ take (n - length F.atoms) X } → length G.atoms ≤ n
+part_short n F G X short is =
+    omega (arith, short, ap (λ (v : Contents). length v.atoms) is, length-append F.atoms (take (n - length F.atoms) X), length-take (n - length F.atoms) X)

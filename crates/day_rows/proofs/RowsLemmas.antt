@@ -204,7 +204,7 @@ numbered-apart date n (l ∷ ls) =
     (later-apart (record { date = date; arrival = n; fields = l }) date (n + 1) ls (omega arith), numbered-apart date (n + 1) ls)
 
 -- the elements at indices are those that are read there
-gathered-read : {X : Type 0} (xs : List X) (places : List ℕ) (d : X) → All (λ p. p < length xs) places → gathered xs places ≡ map (λ p. get_or xs p d) places
+pub gathered-read : {X : Type 0} (xs : List X) (places : List ℕ) (d : X) → All (λ p. p < length xs) places → gathered xs places ≡ map (λ p. get_or xs p d) places
 gathered-read xs [] d within = refl
 gathered-read xs (p ∷ places) d within =
     rw (drop_more xs p d (All-head (λ p. p < length xs) p places within))

@@ -5,7 +5,7 @@ use Rattle.q_values.specs.Contents.{Contents}
 use Rattle.q_values.specs.Table.{rows_of}
 use Rattle.q_values.specs.declared.kind.Kind.{Kind}
 use Rattle.q_values.specs.declared.kind.Kind.TheVariants as k
-use Rattle.day_rows.specs.Rows.{Row, rows, column_of}
+use Rattle.day_rows.specs.Rows.{Row, rows}
 use Rattle.std.specs.declared.cmp.Ordering.TheVariants.{Less}
 use Rattle.day_rows.specs.Chronicle.{ended_cmp, KeepsDate}
 use Rattle.day_rows.specs.Sorted.{in_order, IsAscending}
@@ -77,16 +77,6 @@ pub record HasRoom (opened : Opened) (spare pushed : ℕ) : Type 0 where
   pub bounded : total_rows opened.day.updates + total_rows opened.room ≤ 4294967295
   pub enough : length opened.room ≤ spare
   pub counted : pushed + length opened.room < 2 ^ 64
-
--- the columns of a table, read from its rows
-abbrev pub columns_from : ℕ → List Kind → List Row → List Contents
-columns_from index [] shown = []
-columns_from index (kind ∷ kinds) shown = column_of kind index shown ∷ columns_from (index + 1) kinds shown
-
--- the columns of an ended day's table in the documented order, and the arrival numbers in that order
-pub record IsSettled (day : Day) (table : ℕ) (columns : List Contents) (arrivals : List ℕ) : Type 0 where
-  pub columns_are : (kinds : List Kind) → slice_get day.kinds table ≡ Some kinds → columns ≡ columns_from 0 kinds (settled day table)
-  pub arrivals_are : arrivals ≡ map (λ row. row.arrival) (settled day table)
 
 -- an ended day has the rows that the open day had, each exactly once
 abbrev pub KeepsRowsAtItsEnd : Type 0

@@ -1,3 +1,4 @@
+pub mod Blocks
 pub mod Chronicle
 pub mod Day
 pub mod Joined

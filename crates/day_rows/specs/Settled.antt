@@ -1,9 +1,10 @@
--- The tables of an ended day, as they are kept.
-use Rattle.std.specs.Prelude.{◌≡◌, ℕ, List, length, Some, slice_get}
-use Rattle.day_rows.specs.Day.{Day, IsSettled}
-use Rattle.day_rows.specs.declared.closed_day.SettledTable.{SettledTable}
+-- The order of the rows of an ended day's tables, as it is kept.
+use Rattle.std.specs.Prelude.{◌≡◌, ℕ, List, length, map, Some, slice_get}
+use Rattle.q_values.specs.Order.{IsOrder, atom_cmp}
+use Rattle.day_rows.specs.Day.{Day, arrived}
+use Rattle.day_rows.specs.Rows.{symbol_of}
 
--- each table of the day in the documented order
-pub record AreSettled (day : Day) (tables : List SettledTable) : Type 0 where
-  pub count : length tables ≡ length day.kinds
-  pub each : (t : ℕ) (table : SettledTable) → slice_get tables t ≡ Some table → IsSettled day t table.columns table.arrivals
+-- for each table of the day its rows' indices, ordered by symbol and then by arrival
+pub record AreOrders (day : Day) (orders : List (List ℕ)) : Type 0 where
+  pub count : length orders ≡ length day.kinds
+  pub each : (t : ℕ) (order : List ℕ) → slice_get orders t ≡ Some order → IsOrder atom_cmp (map symbol_of (arrived day t)) order

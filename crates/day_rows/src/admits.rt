@@ -76,7 +76,8 @@ pub fn are_updates(tables: &[Kinds], entries: &[Entry]) -> bool
     true
 }
 
-fn rows_of_entry(entry: &Entry) -> usize
+/// The number of rows of an entry.
+pub fn rows_of_entry(entry: &Entry) -> usize
     ensures { result ≡ entry_rows entry.now }
 {
     match entry {

@@ -1,36 +1,82 @@
-//! Dates that have ended, with their columns in the documented order.
+//! Dates that have ended, with the documented order of their rows.
 ghost use Rattle.std.specs.Prelude.{◌≡◌, ◌<◌, ◌≤◌, ◌+◌, [], ◌∷◌, ◌++◌, length, map, take, drop, IfOk, Some, slice_get, All};
 ghost use Rattle.std.specs.List.{AllByRecursion};
 ghost use Rattle.q_values.specs.Order.{IsOrder, atom_cmp};
 ghost use Rattle.q_values.specs.declared.kind.Kind.{Kind};
 ghost use Rattle.day_rows.specs.Rows.{column_of, symbol_of};
-ghost use Rattle.day_rows.specs.Day.{Day, IsDay, IsSettled, HasColumn, AreTableKinds, arrived, settled, columns_from};
-ghost use Rattle.day_rows.specs.Settled.{AreSettled};
+ghost use Rattle.day_rows.specs.Day.{Day, IsDay, HasColumn, AreTableKinds, arrived, settled};
+ghost use Rattle.day_rows.specs.Settled.{AreOrders};
 
-use crate::copies::copy_entries;
-use crate::entry::{Entries, Entry};
+use crate::entry::Entries;
 use crate::open_day::OpenDay;
 use crate::schema::Kinds;
-use q_values::{Columns, NoMemory, Places, Vector};
+use crate::updates::Updates;
+use q_values::{NoMemory, Places, Vector};
 use std::alloc::Global;
 use std::marker::Model;
 use std::snapshot::Snapshot;
 
-/// A table's columns in the documented order, and the arrival numbers in that order.
+/// The documented order of a table's rows: their arrival numbers, sorted by symbol and then by arrival.
 #[derive(Drop)]
-pub struct SettledTable {
-    // the whole columns, sorted by symbol and then by arrival
-    columns: Columns,
-    // the arrival number of each row, in the same order
-    arrivals: Places,
+pub struct TableOrder {
+    // the arrival numbers
+    arrivals: Vec<u32>,
+}
+
+impl Model for TableOrder {
+    ghost use Rattle.std.specs.Prelude.{List, ℕ};
+
+    ghost Value = { List ℕ };
+
+    ghost view = { λ o. o.arrivals.items };
+}
+
+impl TableOrder {
+    // The order of these arrival numbers.
+    fn narrow(alloc: Global, arrivals: &[usize]) -> Result<TableOrder, NoMemory>
+        requires { All (λ i. i < 4294967296) arrivals.now }
+        ensures { IfOk result (λ order. order ≡ arrivals.now) }
+    {
+        let mut narrow = Vec::with_capacity(alloc, arrivals.len())?;
+        for arrival in arrivals {
+            narrow.push(*arrival as u32)?;
+        }
+        Ok(TableOrder { arrivals: narrow })
+    }
+
+    // The number of rows.
+    fn len(&self) -> usize
+        ensures { result ≡ length self.now }
+    {
+        self.arrivals.len()
+    }
+
+    // The arrival numbers of `n` rows from the index `from` on.
+    fn part(&self, alloc: Global, from: usize, n: usize) -> Result<Vec<usize>, NoMemory>
+        requires { from + n ≤ length self.now }
+        ensures { IfOk result (λ part. part.items ≡ take n (drop from self.now)) }
+    {
+        widened(alloc, &self.arrivals[from..][..n])
+    }
+}
+
+// The same numbers, at the width of indices.
+fn widened(alloc: Global, narrow: &[u32]) -> Result<Vec<usize>, NoMemory>
+    ensures { IfOk result (λ wide. wide.items ≡ narrow.now) }
+{
+    let mut wide = Vec::with_capacity(alloc, narrow.len())?;
+    for arrival in narrow {
+        wide.push(*arrival as usize)?;
+    }
+    Ok(wide)
 }
 
 /// The documented order of one day's content: by symbol, then by arrival. Contracts see it as the content that it was
 /// made of.
 #[derive(Drop)]
 pub struct DayOrder {
-    /// Each table of the day, sorted.
-    pub(crate) tables: Vec<SettledTable>,
+    /// The order of each table of the day.
+    pub(crate) orders: Vec<TableOrder>,
     /// The day as it was when the order was made; takes no memory.
     pub(crate) of: Snapshot<OpenDay>,
 }
@@ -40,14 +86,15 @@ impl Model for DayOrder {
 
     ghost Value = { Day };
 
-    ghost use Rattle.day_rows.specs.Settled.{AreSettled};
+    ghost use Rattle.day_rows.specs.Settled.{AreOrders};
 
     ghost view = { λ o. o.of.value.day };
 
-    ghost invariant = { λ o. AreSettled o.of.value.day o.tables.items };
+    ghost invariant = { λ o. AreOrders o.of.value.day o.orders.items };
 }
 
-/// A date that has ended: its updates, in order, and its columns in the documented order (KX, partitioned tables).
+/// A date that has ended: its updates, in blocks, and the documented order of its rows (KX, partitioned tables). No row is
+/// kept twice.
 #[derive(Drop)]
 pub struct ClosedDay {
     /// The date, in days since 2000.01.01.
@@ -55,23 +102,24 @@ pub struct ClosedDay {
     /// The kinds of each table's columns: at most 64 tables, each beginning with a timespan and a symbol.
     pub(crate) kinds: Vec<Kinds>,
     /// The updates in the order of arrival, with at most 4,294,967,295 rows together.
-    pub(crate) entries: Vec<Entry>,
-    /// The rows of `entries` in the documented order, one for each table.
-    pub(crate) tables: Vec<SettledTable>,
+    pub(crate) updates: Updates,
+    /// The documented order of the rows, for each table.
+    pub(crate) orders: Vec<TableOrder>,
 }
 
 impl Model for ClosedDay {
+    ghost use Rattle.day_rows.specs.Blocks.{updates_in};
     ghost use Rattle.day_rows.specs.Day.{Day, IsDay, opened_of};
 
     ghost Value = { Day };
 
     ghost use Rattle.std.specs.Prelude.{[]};
-    ghost use Rattle.day_rows.specs.Settled.{AreSettled};
+    ghost use Rattle.day_rows.specs.Settled.{AreOrders};
 
-    ghost view = { λ d. (opened_of d.date d.kinds.items d.entries.items []).day };
+    ghost view = { λ d. (opened_of d.date d.kinds.items (updates_in d.updates.blocks.items d.updates.loose.items) []).day };
 
-    ghost invariant = { λ d. IsDay (opened_of d.date d.kinds.items d.entries.items []).day
-        × AreSettled (opened_of d.date d.kinds.items d.entries.items []).day d.tables.items };
+    ghost invariant = { λ d. IsDay (opened_of d.date d.kinds.items (updates_in d.updates.blocks.items d.updates.loose.items) []).day
+        × AreOrders (opened_of d.date d.kinds.items (updates_in d.updates.blocks.items d.updates.loose.items) []).day d.orders.items };
 }
 
 impl ClosedDay {
@@ -88,18 +136,18 @@ impl ClosedDay {
         requires { table < length self.now.kinds }
         ensures { result ≡ length (settled self.now table) }
     {
-        let kept = &self.tables[table as usize];
-        kept.arrivals.len() as u32
+        self.updates.rows(table)
     }
 
     /// A copy of the updates, in order.
     pub fn updates(&self, alloc: Global) -> Result<Entries, NoMemory>
         ensures { IfOk result (λ entries. entries ≡ self.now.updates) }
     {
-        Ok(Entries::from_vec(copy_entries(alloc, &self.entries)?))
+        Ok(Entries::from_vec(self.updates.entries(alloc, &self.kinds)?))
     }
 
-    /// The `n` atoms of a table's column from the row `from` on, in the documented order. Reading it costs that part.
+    /// The `n` atoms of a table's column from the row `from` on, in the documented order. Reading it
+    /// joins the whole column, and gathers the part.
     pub fn column(
         &self,
         alloc: Global,
@@ -113,9 +161,12 @@ impl ClosedDay {
         ensures { IfOk result (λ part. (kind : Kind) → HasColumn self.now table column kind
             → part ≡ record { kind = kind; atoms = take n (drop from (column_of kind column (settled self.now table)).atoms) }) }
     {
-        let kept = &self.tables[table as usize];
-        let whole = kept.columns.at(column as usize);
-        let part = whole.take(alloc, from as usize, n as usize)?;
+        let index = column as usize;
+        let kind = *self.kinds[table as usize].at(index);
+        let rows = self.rows(table) as usize;
+        let whole = self.updates.column(alloc, table, index, kind, 0, rows)?;
+        let order = self.orders[table as usize].part(alloc, from as usize, n as usize)?;
+        let part = whole.gather(alloc, &order)?;
         Ok(part)
     }
 
@@ -124,8 +175,8 @@ impl ClosedDay {
         requires { table < length self.now.kinds }
         ensures { IfOk result (λ arrivals. arrivals ≡ map (λ row. row.arrival) (settled self.now table)) }
     {
-        let kept = &self.tables[table as usize];
-        Ok(Places::from_vec(Vec::from_slice(alloc, kept.arrivals.as_slice())?))
+        let order = &self.orders[table as usize];
+        Ok(Places::from_vec(order.part(alloc, 0, order.len())?))
     }
 }
 
@@ -140,61 +191,38 @@ fn whole_column(alloc: Global, day: &OpenDay, table: u32, column: u32) -> Result
     Ok(whole)
 }
 
-// The columns of a table, with their rows in the order that `arrivals` gives.
-fn settle_columns(
+// The documented order of a table's rows.
+fn order_table(
     alloc: Global,
     day: &OpenDay,
     table: u32,
     kinds: &Kinds,
-    arrivals: &[usize],
-) -> Result<Columns, NoMemory>
-    requires exists { slice_get day.now.day.kinds table ≡ Some kinds.now }
-    requires order { IsOrder atom_cmp (map symbol_of (arrived day.now.day table)) arrivals.now }
-    requires few { length kinds.now ≤ 48 }
-    requires lawful { IsDay day.now.day }
-    ensures { IfOk result (λ columns. columns ≡ columns_from 0 kinds.now (settled day.now.day table)) }
-{
-    let mut columns = Columns::new(alloc);
-    for i in 0..kinds.len() {
-        let whole = whole_column(alloc, day, table, i as u32)?;
-        let column = whole.gather(alloc, arrivals)?;
-        columns.push(column)?;
-    }
-    Ok(columns)
-}
-
-// A table in the documented order.
-fn settle_table(
-    alloc: Global,
-    day: &OpenDay,
-    table: u32,
-    kinds: &Kinds,
-) -> Result<SettledTable, NoMemory>
+) -> Result<TableOrder, NoMemory>
     requires exists { slice_get day.now.day.kinds table ≡ Some kinds.now }
     requires first { AreTableKinds kinds.now }
     requires lawful { IsDay day.now.day }
-    ensures { IfOk result (λ kept. IsSettled day.now.day table kept.columns kept.arrivals) }
+    ensures { IfOk result (λ order. IsOrder atom_cmp (map symbol_of (arrived day.now.day table)) order) }
 {
     let symbols = whole_column(alloc, day, table, 1)?;
     let arrivals = symbols.order(alloc)?;
-    let columns = settle_columns(alloc, day, table, kinds, arrivals.as_slice())?;
-    Ok(SettledTable { columns, arrivals })
+    let order = TableOrder::narrow(alloc, arrivals.as_slice())?;
+    Ok(order)
 }
 
-/// Each table of the day in the documented order. `tables` are the kinds of the day's columns.
-pub fn settle_tables(
+/// The documented order of each table's rows. `tables` are the kinds of the day's columns.
+pub fn order_tables(
     alloc: Global,
     day: &OpenDay,
     tables: &[Kinds],
-) -> Result<Vec<SettledTable>, NoMemory>
+) -> Result<Vec<TableOrder>, NoMemory>
     requires own { tables.now ≡ day.now.day.kinds }
     requires lawful { IsDay day.now.day }
-    ensures { IfOk result (λ kept. AreSettled day.now.day kept.items) }
+    ensures { IfOk result (λ orders. AreOrders day.now.day orders.items) }
 {
-    let mut kept = Vec::with_capacity(alloc, tables.len())?;
+    let mut orders = Vec::with_capacity(alloc, tables.len())?;
     for table in 0..tables.len() {
-        let found = settle_table(alloc, day, table as u32, &tables[table])?;
-        kept.push(found)?;
+        let found = order_table(alloc, day, table as u32, &tables[table])?;
+        orders.push(found)?;
     }
-    Ok(kept)
+    Ok(orders)
 }

@@ -1,9 +1,10 @@
 //! Copies of entries, and a table's column joined from them.
 ghost use Rattle.std.specs.Prelude.{◌≡◌, ◌<◌, ◌≤◌, ◌+◌, ◌-◌, ◌++◌, [], length, take, drop, min, IfOk, OnOk, OnErr, MatchOption};
-ghost use Rattle.std.specs.List.{sum_by};
+ghost use Rattle.std.specs.List.{sum_by, flat_map};
 ghost use Rattle.day_rows.specs.Day.{total_rows};
 ghost use Rattle.day_rows.specs.Joined.{atoms_in, rows_in, joined};
 
+use crate::block::{Block, SharedBlock};
 use crate::entry::Entry;
 use q_values::{Columns, Kind, NoMemory, Vector};
 use std::alloc::Global;
@@ -26,7 +27,8 @@ pub fn copy_columns(alloc: Global, columns: &Columns) -> Result<Columns, NoMemor
     Ok(Columns::from_vec(copied))
 }
 
-fn copy_entry(alloc: Global, entry: &Entry) -> Result<Entry, NoMemory>
+/// A copy of the entry.
+pub fn copy_entry(alloc: Global, entry: &Entry) -> Result<Entry, NoMemory>
     ensures { IfOk result (λ copied. copied ≡ entry.now) }
 {
     match entry {
@@ -41,17 +43,6 @@ fn copy_entry(alloc: Global, entry: &Entry) -> Result<Entry, NoMemory>
         }),
         Entry::Fault { by } => Ok(Entry::Fault { by: *by }),
     }
-}
-
-/// A copy of the entries, in order.
-pub fn copy_entries(alloc: Global, entries: &[Entry]) -> Result<Vec<Entry>, NoMemory>
-    ensures { IfOk result (λ copied. copied.items ≡ entries.now) }
-{
-    let mut copied = Vec::with_capacity(alloc, entries.len())?;
-    for entry in entries {
-        copied.push(copy_entry(alloc, entry)?)?;
-    }
-    Ok(copied)
 }
 
 fn count_in(entry: &Entry, table: u32) -> usize
@@ -91,6 +82,45 @@ fn column_in<'a>(entry: &'a Entry, table: u32, column: usize) -> Option<&'a Vect
             ..
         } if *to == table => columns.as_slice().get(column),
         _ => None,
+    }
+}
+
+/// A table's whole column, joined from the entries.
+pub fn whole_column(
+    alloc: Global,
+    entries: &[Entry],
+    table: u32,
+    column: usize,
+    kind: Kind,
+) -> Result<Vector, NoMemory>
+    ensures { IfOk result (λ found. found
+        ≡ record { kind = kind; atoms = joined table column entries.now }) }
+{
+    let mut found = Vector::new(alloc, kind);
+    for entry in entries {
+        append_whole(&mut found, entry, table, column)?;
+    }
+    Ok(found)
+}
+
+// Appends what the entry adds to a column.
+fn append_whole(
+    found: &mut Vector,
+    entry: &Entry,
+    table: u32,
+    column: usize,
+) -> Result<(), NoMemory>
+    ensures { OnOk result (found.new
+        ≡ record found.old { atoms = found.old.atoms ++ atoms_in table column entry.now }) }
+{
+    match column_in(entry, table, column) {
+        Some(more) => {
+            if found.append(more).is_err() {
+                return Err(NoMemory);
+            }
+            Ok(())
+        }
+        None => Ok(()),
     }
 }
 
@@ -134,23 +164,77 @@ fn append_entry(
     }
 }
 
-/// The `n` atoms from the row `from` on of a table's column, in the order of arrival; fewer where it ends before.
-pub fn join_column(
+/// Appends what a block adds to a part that should have `n` atoms, where the first `skip` atoms from here on don't belong
+/// to it. Returns how many are still to be skipped after the block.
+pub fn append_block(
+    found: &mut Vector,
+    block: &Block,
+    table: u32,
+    column: usize,
+    skip: usize,
+    n: usize,
+) -> Result<usize, NoMemory>
+    requires { length found.old.atoms ≤ n }
+    ensures ok { OnOk result (found.new ≡ record found.old {
+      atoms = found.old.atoms
+          ++ take (n - length found.old.atoms) (drop skip (joined table column block.now));
+    }) }
+    ensures skip { IfOk result (λ left. left ≡ skip - length (joined table column block.now)) }
+{
+    match block.column(table, column) {
+        Some(more) => {
+            let left = n - found.len();
+            append_part(found, more, skip, left)?;
+            Ok(skip.saturating_sub(more.len()))
+        }
+        None => Ok(skip),
+    }
+}
+
+/// The `n` atoms from the row `from` on of a table's column in the blocks; fewer where it ends before. The number that it
+/// returns beside them is that of the atoms past the blocks that don't belong to the part.
+pub fn join_blocks(
     alloc: Global,
-    entries: &[Entry],
+    blocks: &[SharedBlock],
     table: u32,
     column: usize,
     kind: Kind,
     from: usize,
     n: usize,
-) -> Result<Vector, NoMemory>
-    ensures { IfOk result (λ found. found
-        ≡ record { kind = kind; atoms = take n (drop from (joined table column entries.now)) }) }
+) -> Result<(Vector, usize), NoMemory>
+    ensures found { IfOk result (λ p. p.0 ≡ record {
+      kind = kind;
+      atoms = take n (drop from (joined table column (flat_map (λ block. block) blocks.now)));
+    }) }
+    ensures skip { IfOk result (λ p. p.1 ≡ from - length (joined table column (flat_map (λ block. block) blocks.now))) }
 {
     let mut found = Vector::new(alloc, kind);
     let mut skip = from;
+    for block in blocks {
+        skip = append_block(&mut found, block.block(), table, column, skip, n)?;
+    }
+    Ok((found, skip))
+}
+
+/// The part with what the entries add to it: it should have `n` atoms, and the first `skip` atoms of the entries don't
+/// belong to it.
+pub fn append_entries(
+    part: Vector,
+    entries: &[Entry],
+    table: u32,
+    column: usize,
+    skip: usize,
+    n: usize,
+) -> Result<Vector, NoMemory>
+    requires { length part.atoms ≤ n }
+    ensures { IfOk result (λ found. found ≡ record part {
+      atoms = part.atoms ++ take (n - length part.atoms) (drop skip (joined table column entries.now));
+    }) }
+{
+    let mut found = part;
+    let mut left = skip;
     for entry in entries {
-        skip = append_entry(&mut found, entry, table, column, skip, n)?;
+        left = append_entry(&mut found, entry, table, column, left, n)?;
     }
     Ok(found)
 }

@@ -3,10 +3,10 @@
 //! A tickerplant keeps one list of entries, its *chronicle*: updates, the end of each date, faults. This crate defines
 //! what such a list means, as rows in an order, and has the two forms in which the updates of one date are kept.
 //!
-//! - [`OpenDay`] is the date that is still written. It keeps its updates as they came, and reads a column in the order
-//!   of arrival.
-//! - [`ClosedDay`] is a date that has ended. It has its columns joined and sorted, by symbol and then by arrival, so
-//!   that reading a part of a column costs that part alone.
+//! - [`OpenDay`] is the date that is still written. It keeps its updates in blocks of at least 1,024 rows, each with the
+//!   columns of its rows and a mark for each update, and reads a column in the order of arrival. Copies share the blocks.
+//! - [`ClosedDay`] is a date that has ended. It has the blocks, and for each table the order of its rows, by symbol and
+//!   then by arrival: no row is kept twice.
 //! - [`Schema`] names the tables of a plant and their columns. Contracts know of it that it is sorted by name, that its
 //!   names are names, and that each table begins with `time` and `sym`.
 //!
@@ -32,12 +32,14 @@
 #![tactic(auto)]
 
 mod admits;
+mod block;
 mod chronicle;
 mod closed_day;
 mod copies;
 mod entry;
 mod open_day;
 mod schema;
+mod updates;
 
 pub use chronicle::{view_has_each_row_once, view_is_by_dates};
 pub use closed_day::{ClosedDay, DayOrder};

@@ -1,30 +1,43 @@
-//! The open date: its updates as they came, and room for more.
+//! The open date: its updates in blocks, and room for more.
 ghost use Rattle.std.specs.Prelude.{◌≡◌, ◌<◌, ◌≤◌, ◌+◌, ◌^◌, [], ◌∷◌, ◌++◌, length, map, take, drop};
 ghost use Rattle.std.specs.Prelude.{IfOk, OnOk, OnErr, true, Some, slice_get, vec_capacity, vec_len};
 ghost use Rattle.std.specs.List.{AllByRecursion};
 ghost use Rattle.q_values.specs.declared.kind.Kind.{Kind};
 ghost use Rattle.day_rows.specs.Rows.{column_of};
+ghost use Rattle.day_rows.specs.Blocks.{updates_in};
 ghost use Rattle.day_rows.specs.Day.{Day, Opened, IsDay, IsUpdate, AreTableKinds, HasColumn, total_rows, arrived};
 
-use crate::admits::{are_updates, total_of};
-use crate::closed_day::{ClosedDay, DayOrder, settle_tables};
-use crate::copies::{copy_entries, count_rows, join_column};
+use crate::admits::{are_updates, rows_of_entry, total_of};
+use crate::closed_day::{ClosedDay, DayOrder, order_tables};
 use crate::entry::{Entries, Entry};
 use crate::schema::{Kinds, Schema};
+use crate::updates::Updates;
 use q_values::{NoMemory, Vector};
 use std::alloc::Global;
 use std::marker::Model;
 use std::snapshot::Snapshot;
 
-/// A date that is open: its updates, in order, and room for more (KX, tick.q and r.q).
+// The most rows that a date may have, in all its tables.
+const MAX_ROWS: u64 = 4_294_967_295;
+
+// The least number of rows of a block.
+const BLOCK_ROWS: u64 = 1_024;
+
+/// A date that is open: its updates, in order, and room for more (KX, tick.q and r.q). Copies of a day share its blocks.
 #[derive(Drop)]
 pub struct OpenDay {
     // the date, in days since 2000.01.01
     date: i32,
     // the kinds of each table's columns: at most 64 tables, each beginning with a timespan and a symbol
     tables: Vec<Kinds>,
-    // the updates in the order of arrival, with at most 4,294,967,295 rows together
-    entries: Vec<Entry>,
+    // the allocator
+    alloc: Global,
+    // the updates in the order of arrival
+    updates: Updates,
+    // the number of rows of all updates, at most 4,294,967,295
+    rows: u64,
+    // the number of rows after the last block of `updates`; where they are enough for a block, the next `reserve` joins them
+    unsealed: u64,
     // the entries that room was last made for; takes no memory
     planned: Snapshot<Entries>,
     // how many of `planned` have been pushed since
@@ -32,15 +45,20 @@ pub struct OpenDay {
 }
 
 impl Model for OpenDay {
-    ghost use Rattle.std.specs.Prelude.{drop, vec_capacity, vec_len, ◌-◌};
-    ghost use Rattle.day_rows.specs.Day.{Opened, IsDay, HasRoom, opened_of};
+    ghost use Rattle.std.specs.Prelude.{drop, vec_capacity, vec_len, ◌-◌, ◌≡◌};
+    ghost use Rattle.day_rows.specs.Blocks.{updates_in};
+    ghost use Rattle.day_rows.specs.Day.{Opened, IsDay, HasRoom, opened_of, total_rows};
 
     ghost Value = { Opened };
 
-    ghost view = { λ d. opened_of d.date d.tables.items d.entries.items (drop d.pushed d.planned.value) };
+    ghost view = { λ d. opened_of d.date d.tables.items (updates_in d.updates.blocks.items d.updates.loose.items) (drop d.pushed d.planned.value) };
 
-    ghost invariant = { λ d. IsDay (opened_of d.date d.tables.items d.entries.items (drop d.pushed d.planned.value)).day
-        × HasRoom (opened_of d.date d.tables.items d.entries.items (drop d.pushed d.planned.value)) (vec_capacity d.entries - vec_len d.entries) d.pushed };
+    ghost invariant = { λ d.
+        IsDay (opened_of d.date d.tables.items (updates_in d.updates.blocks.items d.updates.loose.items)
+        (drop d.pushed d.planned.value)).day
+        × HasRoom (opened_of d.date d.tables.items (updates_in d.updates.blocks.items d.updates.loose.items)
+        (drop d.pushed d.planned.value)) (vec_capacity d.updates.loose - vec_len d.updates.loose) d.pushed
+        × (d.rows ≡ total_rows (updates_in d.updates.blocks.items d.updates.loose.items)) };
 }
 
 impl OpenDay {
@@ -55,7 +73,10 @@ impl OpenDay {
         Ok(OpenDay {
             date,
             tables,
-            entries: Vec::new(alloc),
+            alloc,
+            updates: Updates::new(alloc),
+            rows: 0,
+            unsealed: 0,
             planned: Snapshot::of(&Entries::new(alloc)),
             pushed: 0,
         })
@@ -67,12 +88,12 @@ impl OpenDay {
         ensures updates { result ≡ true → AllByRecursion (IsUpdate self.now.day.kinds) entries.now }
         ensures bounded { result ≡ true → total_rows self.now.day.updates + total_rows entries.now ≤ 4294967295 }
     {
-        match (total_of(&self.entries), total_of(entries.as_slice())) {
-            (Some(own), Some(more)) => {
-                own.saturating_add(more) <= 4_294_967_295
+        match total_of(entries.as_slice()) {
+            Some(more) => {
+                self.rows.saturating_add(more) <= MAX_ROWS
                     && are_updates(&self.tables, entries.as_slice())
             }
-            _ => false,
+            None => false,
         }
     }
 
@@ -84,7 +105,10 @@ impl OpenDay {
         ensures ok { OnOk result (self.new ≡ record self.old { room = entries.now }) }
         ensures err { OnErr result (self.new ≡ self.old) }
     {
-        self.entries.reserve(entries.len())?;
+        let seals = self.unsealed >= BLOCK_ROWS;
+        self.updates
+            .make_room(self.alloc, &self.tables, entries.len(), seals)?;
+        self.unsealed = rows_after_seal(self.unsealed);
         self.planned = Snapshot::of(entries);
         self.pushed = 0;
         Ok(())
@@ -98,20 +122,26 @@ impl OpenDay {
           room = drop 1 self.old.room;
         } }
     {
-        self.entries.push_reserved(entry);
+        let rows = rows_of_entry(&entry) as u64;
+        self.updates.loose.push_reserved(entry);
+        self.rows += rows;
+        self.unsealed = self.unsealed.saturating_add(rows);
         self.pushed += 1;
     }
 
-    /// An equal day, without room for more updates.
+    /// An equal day, without room for more updates. Its blocks are shared, and the other rows are copied.
     pub fn copy(&self, alloc: Global) -> Result<OpenDay, NoMemory>
         ensures { IfOk result (λ copied. copied ≡ record self.now { room = [] }) }
     {
         let tables = copy_tables(alloc, &self.tables)?;
-        let entries = copy_entries(alloc, &self.entries)?;
+        let updates = self.updates.copy(alloc, &self.tables)?;
         Ok(OpenDay {
             date: self.date,
             tables,
-            entries,
+            alloc,
+            updates,
+            rows: self.rows,
+            unsealed: 0,
             planned: Snapshot::of(&Entries::new(alloc)),
             pushed: 0,
         })
@@ -130,17 +160,32 @@ impl OpenDay {
         requires { table < length self.now.day.kinds }
         ensures { result ≡ length (arrived self.now.day table) }
     {
-        count_rows(&self.entries, table)
+        self.updates.rows(table)
+    }
+
+    /// The number of rows after the last block.
+    pub fn loose_rows(&self) -> usize
+        ensures { result < 1024 }
+    {
+        rows_after_seal(self.unsealed) as usize
+    }
+
+    /// The number of blocks. A block has at least 1,024 rows: the push after which the rows that follow the last block are as
+    /// many ends it.
+    pub fn blocks(&self) -> usize {
+        let sealed = usize::from(self.unsealed >= BLOCK_ROWS);
+        self.updates.blocks.len().saturating_add(sealed)
     }
 
     /// A copy of the updates, in order.
     pub fn updates(&self, alloc: Global) -> Result<Entries, NoMemory>
         ensures { IfOk result (λ entries. entries ≡ self.now.day.updates) }
     {
-        Ok(Entries::from_vec(copy_entries(alloc, &self.entries)?))
+        Ok(Entries::from_vec(self.updates.entries(alloc, &self.tables)?))
     }
 
-    /// The `n` atoms of a table's column from the row `from` on, in the order of arrival. It reads all updates.
+    /// The `n` atoms of a table's column from the row `from` on, in the order of arrival. Reading it copies each
+    /// atom once, and costs a step for each block and for each update after the last block.
     pub fn column(
         &self,
         alloc: Global,
@@ -157,7 +202,7 @@ impl OpenDay {
         let index = column as usize;
         let kind = *self.tables[table as usize].at(index);
         let (from, n) = (from as usize, n as usize);
-        let part = join_column(alloc, &self.entries, table, index, kind, from, n)?;
+        let part = self.updates.column(alloc, table, index, kind, from, n)?;
         Ok(part)
     }
 
@@ -165,9 +210,9 @@ impl OpenDay {
     pub fn close_order(&self, alloc: Global) -> Result<DayOrder, NoMemory>
         ensures { IfOk result (λ order. order ≡ self.now.day) }
     {
-        let tables = settle_tables(alloc, self, &self.tables)?;
+        let orders = order_tables(alloc, self, &self.tables)?;
         Ok(DayOrder {
-            tables,
+            orders,
             of: Snapshot::of(self),
         })
     }
@@ -180,17 +225,24 @@ impl OpenDay {
         let OpenDay {
             date,
             tables: kinds,
-            entries,
+            updates,
             ..
         } = self;
-        let DayOrder { tables, .. } = order;
+        let DayOrder { orders, .. } = order;
         ClosedDay {
             date,
             kinds,
-            entries,
-            tables,
+            updates,
+            orders,
         }
     }
+}
+
+// How many of the rows after the last block are left after it, where they are joined to a block once they are enough.
+fn rows_after_seal(rows: u64) -> u64
+    ensures { result < 1024 }
+{
+    if rows >= BLOCK_ROWS { 0 } else { rows }
 }
 
 fn copy_kinds(alloc: Global, kinds: &Kinds) -> Result<Kinds, NoMemory>

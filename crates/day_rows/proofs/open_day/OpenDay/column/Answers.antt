@@ -13,7 +13,8 @@ returns c = λ kind has.
     let known : slice_get c.self.inside.tables.items c.args.table ≡ Some has.0 = rw own has.1 in
     let kinds : c.index.result.now ≡ has.0 = c.index.ensures ∙ get_or_from_slice_get c.self.inside.tables.items c.args.table has.0 c.index.result.now known in
     let same : c.at-kind.result.now ≡ kind = cc (kinds, c.at-kind.ensures, has.2) in
-    let entries = c.deref.ensures.value ∙ ap (λ (o : Opened). o.day.updates) c.self.view_is in
     let read = column-arrived c.args.self.now.day c.args.table c.args.column has.0 day.updates has.1 (slice_get_within has.0 c.args.column kind has.2) in
-    let atoms = ap (λ es. take c.args.n (drop c.args.from (joined c.args.table c.args.column es))) entries ∙ ap (λ a. take c.args.n (drop c.args.from a)) (sym read) in
-    c.in_ok-part.ensures ∙ ap (λ (x : Kind). record { kind = x; atoms = take c.args.n (drop c.args.from (joined c.args.table c.args.column c.deref.result.now)) }) same ∙ ap (λ a. record { kind = kind; atoms = a }) atoms
+    c.in_ok-part.ensures
+    ∙ ap (λ (o : Opened). record { kind = c.at-kind.result.now; atoms = take c.args.n (drop c.args.from (joined c.args.table c.args.column o.day.updates)) }) c.self.view_is
+    ∙ ap (λ (x : Kind). record { kind = x; atoms = take c.args.n (drop c.args.from (joined c.args.table c.args.column c.args.self.now.day.updates)) }) same
+    ∙ ap (λ a. record { kind = kind; atoms = take c.args.n (drop c.args.from a) }) (sym read)
