@@ -3,20 +3,18 @@
 ghost use Rattle.std.specs.Prelude.{◌≡◌};
 
 use q_text::{LiteralRefusal, read_literal};
-use q_values::{Atom, Column, Symbols, Value, Vector};
+use q_values::{Atom, Column, Element, Symbols, Value, Vector};
 use std::alloc::Global;
 use std::test::Fail;
 
 fn is_number(atom: &Atom, number: i64) -> bool {
-    match atom {
-        Atom::Boolean(x) => i64::from(*x) == number,
-        Atom::Byte(x) => i64::from(*x) == number,
-        Atom::Character(x) => i64::from(*x) == number,
-        Atom::Short(x) => i64::from(*x) == number,
-        Atom::Integer(x) | Atom::Month(x) | Atom::Date(x) => i64::from(*x) == number,
-        Atom::Minute(x) | Atom::Second(x) | Atom::Time(x) => i64::from(*x) == number,
-        Atom::Long(x) | Atom::Timestamp(x) | Atom::Timespan(x) => *x == number,
-        Atom::Symbol(_) => false,
+    match atom.element() {
+        Element::Boolean(x) => i64::from(x) == number,
+        Element::Byte(_, x) => i64::from(x) == number,
+        Element::Short(x) => i64::from(*x) == number,
+        Element::Integer(_, x) => i64::from(*x) == number,
+        Element::Long(_, x) => *x == number,
+        Element::Symbol(_) => false,
     }
 }
 
