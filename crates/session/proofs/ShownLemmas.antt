@@ -11,7 +11,6 @@ use Rattle.std.proofs.lemmas.List.Elements.{All-nil, All-cons}
 use Rattle.std.proofs.lemmas.Option.{slice_get_within, get_or_from_slice_get, slice_get-map}
 use Rattle.day_rows.proofs.DayLemmas.{all-slice_get}
 use Rattle.day_rows.specs.Chronicle.{view, DatesAscend}
-use Rattle.day_rows.specs.Day.{columns_from}
 use Rattle.day_rows.specs.Rows.{Row, column_of, field}
 use Rattle.day_rows.specs.Schema.{IsSchema, IsShape}
 use Rattle.day_rows.specs.declared.entry.Entry.{Entry}
@@ -26,7 +25,7 @@ use Rattle.q_values.specs.declared.atom.Atom.{Atom}
 use Rattle.q_values.specs.declared.atom.Atom.TheVariants as a
 use Rattle.q_values.specs.declared.kind.Kind.{Kind}
 use Rattle.q_values.specs.declared.kind.Kind.TheVariants as k
-use Rattle.session.specs.Answer.{dates_of_rows}
+use Rattle.session.specs.Answer.{dates_of_rows, columns_from}
 
 -- the rows of a table on the first n dates
 abbrev pub rows_until : ℤ → List Entry → ℕ → ℕ → List Row

@@ -3,14 +3,13 @@ ghost use Rattle.std.specs.Prelude.{◌≡◌, ◌<◌, ◌≤◌, ◌∷◌, []
 ghost use Rattle.std.specs.Bool.{MatchBool};
 ghost use Rattle.std.specs.Str.{bytes_eq};
 ghost use Rattle.day_rows.specs.Chronicle.{view};
-ghost use Rattle.day_rows.specs.Day.{columns_from};
 ghost use Rattle.day_rows.specs.Rows.{column_of};
 ghost use Rattle.plant_core.specs.Chronicle.{dates_of, rows_at};
 ghost use Rattle.plant_core.specs.Plant.{HasColumn};
 ghost use Rattle.q_values.specs.Limits.{AreLimits};
 ghost use Rattle.q_values.specs.Table.{rows_of};
 ghost use Rattle.q_values.specs.Tree.{table};
-ghost use Rattle.session.specs.Answer.{select_from, shown, dates_of_rows};
+ghost use Rattle.session.specs.Answer.{select_from, shown, dates_of_rows, columns_from};
 ghost use Rattle.session.specs.Answering.{FindsTable};
 ghost use Rattle.session.specs.Replies.{reply_bytes};
 ghost use Rattle.session.specs.Reply.{reply};

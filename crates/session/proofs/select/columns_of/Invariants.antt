@@ -1,7 +1,6 @@
 use Rattle.std.proofs.Common.{◌≡◌, ◌∷◌, take}
 use Rattle.day_rows.specs.Chronicle.{view}
-use Rattle.day_rows.specs.Day.{columns_from}
-use Rattle.session.specs.Answer.{dates_of_rows}
+use Rattle.session.specs.Answer.{dates_of_rows, columns_from}
 use Rattle.session.proofs.select.columns_of.Given as goal
 
 abbrev pub invariant-loop-i : goal.invariant-loop-i
