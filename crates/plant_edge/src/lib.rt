@@ -26,6 +26,3 @@ pub use link::StandardLink;
 pub use outside::StandardOutside;
 pub use outside_mem::{NoGate, SteadyClock};
 pub use recorder::SilentRecorder;
-
-#[cfg(test)]
-mod tests;

@@ -1,6 +1,6 @@
 //! The link and the devices of the runtime, and the arguments that ask for a clock.
-use crate::{StandardLink, StandardOutside, clock_of};
 use outside_api::{Got, Link, LinkFault, Outside, Recorder};
+use plant_edge::{StandardLink, StandardOutside, clock_of};
 use q_values::{NoMemory, Turn};
 use std::alloc::Global;
 use std::io;
