@@ -200,22 +200,37 @@ fn values_and_literals(rt: HostRuntime) -> Result<(), Fail> {
     Ok(())
 }
 
+/// Appends three items from index 1 on, and then none.
+fn append_three(rt: &impl Abort, vector: &mut Vector, more: &Vector) -> Result<(), Fail> {
+    assert!(rt; more.len() > 3);
+    vector.append_part(more, 1, 3)?;
+    vector.append_part(more, 1, 0)?;
+    Ok(())
+}
+
 #[test]
 fn appends_parts(rt: HostRuntime) -> Result<(), Fail> {
     let alloc = rt.alloc();
     let mut joined = symbols(alloc, &["b"])?;
     joined.append(&symbols(alloc, &["", "a"])?)?;
     assert!(rt; are_same(&joined, &symbols(alloc, &["b", "", "a"])?));
-    joined.append_part(&symbols(alloc, &["zz", "cd", "", "e", "f"])?, 1, 3)?;
+    append_three(
+        &rt,
+        &mut joined,
+        &symbols(alloc, &["zz", "cd", "", "e", "f"])?,
+    )?;
     assert!(rt; are_same(&joined, &symbols(alloc, &["b", "", "a", "cd", "", "e"])?));
-    joined.append_part(&symbols(alloc, &["zz"])?, 1, 0)?;
     assert_eq!(rt; joined.len(), 6);
     assert!(rt;
         matches!(&joined.at(alloc, 3)?, Atom::Symbol(name) if name.bytes() == b"cd".as_slice())
     );
     let mut numbers = longs(alloc, LongKind::Long, &[7])?;
-    numbers.append_part(&longs(alloc, LongKind::Long, &[1, 2, 3])?, 1, 2)?;
-    assert!(rt; are_same(&numbers, &longs(alloc, LongKind::Long, &[7, 2, 3])?));
+    append_three(
+        &rt,
+        &mut numbers,
+        &longs(alloc, LongKind::Long, &[1, 2, 3, 4, 5])?,
+    )?;
+    assert!(rt; are_same(&numbers, &longs(alloc, LongKind::Long, &[7, 2, 3, 4])?));
     Ok(())
 }
 
