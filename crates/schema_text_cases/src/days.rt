@@ -32,8 +32,8 @@ fn trade(alloc: Global, time: i64, name: &[u8], price: i64) -> Result<Entry, Fai
     })
 }
 
-// Adds an entry to the day, where the day admits it.
-fn log(alloc: Global, day: &mut OpenDay, entry: Entry) -> Result<bool, NoMemory>
+/// Adds an entry to the day, where the day admits it.
+pub fn log(alloc: Global, day: &mut OpenDay, entry: Entry) -> Result<bool, NoMemory>
     ensures { day.new.day.kinds ≡ day.old.day.kinds }
 {
     let mut planned = Entries::new(alloc);
