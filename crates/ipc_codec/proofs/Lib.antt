@@ -13,3 +13,5 @@ pub mod SpelledLemmas
 pub mod LawLemmas
 pub mod WrittenLemmas
 pub mod PlainLemmas
+pub mod LengthLemmas
+pub mod FitLemmas

@@ -1,6 +1,7 @@
 -- The tree of each variant of a value.
 use Rattle.std.proofs.Common.{◌≡◌, ◌∙◌, ap, ℕ, List, Box, Global}
-use Rattle.q_values.specs.Tree.{Tree, items_of, atom, list, dict, keyed, wrong, tree, trees, value_step, pair_step, values_step}
+use Rattle.q_values.specs.Contents.{Contents}
+use Rattle.q_values.specs.Tree.{Tree, items_of, atom, vector, list, dict, table, keyed, identity, wrong, tree, trees, value_step, pair_step, values_step}
 use Rattle.q_values.specs.declared.atom.Atom.{Atom}
 use Rattle.q_values.specs.declared.value.Value.{Value}
 use Rattle.q_values.specs.declared.value.Value.TheFolds.{fold-roll-Value}
@@ -9,6 +10,7 @@ use Rattle.q_values.specs.declared.value.Value as v
 use Rattle.q_values.specs.declared.value.Values.{Values}
 use Rattle.q_values.specs.declared.value.Pair.{Pair, fold_out-Pair}
 use Rattle.q_values.specs.declared.value.KeyedValue.{KeyedValue}
+use Rattle.q_values.specs.declared.value.TableValue.{TableValue}
 
 pub tree-Atom : (x : Atom) → tree (v.Atom x) ≡ atom x
 unfolding v.roll-Value denote.Hole.Carrier.roll
@@ -29,3 +31,15 @@ tree-Keyed x = fold-roll-Value Tree (Tree × Tree) (List Tree) value_step pair_s
 pub tree-Wrong : (x : List ℕ) → tree (v.Wrong x) ≡ wrong x
 unfolding v.roll-Value denote.Hole.Carrier.roll
 tree-Wrong x = fold-roll-Value Tree (Tree × Tree) (List Tree) value_step pair_step values_step (Value-F.Wrong x)
+
+pub tree-Vector : (x : Contents) → tree (v.Vector x) ≡ vector x
+unfolding v.roll-Value denote.Hole.Carrier.roll
+tree-Vector x = fold-roll-Value Tree (Tree × Tree) (List Tree) value_step pair_step values_step (Value-F.Vector x)
+
+pub tree-Table : (x : TableValue) → tree (v.Table x) ≡ table (record { names = x.names; columns = x.columns })
+unfolding v.roll-Value denote.Hole.Carrier.roll
+tree-Table x = fold-roll-Value Tree (Tree × Tree) (List Tree) value_step pair_step values_step (Value-F.Table x)
+
+pub tree-Identity : tree v.Identity ≡ identity
+unfolding v.roll-Value denote.Hole.Carrier.roll
+tree-Identity = fold-roll-Value Tree (Tree × Tree) (List Tree) value_step pair_step values_step Value-F.Identity

@@ -1,10 +1,10 @@
 -- What is written is an encoding of the value.
-use Rattle.std.proofs.Common.{◌≡◌, ℕ, ℤ, ◌<◌, ◌≤◌, ◌^◌, true, false, List, [], ◌∷◌, ◌++◌, length, refl, sym, ap, ◌∙◌, arith, inl, All}
+use Rattle.std.proofs.Common.{◌≡◌, ℕ, ℤ, ◌<◌, ◌≤◌, ◌^◌, true, false, List, [], ◌∷◌, ◌++◌, length, drop, refl, sym, ap, subst, ◌∙◌, arith, inl, All}
 use Rattle.std.specs.List.{flat_map}
 use Rattle.std.specs.Int.{w16, w32, w64, cast_unsigned, cast_signed}
 use Rattle.std.specs.Int.RustNames.{FitsSigned}
 use Rattle.std.proofs.lemmas.Int.{to_z-of_z, ints}
-use Rattle.std.proofs.lemmas.List.{append-nil}
+use Rattle.std.proofs.lemmas.List.{append-nil, drop_at}
 use Rattle.std.proofs.lemmas.List.Elements.{All-head, All-tail}
 use Rattle.byteorder.specs.Endian.{little_bytes, little_number}
 use Rattle.byteorder.specs.Numbers.{little_number-reads_back, length-bytes_low_first}
@@ -16,7 +16,7 @@ use Rattle.q_values.specs.declared.atom.Atom.{Atom}
 use Rattle.q_values.specs.declared.atom.Atom.TheVariants as a
 use Rattle.ipc_codec.specs.declared.order.Order.TheVariants as o
 use Rattle.ipc_codec.specs.Reading.{number_of_items}
-use Rattle.ipc_codec.specs.Written.{text_bytes, element_bytes, head, vector_bytes, grid_bytes, written, written_items, GridFits, Fits, AllFit, AtomFits, VectorFits, GridAtomsFit, AtomsFit, AllAtomsFit}
+use Rattle.ipc_codec.specs.Written.{text_bytes, element_bytes, head, vector_bytes, grid_bytes, written, written_items, GridFits, Fits, AllFit, AtomFits, VectorFits, GridAtomsFit, AtomsFit, AllAtomsFit, IsPlain}
 use Rattle.ipc_codec.specs.Spells.{InTurn, SpellsCount, SpellsText, SpellsElement, SpellsElementOf, SpellsVector, SpellsGrid, SpellsTree, SpellsItems, Spells}
 use Rattle.ipc_codec.specs.Laws.{WrittenSpells}
 use Rattle.ipc_codec.proofs.LawLemmas.{spelling_reads}
@@ -133,3 +133,9 @@ pub written_spelled : WrittenSpells
 written_spelled t plain fits =
     let spelled : Spells o.Little (written t) t = record { object = tree-written t plain.fits fits; nested = plain.nested } in
     (spelled, λ rest. spelling_reads o.Little (written t) t rest spelled)
+
+-- what was appended to a list is an encoding
+pub spelled-appended : (old new : List ℕ) (t : Tree) → new ≡ old ++ written t → IsPlain t → AtomsFit t → Spells o.Little (drop (length old) new) t
+spelled-appended old new t e plain fits =
+    let appended : drop (length old) new ≡ written t = ap (drop (length old)) e ∙ drop_at old (written t) (length old) refl in
+    subst (λ (bytes : List ℕ). Spells o.Little bytes t) (sym appended) (written_spelled t plain fits).0

@@ -6,4 +6,5 @@ pub mod Written
 pub mod Appends
 pub mod Spells
 pub mod Laws
+pub mod Lengths
 pub mod Decoded

@@ -32,12 +32,14 @@ mod fault;
 mod form;
 mod heads;
 pub mod laws;
+mod lengths;
 mod order;
 mod reach;
 mod reading;
 mod refusal;
 mod writing;
 
+pub use lengths::encoded_length;
 pub use order::Order;
 pub use reach::measure;
 pub use reading::decode;

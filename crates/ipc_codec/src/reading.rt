@@ -1,6 +1,7 @@
 //! Reading values. Each reader takes the bytes from the current one on, and returns what it read and the bytes after it.
 //! `room` is the number of levels that may still be opened; `left` the number of bytes from the type byte of the
-//! current object on, from which the offset of a fault follows.
+//! current object on, from which the offset of a fault follows. A list is made with the room that its count asks for, and
+//! with no more than the bytes that are left can fill: an object has two bytes at least, a column six, a text one.
 ghost use Rattle.std.specs.Prelude.{◌≡◌, ◌<◌, ◌^◌, ◌≤◌, ℕ, length, take, map, nat_eq, Ok, IfOk, IfErr};
 ghost use Rattle.q_values.specs.Bytes.{HasNoNul};
 ghost use Rattle.q_values.specs.Column.{contents};
@@ -42,7 +43,7 @@ fn text_copied(alloc: Global, text: &[u8]) -> Result<Text, NoMemory>
 fn symbols_of(alloc: Global, bytes: &[u8], count: usize) -> Result<(Symbols, &[u8]), Stop>
     ensures { Gives (λ x. (x.0, x.1.now)) result (texts_at count bytes.now) }
 {
-    let mut symbols = Symbols::new(alloc);
+    let mut symbols = Symbols::with_capacity(alloc, count.min(bytes.len()))?;
     let mut rest = bytes;
     for _ in 0..count {
         let (text, after) = text_of(rest)?;
@@ -131,7 +132,7 @@ fn columns_of(
 ) -> Result<(Sequence<Vector>, &[u8]), Stop>
     ensures { Gives (λ x. (x.0, x.1.now)) result (columns_at room order count bytes.now) }
 {
-    let mut columns = Sequence::new(alloc);
+    let mut columns = Sequence::with_capacity(alloc, count.min(bytes.len() / 6))?;
     let mut rest = bytes;
     for _ in 0..count {
         let (column, after) = column_in_table(alloc, rest, order, room)?;
@@ -144,7 +145,7 @@ fn columns_of(
 fn syms_of(alloc: Global, bytes: &[u8], count: usize) -> Result<(Sequence<Sym>, &[u8]), Stop>
     ensures { Gives (λ x. (x.0, x.1.now)) result (texts_at count bytes.now) }
 {
-    let mut names = Sequence::new(alloc);
+    let mut names = Sequence::with_capacity(alloc, count.min(bytes.len()))?;
     let mut rest = bytes;
     for _ in 0..count {
         let (text, after) = text_of(rest)?;
@@ -311,7 +312,7 @@ fn items_in(
 ) -> Result<(Values, &[u8]), Stop>
     ensures { Gives (λ x. (items_of (trees x.0), x.1.now)) result (items_at (object_at room order) count bytes.now) }
 {
-    let mut items = Values::new(alloc);
+    let mut items = Values::with_capacity(alloc, count.min(bytes.len() / 2))?;
     let mut rest = bytes;
     for _ in 0..count {
         let (item, after) = object_in(alloc, rest, order, room)?;

@@ -1,13 +1,16 @@
 //! Writing values in their canonical encoding.
-ghost use Rattle.std.specs.Prelude.{◌≡◌, ◌++◌, ◌∷◌, ◌≤◌, ◌<◌, ◌^◌, [], length, map, if◌then◌else◌, OnOk, OnErr, All};
+ghost use Rattle.std.specs.Prelude.{◌≡◌, ◌++◌, ◌∷◌, ◌≤◌, ◌<◌, ◌^◌, [], length, drop, map, if◌then◌else◌, OnOk, OnErr, All};
 ghost use Rattle.std.specs.Int.{w16, w32, w64, cast_unsigned};
 ghost use Rattle.std.specs.List.{flat_map};
 ghost use Rattle.byteorder.specs.Endian.{little_bytes};
 ghost use Rattle.q_values.specs.Column.{contents};
 ghost use Rattle.q_values.specs.Tree.{tree, trees, items_of};
 ghost use Rattle.ipc_codec.specs.Appends.{Begins};
+ghost use Rattle.ipc_codec.specs.declared.order.Order.TheVariants as o;
+ghost use Rattle.ipc_codec.specs.Spells.{Spells};
 ghost use Rattle.ipc_codec.specs.Written.{head, text_bytes, element_bytes, vector_bytes, grid_bytes, written, written_items, Fits, AllFit, GridFits, IsPlain};
 
+use crate::lengths::encoded_length;
 use byteorder::{ByteOrder, LittleEndian};
 use q_values::{Atom, Column, Element, NoMemory, Sym, Symbols, TableValue, Value, Values, Vector};
 
@@ -247,9 +250,8 @@ fn put_value(out: &mut Vec<u8>, value: &Value) -> Result<(), NoMemory>
     }
 }
 
-/// Appends the canonical encoding of a value: little-endian, with attributes 0, booleans 0 or 1, and 99 for each
-/// dictionary (KX, IPC reference). Out of memory, `out` is left as it was.
-pub fn encode(out: &mut Vec<u8>, value: &Value) -> Result<(), NoMemory>
+// The same as `encode`, where there may be no room.
+fn put_whole(out: &mut Vec<u8>, value: &Value) -> Result<(), NoMemory>
     requires { IsPlain (tree value.now) }
     ensures ok { OnOk result (out.new.items ≡ out.old.items ++ written (tree value.now)) }
     ensures err { OnErr result (out.new.items ≡ out.old.items) }
@@ -260,4 +262,17 @@ pub fn encode(out: &mut Vec<u8>, value: &Value) -> Result<(), NoMemory>
         out.truncate(start);
     }
     done
+}
+
+/// Appends the canonical encoding of a value: little-endian, with attributes 0, booleans 0 or 1, and 99 for each
+/// dictionary (KX, IPC reference). The room for all of it is made first, once. Out of memory, `out` is left as it was.
+pub fn encode(out: &mut Vec<u8>, value: &Value) -> Result<(), NoMemory>
+    requires { IsPlain (tree value.now) }
+    ensures ok { OnOk result (out.new.items ≡ out.old.items ++ written (tree value.now)) }
+    ensures err { OnErr result (out.new.items ≡ out.old.items) }
+    // The bytes that were appended are an encoding of the value, so they are read back as it.
+    ensures spelled { OnOk result (Spells o.Little (drop (length out.old.items) out.new.items) (tree value.now)) }
+{
+    out.reserve(encoded_length(value))?;
+    put_whole(out, value)
 }

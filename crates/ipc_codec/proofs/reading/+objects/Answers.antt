@@ -6,7 +6,7 @@ use Rattle.ipc_codec.proofs.reading.+objects.Goals as goal
 
 pub items_in-returns-in_err-item : goal.items_in-returns-in_err-item
 items_in-returns-in_err-item t c =
-    let p = err_from_is_err_and c.from_residual.result c.from_residual.ensures.1 in
+    let p = err_from_is_err_and c.from_residual-in_err-item.result c.from_residual-in_err-item.ensures.1 in
     let object = object_at c.args.room c.args.order in
     let total = items_at object c.args.count c.args.bytes.now in
     rw (p.1, p.2) (Stops-from c.in_err-item.field-0.0 (object c.loop.rest.now) total (λ f e. items_at-ends object (trees c.loop.items) c.args.count c.loop.counter c.loop.rest.now f total c.loop-test.true e c.loop.invariant) c.in_err-item.ensures)

@@ -5,7 +5,7 @@ use Rattle.ipc_codec.proofs.reading.columns_of.Goals as goal
 
 pub returns-in_err-column : goal.returns-in_err-column
 returns-in_err-column c =
-    let p = err_from_is_err_and c.from_residual.result c.from_residual.ensures.1 in
+    let p = err_from_is_err_and c.from_residual-in_err-column.result c.from_residual-in_err-column.ensures.1 in
     let total = columns_at c.args.room c.args.order c.args.count c.args.bytes.now in
     rw (p.1, p.2) (Stops-from c.in_err-column.field-0.0 (column_at c.args.room c.args.order c.loop.rest.now) total (λ f e. columns_at-ends c.args.room c.args.order c.loop.columns c.args.count c.loop.counter c.loop.rest.now f total c.loop-test.true e c.loop.invariant) c.in_err-column.ensures)
 

@@ -5,7 +5,7 @@ use Rattle.ipc_codec.proofs.reading.symbols_of.Goals as goal
 
 pub returns-in_err-text : goal.returns-in_err-text
 returns-in_err-text c =
-    let p = err_from_is_err_and c.from_residual.result c.from_residual.ensures.1 in
+    let p = err_from_is_err_and c.from_residual-in_err-text.result c.from_residual-in_err-text.ensures.1 in
     rw (p.1, p.2) (texts_at-ends c.loop.symbols c.args.count c.loop.counter c.loop.rest.now c.in_err-text.field-0.0 (texts_at c.args.count c.args.bytes.now) c.loop-test.true c.in_err-text.ensures.found c.loop.invariant)
 
 pub loop-preserved : goal.loop-preserved
