@@ -1,5 +1,6 @@
 //! Responses: the bytes that answer a message.
-ghost use Rattle.std.specs.Prelude.{◌≡◌, ◌∷◌, [], IfOk, IfErr, OnErr, codes};
+ghost use Rattle.std.specs.Prelude.{◌≡◌, ◌≤◌, ◌∷◌, [], length, IfOk, IfErr, OnErr, codes};
+ghost use Rattle.ipc_codec.specs.Lengths.{saturated};
 ghost use Rattle.ipc_codec.specs.Written.{IsPlain};
 ghost use Rattle.q_values.specs.Limits.{AreLimits};
 ghost use Rattle.q_values.specs.Tree.{tree, identity, wrong};
@@ -7,7 +8,7 @@ ghost use Rattle.session.specs.Reply.{response, reply, refusal_text};
 ghost use Rattle.q_values.specs.Bytes.{HasNoNul};
 ghost use Rattle.session.specs.Replies.{reply_bytes, fixed_reply, Refuses, NeedsMemory};
 
-use ipc_codec::encode;
+use ipc_codec::{encode, encoded_length};
 use plant_core::UpdRefusal;
 use q_values::{Limits, NoMemory, Text, Value};
 use std::alloc::Global;
@@ -124,20 +125,29 @@ pub fn wsfull() -> Reply
     Reply::Fixed(&WSFULL)
 }
 
-/// The response with a value, or the error `limit` where it would be longer than `limits.reply` bytes. Fails with
-/// `NoMemory` where it can't be encoded.
+// The length in bytes of the response with a value.
+fn response_length(value: &Value) -> usize
+    ensures { result ≡ saturated (length (response (tree value.now))) }
+{
+    encoded_length(value).saturating_add(8)
+}
+
+/// The response with a value, or the error `limit` where it would be longer than `limits.reply` bytes. The limit is judged
+/// before anything is encoded and takes no memory, so `NoMemory` comes only for a response that is within it.
 pub fn respond(alloc: Global, value: &Value, limits: &Limits) -> Result<Reply, NoMemory>
     requires plain { IsPlain (tree value.now) }
     requires limits { AreLimits limits.now }
-    ensures { IfOk result (λ r. reply_bytes r ≡ reply limits.now (tree value.now)) }
+    ensures value { IfOk result (λ r. reply_bytes r ≡ reply limits.now (tree value.now)) }
+    ensures memory { OnErr result (length (response (tree value.now)) ≤ limits.now.reply) }
 {
-    let mut bytes = vec![in alloc; 1, 2, 0, 0, 0, 0, 0, 0]?;
-    encode(&mut bytes, value)?;
-    if bytes.len() > limits.reply as usize {
+    let length = response_length(value);
+    if length > limits.reply as usize {
         return Ok(Reply::Fixed(&LIMIT));
     }
-    let length = (bytes.len() as u32).to_le_bytes();
-    bytes.as_mut_slice()[4..8].copy_from_slice(&length);
+    let mut bytes = Vec::with_capacity(alloc, length)?;
+    bytes.extend_from_slice(&[1, 2, 0, 0])?;
+    bytes.extend_from_slice(&(length as u32).to_le_bytes())?;
+    encode(&mut bytes, value)?;
     Ok(Reply::Made(bytes))
 }
 
