@@ -1,5 +1,5 @@
 //! The open date: its updates in blocks, and room for more.
-ghost use Rattle.std.specs.Prelude.{◌≡◌, ◌<◌, ◌≤◌, ◌+◌, ◌^◌, [], ◌∷◌, ◌++◌, length, map, take, drop};
+ghost use Rattle.std.specs.Prelude.{◌≡◌, ◌↔◌, ◌<◌, ◌≤◌, ◌+◌, ◌^◌, [], ◌∷◌, ◌++◌, length, map, take, drop};
 ghost use Rattle.std.specs.Prelude.{IfOk, OnOk, OnErr, true, Some, slice_get, vec_capacity, vec_len};
 ghost use Rattle.std.specs.List.{AllByRecursion};
 ghost use Rattle.q_values.specs.declared.kind.Kind.{Kind};
@@ -82,11 +82,11 @@ impl OpenDay {
         })
     }
 
-    /// Whether [`reserve`](OpenDay::reserve) may be called with these entries: they are updates of the day's tables, and
-    /// the day would then have at most 4,294,967,295 rows in all its tables.
+    /// Whether [`reserve`](OpenDay::reserve) may be called with these entries: exactly where they are updates of the day's
+    /// tables, and the day would then have at most 4,294,967,295 rows in all its tables.
     pub fn admits(&self, entries: &Entries) -> bool
-        ensures updates { result ≡ true → AllByRecursion (IsUpdate self.now.day.kinds) entries.now }
-        ensures bounded { result ≡ true → total_rows self.now.day.updates + total_rows entries.now ≤ 4294967295 }
+        ensures { (result ≡ true) ↔ (AllByRecursion (IsUpdate self.now.day.kinds) entries.now
+            × (total_rows self.now.day.updates + total_rows entries.now ≤ 4294967295)) }
     {
         match total_of(entries.as_slice()) {
             Some(more) => {
