@@ -103,11 +103,11 @@ length-atoms_in t (e.Fault by) = refl
 pub length-joined : (t : ℕ) (updates : List Entry) → length (joined t 0 updates) ≡ sum_by (rows_in t) updates
 length-joined t updates = length-flat_map (atoms_in t 0) updates ∙ (λ i. sum_by (λ x. length-atoms_in t x i) updates)
 
-all-left : (P : Entry → Type 0) (xs ys : List Entry) → AllByRecursion P (xs ++ ys) → AllByRecursion P xs
+pub all-left : (P : Entry → Type 0) (xs ys : List Entry) → AllByRecursion P (xs ++ ys) → AllByRecursion P xs
 all-left P [] ys all = tt
 all-left P (x ∷ xs) ys all = (all.0, all-left P xs ys all.1)
 
-all-right : (P : Entry → Type 0) (xs ys : List Entry) → AllByRecursion P (xs ++ ys) → AllByRecursion P ys
+pub all-right : (P : Entry → Type 0) (xs ys : List Entry) → AllByRecursion P (xs ++ ys) → AllByRecursion P ys
 all-right P [] ys all = all
 all-right P (x ∷ xs) ys all = all-right P xs ys all.1
 
@@ -139,7 +139,7 @@ split_at [] i x is = cc
 split_at (y ∷ xs) zero x is = let same : y ≡ x = cc in ap (λ z. z ∷ xs) same
 split_at (y ∷ xs) (suc i) x is = let same : suc i + 1 ≡ suc (i + 1) = omega arith in rw same (ap (λ l. y ∷ l) (split_at xs i x is))
 
-all-take : {X : Type 0} (P : X → Type 0) (i : ℕ) (xs : List X) → AllByRecursion P xs → AllByRecursion P (take i xs)
+pub all-take : {X : Type 0} (P : X → Type 0) (i : ℕ) (xs : List X) → AllByRecursion P xs → AllByRecursion P (take i xs)
 all-take P zero xs all = tt
 all-take P (suc i) [] all = tt
 all-take P (suc i) (x ∷ xs) all = (all.0, all-take P i xs all.1)

@@ -41,18 +41,16 @@ all-slice_get P (y ∷ xs) zero x is h = let same : y ≡ x = cc in subst P same
 all-slice_get P (y ∷ xs) (suc i) x is h = all-slice_get P xs i x is h.1
 
 -- the next of the entries that room was made for
-pub day-pushed : (opened : Opened) (entry : Entry) (spare less pushed : ℕ) → IsDay opened.day → HasRoom opened spare pushed → take 1 opened.room ≡ entry ∷ [] → less + 1 ≡ spare
-    → IsDay (record opened.day { updates = opened.day.updates ++ entry ∷ [] })
-    × HasRoom (record { day = record opened.day { updates = opened.day.updates ++ entry ∷ [] }; room = drop 1 opened.room }) less (pushed + 1)
-day-pushed opened entry spare less pushed day room next size =
+pub day-pushed : (opened : Opened) (entry : Entry) → IsDay opened.day → HasRoom opened → take 1 opened.room ≡ entry ∷ []
+    → IsDay (record opened.day { updates = opened.day.updates ++ entry ∷ [] }) × HasRoom (record { day = record opened.day { updates = opened.day.updates ++ entry ∷ [] }; room = drop 1 opened.room })
+day-pushed opened entry day room next =
     let split = take_one opened.room entry next in
     let own : AllByRecursion (IsUpdate opened.day.kinds) (entry ∷ drop 1 opened.room) = subst (AllByRecursion (IsUpdate opened.day.kinds)) split room.updates in
     let whole : total_rows opened.room ≡ total_rows (entry ∷ []) + total_rows (drop 1 opened.room) = ap total_rows split ∙ sum_by-append entry_rows (entry ∷ []) (drop 1 opened.room) in
     let grown = sum_by-append entry_rows opened.day.updates (entry ∷ []) in
-    let shorter : length opened.room ≡ suc (length (drop 1 opened.room)) = ap length split in
     let updates = all-append (IsUpdate opened.day.kinds) opened.day.updates (entry ∷ []) day.updates (own.0, tt) in (
       record { few = day.few; tables = day.tables; updates = updates; bounded = omega (arith, whole, grown, room.bounded) },
-      record { updates = own.1; bounded = omega (arith, whole, grown, room.bounded); enough = omega (arith, shorter, room.enough, size); counted = omega (arith, shorter, room.counted) },
+      record { updates = own.1; bounded = omega (arith, whole, grown, room.bounded) },
     )
 
 -- the rows, taken in the order of their symbols, are those of the ended day

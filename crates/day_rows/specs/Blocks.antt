@@ -1,11 +1,12 @@
 -- The updates of a day in blocks: the columns of consecutive updates, and a mark for each update.
-use Rattle.std.specs.Prelude.{◌≡◌, ℕ, ◌+◌, ◌++◌, List, [], ◌∷◌, map, Option, Some, None, slice_get}
-use Rattle.std.specs.List.{flat_map}
+use Rattle.std.specs.Prelude.{◌≡◌, ℕ, ◌+◌, ◌<◌, ◌≤◌, ◌==◌, if◌then◌else◌, ◌++◌, List, [], ◌∷◌, length, map, take, get_or, Option, Some, None, slice_get}
+use Rattle.std.specs.List.{AllByRecursion, flat_map, sum_by}
 use Rattle.q_values.specs.Contents.{Contents}
 use Rattle.q_values.specs.Table.{rows_of}
 use Rattle.q_values.specs.declared.atom.Atom.{Atom}
 use Rattle.q_values.specs.declared.kind.Kind.{Kind}
-use Rattle.day_rows.specs.Joined.{atoms_of, joined}
+use Rattle.day_rows.specs.Day.{total_rows}
+use Rattle.day_rows.specs.Joined.{atoms_of, joined, rows_in}
 use Rattle.day_rows.specs.declared.block.Mark.{Mark}
 use Rattle.day_rows.specs.declared.entry.Entry.{Entry}
 use Rattle.day_rows.specs.declared.entry.Entry.TheVariants as e
@@ -39,6 +40,46 @@ pub record IsBlock (updates : List Entry) (tables : List (List Contents)) (marks
   pub columns_are : (table column : ℕ) → atoms_at tables table column ≡ joined table column updates
   pub marks_are : marks ≡ map mark_of updates
 
--- the updates of a day: those of its blocks, in order, and then the loose ones
+-- the updates of blocks, in order, and then those of the block after them
 abbrev pub updates_in : List (List Entry) → List Entry → List Entry
-updates_in blocks loose = flat_map (λ block. block) blocks ++ loose
+updates_in blocks last = flat_map (λ block. block) blocks ++ last
+
+-- a mark's rows of a table
+abbrev pub rows_marked : ℕ → Mark → ℕ
+rows_marked table mark = if mark.table == table then mark.rows else 0
+
+-- the updates of a day, those that room was made for, and the number of the day's tables
+pub record Kept : Type 0 where
+  pub tables : ℕ
+  pub updates : List Entry
+  pub room : List Entry
+
+-- the number of the updates in these blocks, none of which is empty, and after them
+pub record IsStore (blocks : List (List Entry)) (last : List Entry) (held : ℕ) : Type 0 where
+  pub held_is : held ≡ length (updates_in blocks last)
+  pub some : AllByRecursion (λ block. 0 < length block) blocks
+
+-- the blocks, and the updates after them, begin with what they were
+pub record Grew (blocks : List (List Entry)) (last : List Entry) (more : List (List Entry)) (next : List Entry) : Type 0 where
+  pub begins : take (length (updates_in blocks last)) (updates_in more next) ≡ updates_in blocks last
+  pub blocks_begin : take (length blocks) more ≡ blocks
+  pub grown : length blocks < length more → length last < length (get_or more (length blocks) next)
+
+-- the first `sealed` blocks have `before` updates, all of them among the first `shown`, and the next block has more than those
+pub record IsPlace (blocks : List (List Entry)) (last : List Entry) (shown sealed before : ℕ) : Type 0 where
+  pub sealed_within : sealed ≤ length blocks
+  pub before_is : before ≡ length (flat_map (λ block. block) (take sealed blocks))
+  pub before_within : before ≤ shown
+  pub next_open : sealed < length blocks → shown < before + length (get_or blocks sealed last)
+
+-- the numbers of rows of each table, and of all, in updates
+pub record IsCounted (updates : List Entry) (counts : List ℕ) (rows : ℕ) : Type 0 where
+  pub counts_are : (table : ℕ) → table < length counts → get_or counts table 0 ≡ sum_by (rows_in table) updates
+  pub rows_are : rows ≡ total_rows updates
+
+-- the first `shown` updates of the blocks are those of a day, and the `room` updates after them those that room was made for
+pub record IsKept (blocks : List (List Entry)) (last : List Entry) (held shown room sealed before : ℕ) (counts : List ℕ) (rows : ℕ) : Type 0 where
+  pub store : IsStore blocks last held
+  pub all_within : shown + room ≤ held
+  pub place : IsPlace blocks last shown sealed before
+  pub counted : IsCounted (take shown (updates_in blocks last)) counts rows

@@ -1,5 +1,5 @@
 -- One date's updates.
-use Rattle.std.specs.Prelude.{◌≡◌, ℕ, ℤ, ◌+◌, ◌^◌, ◌<◌, ◌≤◌, List, [], ◌∷◌, length, map, All, Some, slice_get, take, IsPermutation}
+use Rattle.std.specs.Prelude.{◌≡◌, ℕ, ℤ, ◌+◌, ◌≤◌, List, [], ◌∷◌, length, map, All, Some, slice_get, take, IsPermutation}
 use Rattle.std.specs.List.{sum_by, AllByRecursion}
 use Rattle.q_values.specs.Contents.{Contents}
 use Rattle.q_values.specs.Table.{rows_of}
@@ -71,12 +71,10 @@ pub record IsDay (day : Day) : Type 0 where
   pub updates : AllByRecursion (IsUpdate day.kinds) day.updates
   pub bounded : total_rows day.updates ≤ 4294967295
 
--- there is room for the entries; the day has pushed the given number of them already
-pub record HasRoom (opened : Opened) (spare pushed : ℕ) : Type 0 where
+-- the entries that room was made for are updates of the day's tables, and the day may have their rows too
+pub record HasRoom (opened : Opened) : Type 0 where
   pub updates : AllByRecursion (IsUpdate opened.day.kinds) opened.room
   pub bounded : total_rows opened.day.updates + total_rows opened.room ≤ 4294967295
-  pub enough : length opened.room ≤ spare
-  pub counted : pushed + length opened.room < 2 ^ 64
 
 -- an ended day has the rows that the open day had, each exactly once
 abbrev pub KeepsRowsAtItsEnd : Type 0

@@ -6,3 +6,4 @@ pub mod Rows
 pub mod Schema
 pub mod Settled
 pub mod Sorted
+pub mod Trace

@@ -1,5 +1,5 @@
 //! Whether entries may be added to a day.
-ghost use Rattle.std.specs.Prelude.{◌≡◌, ◌+◌, ◌≤◌, length, map, All, IfSome, true};
+ghost use Rattle.std.specs.Prelude.{◌≡◌, ◌↔◌, ◌^◌, ◌≤◌, length, map, All, IfSome, IfNone, true};
 ghost use Rattle.std.specs.List.{AllByRecursion};
 ghost use Rattle.q_values.specs.Table.{rows_of};
 ghost use Rattle.day_rows.specs.Day.{IsUpdate, entry_rows, total_rows};
@@ -9,13 +9,13 @@ use crate::schema::Kinds;
 use q_values::{Kind, Vector};
 
 fn is_of_kind(column: &Vector, kind: &Kind) -> bool
-    ensures { result ≡ true → column.now.kind ≡ kind.now }
+    ensures { (result ≡ true) ↔ (column.now.kind ≡ kind.now) }
 {
     column.kind() == *kind
 }
 
 fn has_kinds(columns: &[Vector], kinds: &[Kind]) -> bool
-    ensures { result ≡ true → map (λ c. c.kind) columns.now ≡ kinds.now }
+    ensures { (result ≡ true) ↔ (map (λ c. c.kind) columns.now ≡ kinds.now) }
 {
     if columns.len() != kinds.len() {
         return false;
@@ -38,7 +38,7 @@ fn first_len(columns: &[Vector]) -> usize
 }
 
 fn have_equal_lengths(columns: &[Vector]) -> bool
-    ensures { result ≡ true → All (λ c. length c.atoms ≡ rows_of columns.now) columns.now }
+    ensures { (result ≡ true) ↔ All (λ c. length c.atoms ≡ rows_of columns.now) columns.now }
 {
     let rows = first_len(columns);
     for column in columns {
@@ -50,7 +50,7 @@ fn have_equal_lengths(columns: &[Vector]) -> bool
 }
 
 fn is_update(tables: &[Kinds], entry: &Entry) -> bool
-    ensures { result ≡ true → IsUpdate tables.now entry.now }
+    ensures { (result ≡ true) ↔ IsUpdate tables.now entry.now }
 {
     match entry {
         Entry::Upd { table, columns, .. } => match tables.get(*table as usize) {
@@ -66,7 +66,7 @@ fn is_update(tables: &[Kinds], entry: &Entry) -> bool
 
 /// Whether each entry is an update of one of the tables, whose columns have these kinds.
 pub fn are_updates(tables: &[Kinds], entries: &[Entry]) -> bool
-    ensures { result ≡ true → AllByRecursion (IsUpdate tables.now) entries.now }
+    ensures { (result ≡ true) ↔ AllByRecursion (IsUpdate tables.now) entries.now }
 {
     for entry in entries {
         if !is_update(tables, entry) {
@@ -88,7 +88,8 @@ pub fn rows_of_entry(entry: &Entry) -> usize
 
 /// The number of rows of all entries, or `None` where it exceeds 64 bits.
 pub fn total_of(entries: &[Entry]) -> Option<u64>
-    ensures { IfSome result (λ total. total ≡ total_rows entries.now) }
+    ensures some { IfSome result (λ total. total ≡ total_rows entries.now) }
+    ensures none { IfNone result (2 ^ 64 ≤ total_rows entries.now) }
 {
     let mut total = 0u64;
     for entry in entries {

@@ -1,19 +1,23 @@
 //! Blocks: the columns of consecutive updates, and a mark for each update.
-ghost use Rattle.std.specs.Prelude.{◌≡◌, ℕ, ◌<◌, ◌≤◌, ◌+◌, ◌-◌, ◌++◌, [], length, map, take, drop, replicate, slice_get, vec_len, IfOk, OnOk, MatchOption};
+ghost use Rattle.std.specs.Prelude.{◌≡◌, ℕ, ◌<◌, ◌≤◌, ◌+◌, ◌^◌, ◌++◌, [], ◌∷◌, ◌==◌, if◌then◌else◌, length, map, take, drop, replicate, slice_get, vec_len, IfOk, IfErr, OnOk, OnErr, MatchOption};
 ghost use Rattle.std.specs.List.{AllByRecursion, sum_by};
-ghost use Rattle.day_rows.specs.Blocks.{IsBlock, mark_of, columns_with, tables_with};
+ghost use Rattle.day_rows.specs.Blocks.{IsBlock, mark_of, rows_marked, atoms_at, columns_with, tables_with};
 ghost use Rattle.day_rows.specs.Day.{IsUpdate, entry_rows, total_rows};
-ghost use Rattle.day_rows.specs.Joined.{atoms_of, joined, rows_in};
+ghost use Rattle.day_rows.specs.Joined.{atoms_of, atoms_in, joined, rows_in};
 
 use crate::admits::rows_of_entry;
-use crate::copies::{append_block, whole_column};
+use crate::copies::append_block;
 use crate::entry::Entry;
 use crate::schema::Kinds;
+use crate::table::Table;
+use crate::trace::Trace;
 use q_values::{Columns, NoMemory, Vector};
 use std::alloc::Global;
 use std::marker::Model;
-use std::snapshot::Snapshot;
 use std::sync::Arc;
+
+/// The least number of rows of a block that is sealed.
+pub const BLOCK_ROWS: u64 = 1_024;
 
 /// What a block keeps of an update beside its rows.
 #[derive(Clone, Copy, Debug, PartialEq, Eq)]
@@ -29,12 +33,14 @@ pub struct Mark {
 /// The columns of consecutive updates, and a mark for each update. Contracts see the updates.
 #[derive(Drop)]
 pub struct Block {
-    // for each table of the day its columns, with the rows of the block's updates in order
-    tables: Vec<Columns>,
+    // for each table its columns, with the rows of the block's updates in order
+    tables: Vec<Table>,
     // for each update its mark, in order
     marks: Vec<Mark>,
-    // the updates themselves, for contracts alone; takes no memory
-    of: Snapshot<Vec<Entry>>,
+    // the number of rows of all updates
+    rows: u64,
+    // the updates themselves, for contracts alone
+    of: Trace<Entry>,
 }
 
 impl Model for Block {
@@ -45,41 +51,70 @@ impl Model for Block {
 
     ghost use Rattle.day_rows.specs.Blocks.{IsBlock};
 
-    ghost view = { λ b. b.of.value.items };
+    ghost view = { λ b. b.of };
 
-    ghost invariant = { λ b. IsBlock b.of.value.items b.tables.items b.marks.items };
+    ghost invariant = { λ b. IsBlock b.of b.tables.items b.marks.items };
 }
 
-// The columns of a table, joined from the entries.
-fn join_columns(
+// Adds tables without columns, until there is one with this index.
+fn add_tables(alloc: Global, tables: &mut Vec<Table>, index: usize) -> Result<(), NoMemory>
+    requires { index < 2 ^ 32 }
+    ensures same { (table column : ℕ) → atoms_at tables.new.items table column ≡ atoms_at tables.old.items table column }
+    ensures ok { OnOk result (index < length tables.new.items) }
+{
+    for _ in tables.len()..index + 1 {
+        tables.push(Table::new(alloc))?;
+    }
+    Ok(())
+}
+
+// The room that a new column gets for the rows of an update: none without rows, and at least that of a small block.
+fn room_for(rows: usize) -> usize {
+    if rows == 0 {
+        return 0;
+    }
+    rows.max(BLOCK_ROWS as usize)
+}
+
+// Appends an update's columns to those of its table. An error changes no atom.
+fn append_update(
     alloc: Global,
-    entries: &[Entry],
-    table: u32,
-    kinds: &Kinds,
-) -> Result<Columns, NoMemory>
-    ensures { IfOk result (λ columns. columns ≡ columns_with 0 kinds.now (λ column. joined table column entries.now)) }
+    tables: &mut Vec<Table>,
+    index: usize,
+    columns: &Columns,
+    rows: usize,
+) -> Result<(), NoMemory>
+    requires { index < 2 ^ 32 }
+    ensures ok { OnOk result ((table column : ℕ) → atoms_at tables.new.items table column
+        ≡ atoms_at tables.old.items table column ++ (if index == table then atoms_of (slice_get columns.now column) else [])) }
+    ensures err { OnErr result ((table column : ℕ) → atoms_at tables.new.items table column ≡ atoms_at tables.old.items table column) }
 {
-    let mut columns = Columns::new(alloc);
-    for i in 0..kinds.len() {
-        let column = whole_column(alloc, entries, table, i, *kinds.at(i))?;
-        columns.push(column)?;
-    }
-    Ok(columns)
+    add_tables(alloc, tables, index)?;
+    tables[index].append(alloc, columns.as_slice(), room_for(rows))
 }
 
-// The columns of each table, joined from the entries.
-fn join_tables(alloc: Global, entries: &[Entry], kinds: &[Kinds]) -> Result<Vec<Columns>, NoMemory>
-    requires { length kinds.now ≤ 64 }
-    ensures { IfOk result (λ tables. tables.items ≡ tables_with 0 kinds.now entries.now) }
+// Appends an entry's columns, where it has some. An error changes no atom.
+fn append_entry(alloc: Global, tables: &mut Vec<Table>, entry: &Entry) -> Result<(), NoMemory>
+    ensures ok { OnOk result ((table column : ℕ) → atoms_at tables.new.items table column
+        ≡ atoms_at tables.old.items table column ++ atoms_in table column entry.now) }
+    ensures err { OnErr result ((table column : ℕ) → atoms_at tables.new.items table column ≡ atoms_at tables.old.items table column) }
 {
-    let mut tables = Vec::with_capacity(alloc, kinds.len())?;
-    for i in 0..kinds.len() {
-        tables.push(join_columns(alloc, entries, i as u32, &kinds[i])?)?;
+    match entry {
+        Entry::Upd { table, columns, .. } => {
+            append_update(
+                alloc,
+                tables,
+                *table as usize,
+                columns,
+                rows_of_entry(entry),
+            )
+        }
+        _ => Ok(()),
     }
-    Ok(tables)
 }
 
-fn mark_of(entry: &Entry) -> Mark
+/// The mark of an entry.
+pub fn mark_of(entry: &Entry) -> Mark
     requires { entry_rows entry.now ≤ 4294967295 }
     ensures { result ≡ mark_of entry.now }
 {
@@ -98,24 +133,34 @@ fn mark_of(entry: &Entry) -> Mark
     }
 }
 
-// The mark of each entry, in order.
-fn marks_of(alloc: Global, entries: &[Entry]) -> Result<Vec<Mark>, NoMemory>
-    requires { total_rows entries.now ≤ 4294967295 }
-    ensures { IfOk result (λ marks. marks.items ≡ map mark_of entries.now) }
+// A mark's rows of a table.
+fn marked(mark: &Mark, table: u32) -> usize
+    ensures { result ≡ rows_marked table mark.now }
 {
-    let mut marks = Vec::with_capacity(alloc, entries.len())?;
-    for entry in entries {
-        marks.push(mark_of(entry))?;
+    if mark.table == table {
+        return mark.rows as usize;
     }
-    Ok(marks)
+    0
+}
+
+// The number of a table's rows in the updates with these marks.
+fn count_marked(marks: &[Mark], table: u32) -> usize
+    requires { sum_by (rows_marked table) marks.now ≤ 4294967295 }
+    ensures { result ≡ sum_by (rows_marked table) marks.now }
+{
+    let mut count = 0;
+    for mark in marks {
+        count += marked(mark, table);
+    }
+    count
 }
 
 // The column with this index, or `None` past the end.
-fn column_of(columns: &Columns, column: usize) -> Option<&Vector>
+fn column_of(columns: &Table, column: usize) -> Option<&Vector>
     ensures { MatchOption result (atoms_of (slice_get columns.now column) ≡ [])
         (λ found. found.now.atoms ≡ atoms_of (slice_get columns.now column)) }
 {
-    columns.as_slice().get(column)
+    columns.get(column)
 }
 
 // This many zeros.
@@ -127,20 +172,43 @@ fn zeros(alloc: Global, n: usize) -> Result<Vec<usize>, NoMemory>
 }
 
 impl Block {
-    /// The block of these updates, whose columns are copied. `kinds` are those of each table's columns.
-    pub fn join(alloc: Global, entries: &Vec<Entry>, kinds: &[Kinds]) -> Result<Block, NoMemory>
-        requires few { length kinds.now ≤ 64 }
-        requires updates { AllByRecursion (IsUpdate kinds.now) entries.now.items }
-        requires bounded { total_rows entries.now.items ≤ 4294967295 }
-        ensures { IfOk result (λ block. block ≡ entries.now.items) }
+    /// A block without updates. It takes no memory.
+    pub fn new(alloc: Global) -> Block
+        ensures { result ≡ [] }
     {
-        let tables = join_tables(alloc, entries, kinds)?;
-        let marks = marks_of(alloc, entries)?;
-        Ok(Block {
-            tables,
-            marks,
-            of: Snapshot::of(entries),
-        })
+        Block {
+            tables: Vec::new(alloc),
+            marks: Vec::new(alloc),
+            rows: 0,
+            of: Trace::new(),
+        }
+    }
+
+    /// Appends an update, whose columns are copied. An error changes nothing.
+    pub fn append(&mut self, alloc: Global, entry: &Entry) -> Result<(), NoMemory>
+        requires { entry_rows entry.now ≤ 4294967295 }
+        ensures ok { OnOk result (self.new ≡ self.old ++ entry.now ∷ []) }
+        ensures err { OnErr result (self.new ≡ self.old) }
+    {
+        self.marks.reserve(1)?;
+        append_entry(alloc, &mut self.tables, entry)?;
+        let mark = mark_of(entry);
+        self.rows = self.rows.saturating_add(u64::from(mark.rows));
+        self.marks.push_reserved(mark);
+        self.of.push(entry);
+        Ok(())
+    }
+
+    /// Whether it has as many rows as a block that is sealed.
+    pub fn is_full(&self) -> bool {
+        self.rows >= BLOCK_ROWS
+    }
+
+    /// The number of updates.
+    pub fn len(&self) -> usize
+        ensures { result ≡ length self.now }
+    {
+        self.marks.len()
     }
 
     /// A table's column, or `None` where the block has no atoms of it.
@@ -153,16 +221,6 @@ impl Block {
             return column_of(&self.tables[index], column);
         }
         None
-    }
-
-    /// The number of a table's rows.
-    pub fn rows(&self, table: u32) -> usize
-        ensures { result ≡ sum_by (rows_in table) self.now }
-    {
-        match self.column(table, 0) {
-            Some(first) => first.len(),
-            None => 0,
-        }
     }
 
     // The columns of `n` rows of a table, from the row `from` on.
@@ -184,6 +242,51 @@ impl Block {
             columns.push(column)?;
         }
         Ok(columns)
+    }
+
+    // The number of a table's rows in the first `n` updates.
+    fn first_rows(&self, table: u32, n: usize) -> usize
+        requires bounded { total_rows (take n self.now) ≤ 4294967295 }
+        requires within { n ≤ length self.now }
+        ensures { result ≡ sum_by (rows_in table) (take n self.now) }
+    {
+        count_marked(&self.marks[..n], table)
+    }
+
+    // The columns of each table in the first `n` updates. `kinds` are those of each table's columns.
+    fn first_tables(&self, alloc: Global, kinds: &[Kinds], n: usize) -> Result<Vec<Table>, NoMemory>
+        requires few { length kinds.now ≤ 64 }
+        requires updates { AllByRecursion (IsUpdate kinds.now) (take n self.now) }
+        requires bounded { total_rows (take n self.now) ≤ 4294967295 }
+        requires within { n ≤ length self.now }
+        ensures { IfOk result (λ tables. tables.items ≡ tables_with 0 kinds.now (take n self.now)) }
+    {
+        let mut tables = Vec::with_capacity(alloc, kinds.len())?;
+        for i in 0..kinds.len() {
+            let rows = self.first_rows(i as u32, n);
+            let columns = self.part(alloc, i as u32, &kinds[i], 0, rows)?;
+            tables.push(Table::from_columns(columns))?;
+        }
+        Ok(tables)
+    }
+
+    /// A block of the first `n` updates, whose columns are copied. `kinds` are those of each table's columns.
+    pub fn first(&self, alloc: Global, kinds: &[Kinds], n: usize) -> Result<Block, NoMemory>
+        requires few { length kinds.now ≤ 64 }
+        requires updates { AllByRecursion (IsUpdate kinds.now) (take n self.now) }
+        requires bounded { total_rows (take n self.now) ≤ 4294967295 }
+        requires within { n ≤ length self.now }
+        ensures { IfOk result (λ block. block ≡ take n self.now) }
+    {
+        let tables = self.first_tables(alloc, kinds, n)?;
+        let marks = Vec::from_slice(alloc, &self.marks[..n])?;
+        let rows = rows_of_marks(&marks);
+        Ok(Block {
+            tables,
+            marks,
+            rows,
+            of: self.of.first(n),
+        })
     }
 
     /// The entries, and after them copies of the block's updates. `kinds` are those of each table's columns.
@@ -211,6 +314,15 @@ impl Block {
     }
 }
 
+// The number of rows of all updates with these marks.
+fn rows_of_marks(marks: &[Mark]) -> u64 {
+    let mut rows = 0u64;
+    for mark in marks {
+        rows = rows.saturating_add(u64::from(mark.rows));
+    }
+    rows
+}
+
 /// A block that several days may share.
 #[derive(Drop)]
 pub struct SharedBlock {
@@ -228,21 +340,15 @@ impl Model for SharedBlock {
 }
 
 impl SharedBlock {
-    /// The block of these updates, whose columns are copied. `kinds` are those of each table's columns.
-    pub fn join(
-        alloc: Global,
-        entries: &Vec<Entry>,
-        kinds: &[Kinds],
-    ) -> Result<SharedBlock, NoMemory>
-        requires few { length kinds.now ≤ 64 }
-        requires updates { AllByRecursion (IsUpdate kinds.now) entries.now.items }
-        requires bounded { total_rows entries.now.items ≤ 4294967295 }
-        ensures { IfOk result (λ shared. shared ≡ entries.now.items) }
+    /// This block, which is moved and not copied. An error gives it back.
+    pub fn new(alloc: Global, block: Block) -> Result<SharedBlock, Block>
+        ensures ok { IfOk result (λ shared. shared ≡ block) }
+        ensures err { IfErr result (λ back. back ≡ block) }
     {
-        let block = Block::join(alloc, entries, kinds)?;
-        Ok(SharedBlock {
-            block: Arc::new(alloc, block)?,
-        })
+        match Arc::new(alloc, block) {
+            Ok(block) => Ok(SharedBlock { block }),
+            Err(failed) => Err(failed.value),
+        }
     }
 
     /// The block.

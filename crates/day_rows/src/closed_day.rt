@@ -108,18 +108,18 @@ pub struct ClosedDay {
 }
 
 impl Model for ClosedDay {
-    ghost use Rattle.day_rows.specs.Blocks.{updates_in};
     ghost use Rattle.day_rows.specs.Day.{Day, IsDay, opened_of};
 
     ghost Value = { Day };
 
-    ghost use Rattle.std.specs.Prelude.{[]};
+    ghost use Rattle.std.specs.Prelude.{[], ◌≡◌, length};
     ghost use Rattle.day_rows.specs.Settled.{AreOrders};
 
-    ghost view = { λ d. (opened_of d.date d.kinds.items (updates_in d.updates.blocks.items d.updates.loose.items) []).day };
+    ghost view = { λ d. (opened_of d.date d.kinds.items d.updates.updates []).day };
 
-    ghost invariant = { λ d. IsDay (opened_of d.date d.kinds.items (updates_in d.updates.blocks.items d.updates.loose.items) []).day
-        × AreOrders (opened_of d.date d.kinds.items (updates_in d.updates.blocks.items d.updates.loose.items) []).day d.orders.items };
+    ghost invariant = { λ d. IsDay (opened_of d.date d.kinds.items d.updates.updates []).day
+        × AreOrders (opened_of d.date d.kinds.items d.updates.updates []).day d.orders.items
+        × (d.updates.tables ≡ length d.kinds.items) };
 }
 
 impl ClosedDay {

@@ -39,6 +39,9 @@ mod copies;
 mod entry;
 mod open_day;
 mod schema;
+mod store;
+mod table;
+mod trace;
 mod updates;
 
 pub use chronicle::{view_has_each_row_once, view_is_by_dates};

@@ -1,13 +1,12 @@
 //! The open date: its updates in blocks, and room for more.
-ghost use Rattle.std.specs.Prelude.{◌≡◌, ◌<◌, ◌≤◌, ◌+◌, ◌^◌, [], ◌∷◌, ◌++◌, length, map, take, drop};
-ghost use Rattle.std.specs.Prelude.{IfOk, OnOk, OnErr, true, Some, slice_get, vec_capacity, vec_len};
+ghost use Rattle.std.specs.Prelude.{◌≡◌, ◌↔◌, ◌<◌, ◌≤◌, ◌+◌, [], ◌∷◌, ◌++◌, length, map, take, drop};
+ghost use Rattle.std.specs.Prelude.{IfOk, OnOk, OnErr, true, Some, slice_get};
 ghost use Rattle.std.specs.List.{AllByRecursion};
 ghost use Rattle.q_values.specs.declared.kind.Kind.{Kind};
 ghost use Rattle.day_rows.specs.Rows.{column_of};
-ghost use Rattle.day_rows.specs.Blocks.{updates_in};
 ghost use Rattle.day_rows.specs.Day.{Day, Opened, IsDay, IsUpdate, AreTableKinds, HasColumn, total_rows, arrived};
 
-use crate::admits::{are_updates, rows_of_entry, total_of};
+use crate::admits::{are_updates, total_of};
 use crate::closed_day::{ClosedDay, DayOrder, order_tables};
 use crate::entry::{Entries, Entry};
 use crate::schema::{Kinds, Schema};
@@ -20,9 +19,6 @@ use std::snapshot::Snapshot;
 // The most rows that a date may have, in all its tables.
 const MAX_ROWS: u64 = 4_294_967_295;
 
-// The least number of rows of a block.
-const BLOCK_ROWS: u64 = 1_024;
-
 /// A date that is open: its updates, in order, and room for more (KX, tick.q and r.q). Copies of a day share its blocks.
 #[derive(Drop)]
 pub struct OpenDay {
@@ -32,33 +28,22 @@ pub struct OpenDay {
     tables: Vec<Kinds>,
     // the allocator
     alloc: Global,
-    // the updates in the order of arrival
+    // the updates in the order of arrival, and those that room was made for
     updates: Updates,
-    // the number of rows of all updates, at most 4,294,967,295
-    rows: u64,
-    // the number of rows after the last block of `updates`; where they are enough for a block, the next `reserve` joins them
-    unsealed: u64,
-    // the entries that room was last made for; takes no memory
-    planned: Snapshot<Entries>,
-    // how many of `planned` have been pushed since
-    pushed: usize,
 }
 
 impl Model for OpenDay {
-    ghost use Rattle.std.specs.Prelude.{drop, vec_capacity, vec_len, ◌-◌, ◌≡◌};
-    ghost use Rattle.day_rows.specs.Blocks.{updates_in};
-    ghost use Rattle.day_rows.specs.Day.{Opened, IsDay, HasRoom, opened_of, total_rows};
+    ghost use Rattle.std.specs.Prelude.{◌≡◌, length};
+    ghost use Rattle.day_rows.specs.Day.{Opened, IsDay, HasRoom, opened_of};
 
     ghost Value = { Opened };
 
-    ghost view = { λ d. opened_of d.date d.tables.items (updates_in d.updates.blocks.items d.updates.loose.items) (drop d.pushed d.planned.value) };
+    ghost view = { λ d. opened_of d.date d.tables.items d.updates.updates d.updates.room };
 
     ghost invariant = { λ d.
-        IsDay (opened_of d.date d.tables.items (updates_in d.updates.blocks.items d.updates.loose.items)
-        (drop d.pushed d.planned.value)).day
-        × HasRoom (opened_of d.date d.tables.items (updates_in d.updates.blocks.items d.updates.loose.items)
-        (drop d.pushed d.planned.value)) (vec_capacity d.updates.loose - vec_len d.updates.loose) d.pushed
-        × (d.rows ≡ total_rows (updates_in d.updates.blocks.items d.updates.loose.items)) };
+        IsDay (opened_of d.date d.tables.items d.updates.updates d.updates.room).day
+        × HasRoom (opened_of d.date d.tables.items d.updates.updates d.updates.room)
+        × (d.updates.tables ≡ length d.tables.items) };
 }
 
 impl OpenDay {
@@ -70,48 +55,40 @@ impl OpenDay {
         }) }
     {
         let tables = kinds_of(alloc, schema)?;
+        let updates = Updates::new(alloc, tables.len())?;
         Ok(OpenDay {
             date,
             tables,
             alloc,
-            updates: Updates::new(alloc),
-            rows: 0,
-            unsealed: 0,
-            planned: Snapshot::of(&Entries::new(alloc)),
-            pushed: 0,
+            updates,
         })
     }
 
-    /// Whether [`reserve`](OpenDay::reserve) may be called with these entries: they are updates of the day's tables, and
-    /// the day would then have at most 4,294,967,295 rows in all its tables.
+    /// Whether [`reserve`](OpenDay::reserve) may be called with these entries: exactly where they are updates of the day's
+    /// tables, and the day would then have at most 4,294,967,295 rows in all its tables.
     pub fn admits(&self, entries: &Entries) -> bool
-        ensures updates { result ≡ true → AllByRecursion (IsUpdate self.now.day.kinds) entries.now }
-        ensures bounded { result ≡ true → total_rows self.now.day.updates + total_rows entries.now ≤ 4294967295 }
+        ensures { (result ≡ true) ↔ (AllByRecursion (IsUpdate self.now.day.kinds) entries.now
+            × (total_rows self.now.day.updates + total_rows entries.now ≤ 4294967295)) }
     {
         match total_of(entries.as_slice()) {
             Some(more) => {
-                self.rows.saturating_add(more) <= MAX_ROWS
+                self.updates.total().saturating_add(more) <= MAX_ROWS
                     && are_updates(&self.tables, entries.as_slice())
             }
             None => false,
         }
     }
 
-    /// Makes room for these entries, which replaces any former room. They are updates of the day's tables. An error
-    /// changes nothing.
+    /// Makes room for these entries, which replaces any former room. They are updates of the day's tables, and their
+    /// columns are copied. An error changes nothing.
     pub fn reserve(&mut self, entries: &Entries) -> Result<(), NoMemory>
         requires updates { AllByRecursion (IsUpdate self.old.day.kinds) entries.now }
         requires bounded { total_rows self.old.day.updates + total_rows entries.now ≤ 4294967295 }
         ensures ok { OnOk result (self.new ≡ record self.old { room = entries.now }) }
         ensures err { OnErr result (self.new ≡ self.old) }
     {
-        let seals = self.unsealed >= BLOCK_ROWS;
         self.updates
-            .make_room(self.alloc, &self.tables, entries.len(), seals)?;
-        self.unsealed = rows_after_seal(self.unsealed);
-        self.planned = Snapshot::of(entries);
-        self.pushed = 0;
-        Ok(())
+            .reserve(self.alloc, &self.tables, entries.as_slice())
     }
 
     /// Appends an entry: the next of those that room was made for. It takes no memory.
@@ -122,14 +99,11 @@ impl OpenDay {
           room = drop 1 self.old.room;
         } }
     {
-        let rows = rows_of_entry(&entry) as u64;
-        self.updates.loose.push_reserved(entry);
-        self.rows += rows;
-        self.unsealed = self.unsealed.saturating_add(rows);
-        self.pushed += 1;
+        self.updates.push(&entry);
     }
 
-    /// An equal day, without room for more updates. Its blocks are shared, and the other rows are copied.
+    /// An equal day, without room for more updates. Its sealed blocks are shared, and the other rows, fewer than 1,024, are
+    /// copied.
     pub fn copy(&self, alloc: Global) -> Result<OpenDay, NoMemory>
         ensures { IfOk result (λ copied. copied ≡ record self.now { room = [] }) }
     {
@@ -140,10 +114,6 @@ impl OpenDay {
             tables,
             alloc,
             updates,
-            rows: self.rows,
-            unsealed: 0,
-            planned: Snapshot::of(&Entries::new(alloc)),
-            pushed: 0,
         })
     }
 
@@ -163,18 +133,16 @@ impl OpenDay {
         self.updates.rows(table)
     }
 
-    /// The number of rows after the last block.
+    /// The number of rows after the last sealed block.
     pub fn loose_rows(&self) -> usize
         ensures { result < 1024 }
     {
-        rows_after_seal(self.unsealed) as usize
+        self.updates.loose_rows() as usize
     }
 
-    /// The number of blocks. A block has at least 1,024 rows: the push after which the rows that follow the last block are as
-    /// many ends it.
+    /// The number of sealed blocks. The push after which a block has at least 1,024 rows seals it.
     pub fn blocks(&self) -> usize {
-        let sealed = usize::from(self.unsealed >= BLOCK_ROWS);
-        self.updates.blocks.len().saturating_add(sealed)
+        self.updates.blocks()
     }
 
     /// A copy of the updates, in order.
@@ -185,7 +153,7 @@ impl OpenDay {
     }
 
     /// The `n` atoms of a table's column from the row `from` on, in the order of arrival. Reading it copies each
-    /// atom once, and costs a step for each block and for each update after the last block.
+    /// atom once, and costs a step for each block.
     pub fn column(
         &self,
         alloc: Global,
@@ -236,13 +204,6 @@ impl OpenDay {
             orders,
         }
     }
-}
-
-// How many of the rows after the last block are left after it, where they are joined to a block once they are enough.
-fn rows_after_seal(rows: u64) -> u64
-    ensures { result < 1024 }
-{
-    if rows >= BLOCK_ROWS { 0 } else { rows }
 }
 
 fn copy_kinds(alloc: Global, kinds: &Kinds) -> Result<Kinds, NoMemory>

@@ -1,147 +1,237 @@
-//! The updates of a date, in blocks, and what is read from them.
-ghost use Rattle.std.specs.Prelude.{◌≡◌, ◌<◌, ◌≤◌, ◌+◌, ◌-◌, ◌++◌, [], length, take, drop, IfOk, OnOk, OnErr, vec_capacity, vec_len};
-ghost use Rattle.std.specs.List.{AllByRecursion, sum_by, flat_map};
-ghost use Rattle.day_rows.specs.Blocks.{updates_in};
-ghost use Rattle.day_rows.specs.Day.{IsUpdate, total_rows};
+//! The updates of a date, and those that room was made for.
+ghost use Rattle.std.specs.Prelude.{◌≡◌, ◌<◌, ◌≤◌, ◌+◌, ◌^◌, ◌++◌, [], ◌∷◌, length, take, drop, replicate, get_or, set, IfOk, OnOk, OnErr};
+ghost use Rattle.std.specs.List.{AllByRecursion, sum_by};
+ghost use Rattle.day_rows.specs.Blocks.{mark_of, IsPlace};
+ghost use Rattle.day_rows.specs.Day.{IsUpdate, entry_rows, total_rows};
 ghost use Rattle.day_rows.specs.Joined.{joined, rows_in};
 
-use crate::block::SharedBlock;
-use crate::copies::{append_entries, copy_entry, count_rows, join_blocks};
+use crate::admits::rows_of_entry;
+use crate::block::{BLOCK_ROWS, mark_of};
 use crate::entry::Entry;
 use crate::schema::Kinds;
+use crate::store::Store;
 use q_values::{Kind, NoMemory, Vector};
 use std::alloc::Global;
+use std::marker::Model;
 
-/// The updates of a date, in order: blocks, which copies share, and then the loose updates.
+/// The updates of a date, in order, and after them those that room was made for. Contracts see both lists.
 #[derive(Drop)]
 pub struct Updates {
-    /// The blocks, in order.
-    pub blocks: Vec<SharedBlock>,
-    /// The updates after the last block.
-    pub loose: Vec<Entry>,
+    // all of them, in blocks, and perhaps some that an error left after them
+    store: Store,
+    // the number of updates that the date has
+    shown: usize,
+    // the number of updates that room was made for
+    room: usize,
+    // the number of full blocks whose updates the date all has: they are sealed
+    sealed: usize,
+    // the number of updates in the sealed blocks
+    before: usize,
+    // the number of rows after the sealed blocks that the date has
+    loose: u64,
+    // the number of rows of each table
+    counts: Vec<u32>,
+    // the number of rows of all tables
+    rows: u64,
 }
 
-// The same blocks, which are shared and not copied.
-fn share_blocks(alloc: Global, blocks: &[SharedBlock]) -> Result<Vec<SharedBlock>, NoMemory>
-    ensures { IfOk result (λ shared. shared.items ≡ blocks.now) }
-{
-    let mut shared = Vec::with_capacity(alloc, blocks.len())?;
-    for block in blocks {
-        shared.push(block.share()?)?;
-    }
-    Ok(shared)
+impl Model for Updates {
+    ghost use Rattle.std.specs.Prelude.{length, take, drop};
+    ghost use Rattle.day_rows.specs.Blocks.{Kept, updates_in, IsKept};
+
+    ghost Value = { Kept };
+
+    ghost view = { λ u. record {
+      tables = length u.counts.items;
+      updates = take u.shown (updates_in u.store.blocks.items u.store.last);
+      room = take u.room (drop u.shown (updates_in u.store.blocks.items u.store.last));
+    } };
+
+    ghost invariant = { λ u. IsKept u.store.blocks.items u.store.last u.store.held u.shown u.room u.sealed u.before u.counts.items u.rows };
 }
 
-// The number of a table's rows in the blocks.
-fn count_joined(blocks: &[SharedBlock], table: u32) -> u32
-    requires { total_rows (flat_map (λ block. block) blocks.now) ≤ 4294967295 }
-    ensures { result ≡ sum_by (rows_in table) (flat_map (λ block. block) blocks.now) }
+// This many zeros.
+fn zeros(alloc: Global, n: usize) -> Result<Vec<u32>, NoMemory>
+    ensures { IfOk result (λ found. found.items ≡ replicate n 0) }
 {
-    let mut count = 0;
-    for block in blocks {
-        count += block.block().rows(table) as u32;
-    }
-    count
+    Ok(vec![in alloc; 0u32; n]?)
 }
 
-// Copies of the updates of the blocks, in order. `kinds` are those of each table's columns.
-fn split_blocks(
-    alloc: Global,
-    blocks: &[SharedBlock],
-    kinds: &[Kinds],
-) -> Result<Vec<Entry>, NoMemory>
-    requires updates { AllByRecursion (IsUpdate kinds.now) (flat_map (λ block. block) blocks.now) }
-    requires bounded { total_rows (flat_map (λ block. block) blocks.now) ≤ 4294967295 }
-    ensures { IfOk result (λ entries. entries.items ≡ flat_map (λ block. block) blocks.now) }
+// How many of this many rows after the last sealed block are left after it once a block is sealed where they are enough.
+fn rows_after_seal(rows: u64) -> u64
+    ensures { result < 1024 }
 {
-    let mut entries = Vec::new(alloc);
-    for block in blocks {
-        entries = block.block().split(alloc, kinds, entries)?;
+    if rows >= BLOCK_ROWS { 0 } else { rows }
+}
+
+// Adds an entry's rows to the count of its table.
+fn add_rows(counts: &mut Vec<u32>, entry: &Entry)
+    requires table { (mark_of entry.now).table < length counts.old.items }
+    requires rows { entry_rows entry.now ≤ 4294967295 }
+    requires fits { get_or counts.old.items (mark_of entry.now).table 0 + (mark_of entry.now).rows ≤ 4294967295 }
+    ensures { counts.new.items ≡ set counts.old.items (mark_of entry.now).table (get_or counts.old.items (mark_of entry.now).table 0 + (mark_of entry.now).rows) }
+{
+    let mark = mark_of(entry);
+    let index = mark.table as usize;
+    counts[index] += mark.rows;
+}
+
+// How many blocks are sealed, and the number of their updates, after one more update: it seals the next block where it is
+// the last of it.
+fn place_after(
+    store: &Store,
+    held: usize,
+    shown: usize,
+    sealed: usize,
+    before: usize,
+) -> (usize, usize)
+    requires place { IsPlace store.now.blocks.items store.now.last shown sealed before }
+    requires some { AllByRecursion (λ block. 0 < length block) store.now.blocks.items }
+    requires counted { shown < held }
+    ensures { IsPlace store.now.blocks.items store.now.last (shown + 1) result.0 result.1 }
+{
+    if sealed < store.blocks.len() {
+        let updates = store.blocks[sealed].block().len();
+        if updates <= shown + 1 - before {
+            return (sealed + 1, before + updates);
+        }
     }
-    Ok(entries)
+    (sealed, before)
+}
+
+// The number of updates that are shown, and one more of those that are held.
+fn count_one(held: usize, shown: usize) -> usize
+    requires { shown < held }
+    ensures { result ≡ shown + 1 }
+{
+    shown + 1
 }
 
 impl Updates {
-    /// No updates. It takes no memory.
-    pub fn new(alloc: Global) -> Updates
-        ensures blocks { result.blocks.items ≡ [] }
-        ensures loose { result.loose.items ≡ [] }
+    /// No updates of any of this many tables, and no room.
+    pub fn new(alloc: Global, tables: usize) -> Result<Updates, NoMemory>
+        ensures { IfOk result (λ updates. updates ≡ record { tables = tables; updates = []; room = [] }) }
     {
-        Updates {
-            blocks: Vec::new(alloc),
-            loose: Vec::new(alloc),
-        }
+        let counts = zeros(alloc, tables)?;
+        Ok(Updates {
+            store: Store::new(alloc),
+            shown: 0,
+            room: 0,
+            sealed: 0,
+            before: 0,
+            loose: 0,
+            counts,
+            rows: 0,
+        })
     }
 
-    // Joins the loose updates to one more block, and makes room for `room` loose ones. An error changes nothing.
-    fn seal(&mut self, alloc: Global, kinds: &[Kinds], room: usize) -> Result<(), NoMemory>
-        requires few { length kinds.now ≤ 64 }
-        requires updates { AllByRecursion (IsUpdate kinds.now) self.old.loose.items }
-        requires bounded { total_rows self.old.loose.items ≤ 4294967295 }
-        ensures ok { OnOk result (updates_in self.new.blocks.items self.new.loose.items ≡ updates_in self.old.blocks.items self.old.loose.items) }
-        ensures room { OnOk result (room ≤ vec_capacity self.new.loose - vec_len self.new.loose) }
-        ensures blocks { OnErr result (self.new.blocks.items ≡ self.old.blocks.items) }
-        ensures loose { OnErr result (self.new.loose.items ≡ self.old.loose.items) }
-        ensures spare { OnErr result (vec_capacity self.new.loose - vec_len self.new.loose ≡ vec_capacity self.old.loose - vec_len self.old.loose) }
-    {
-        let block = SharedBlock::join(alloc, &self.loose, kinds)?;
-        let fresh = Vec::with_capacity(alloc, room)?;
-        self.blocks.push(block)?;
-        self.loose = fresh;
-        Ok(())
-    }
-
-    /// Makes room for `room` loose updates, and first joins those that there are to a block where `seals` says so. An error
-    /// changes nothing.
-    pub fn make_room(
+    /// Makes room for these updates, which replaces any former room: their columns are copied. An error changes nothing.
+    pub fn reserve(
         &mut self,
         alloc: Global,
         kinds: &[Kinds],
-        room: usize,
-        seals: bool,
+        entries: &[Entry],
     ) -> Result<(), NoMemory>
         requires few { length kinds.now ≤ 64 }
-        requires updates { AllByRecursion (IsUpdate kinds.now) self.old.loose.items }
-        requires bounded { total_rows self.old.loose.items ≤ 4294967295 }
-        ensures ok { OnOk result (updates_in self.new.blocks.items self.new.loose.items ≡ updates_in self.old.blocks.items self.old.loose.items) }
-        ensures room { OnOk result (room ≤ vec_capacity self.new.loose - vec_len self.new.loose) }
-        ensures blocks { OnErr result (self.new.blocks.items ≡ self.old.blocks.items) }
-        ensures loose { OnErr result (self.new.loose.items ≡ self.old.loose.items) }
-        ensures spare { OnErr result (vec_capacity self.new.loose - vec_len self.new.loose ≡ vec_capacity self.old.loose - vec_len self.old.loose) }
+        requires updates { AllByRecursion (IsUpdate kinds.now) self.old.updates }
+        requires bounded { total_rows self.old.updates + total_rows entries.now ≤ 4294967295 }
+        ensures ok { OnOk result (self.new ≡ record self.old { room = entries.now }) }
+        ensures err { OnErr result (self.new ≡ self.old) }
     {
-        if seals {
-            return self.seal(alloc, kinds, room);
+        if self.store.held > self.shown {
+            return self.replan(alloc, kinds, entries);
         }
-        self.loose.reserve(room)?;
+        self.store.extend(alloc, entries)?;
+        self.room = entries.len();
         Ok(())
     }
 
-    /// The same updates, whose blocks are shared; the loose ones are joined to a block of their own.
+    // The same, where there is room already: the updates of the date are copied that are after the sealed blocks.
+    fn replan(&mut self, alloc: Global, kinds: &[Kinds], entries: &[Entry]) -> Result<(), NoMemory>
+        requires few { length kinds.now ≤ 64 }
+        requires updates { AllByRecursion (IsUpdate kinds.now) self.old.updates }
+        requires bounded { total_rows self.old.updates + total_rows entries.now ≤ 4294967295 }
+        ensures ok { OnOk result (self.new ≡ record self.old { room = entries.now }) }
+        ensures err { OnErr result (self.new ≡ self.old) }
+    {
+        let n = self.shown - self.before;
+        let mut fresh = self.store.first(alloc, kinds, self.sealed, self.before, n)?;
+        fresh.extend(alloc, entries)?;
+        self.store.replace(fresh);
+        self.room = entries.len();
+        Ok(())
+    }
+
+    /// Adds to the updates the next of those that room was made for, which is this one. It takes no memory.
+    pub fn push(&mut self, entry: &Entry)
+        requires next { take 1 self.old.room ≡ entry.now ∷ [] }
+        requires table { (mark_of entry.now).table < self.old.tables }
+        requires bounded { total_rows self.old.updates + entry_rows entry.now ≤ 4294967295 }
+        ensures { self.new ≡ record self.old { updates = self.old.updates ++ entry.now ∷ []; room = drop 1 self.old.room } }
+    {
+        let rows = rows_of_entry(entry) as u64;
+        let held = self.store.held;
+        let (sealed, before) = place_after(&self.store, held, self.shown, self.sealed, self.before);
+        let shown = count_one(held, self.shown);
+        add_rows(&mut self.counts, entry);
+        self.rows += rows;
+        self.loose = rows_after_seal(self.loose.saturating_add(rows));
+        self.shown = shown;
+        self.room -= 1;
+        self.sealed = sealed;
+        self.before = before;
+    }
+
+    /// The same updates, without room for more: sealed blocks are shared, and the columns of the other updates are copied.
     pub fn copy(&self, alloc: Global, kinds: &[Kinds]) -> Result<Updates, NoMemory>
         requires few { length kinds.now ≤ 64 }
-        requires updates { AllByRecursion (IsUpdate kinds.now) self.now.loose.items }
-        requires bounded { total_rows self.now.loose.items ≤ 4294967295 }
-        ensures { IfOk result (λ copied. updates_in copied.blocks.items copied.loose.items
-            ≡ updates_in self.now.blocks.items self.now.loose.items) }
+        requires updates { AllByRecursion (IsUpdate kinds.now) self.now.updates }
+        requires bounded { total_rows self.now.updates ≤ 4294967295 }
+        ensures { IfOk result (λ copied. copied ≡ record self.now { room = [] }) }
     {
-        let last = SharedBlock::join(alloc, &self.loose, kinds)?;
-        let mut blocks = share_blocks(alloc, &self.blocks)?;
-        blocks.push(last)?;
+        let n = self.shown - self.before;
+        let store = self.store.first(alloc, kinds, self.sealed, self.before, n)?;
+        let counts = Vec::from_slice(alloc, &self.counts)?;
         Ok(Updates {
-            blocks,
-            loose: Vec::new(alloc),
+            store,
+            shown: self.shown,
+            room: 0,
+            sealed: self.sealed,
+            before: self.before,
+            loose: self.loose,
+            counts,
+            rows: self.rows,
         })
     }
 
     /// The number of a table's rows.
     pub fn rows(&self, table: u32) -> u32
-        requires { total_rows (updates_in self.now.blocks.items self.now.loose.items) ≤ 4294967295 }
-        ensures { result ≡ sum_by (rows_in table) (updates_in self.now.blocks.items self.now.loose.items) }
+        requires { table < self.now.tables }
+        ensures { result ≡ sum_by (rows_in table) self.now.updates }
     {
-        count_joined(&self.blocks, table) + count_rows(&self.loose, table)
+        self.counts[table as usize]
     }
 
-    /// The `n` atoms from the row `from` on of a table's column, in the order of arrival; fewer where it ends before.
+    /// The number of rows of all tables.
+    pub fn total(&self) -> u64
+        ensures { result ≡ total_rows self.now.updates }
+    {
+        self.rows
+    }
+
+    /// The number of rows after the last sealed block.
+    pub fn loose_rows(&self) -> u64
+        ensures { result < 1024 }
+    {
+        rows_after_seal(self.loose)
+    }
+
+    /// The number of sealed blocks.
+    pub fn blocks(&self) -> usize {
+        self.sealed
+    }
+
+    /// The `n` atoms from the row `from` on of a table's column, in the order of arrival.
     pub fn column(
         &self,
         alloc: Global,
@@ -151,26 +241,25 @@ impl Updates {
         from: usize,
         n: usize,
     ) -> Result<Vector, NoMemory>
+        requires { from + n ≤ length (joined table column self.now.updates) }
         ensures { IfOk result (λ found. found ≡ record {
           kind = kind;
-          atoms = take n (drop from (joined table column (updates_in self.now.blocks.items self.now.loose.items)));
+          atoms = take n (drop from (joined table column self.now.updates));
         }) }
     {
-        let (found, skip) = join_blocks(alloc, &self.blocks, table, column, kind, from, n)?;
-        let part = append_entries(found, &self.loose, table, column, skip, n)?;
-        Ok(part)
+        let found = self.store.column(alloc, table, column, kind, from, n)?;
+        Ok(found)
     }
 
     /// Copies of the updates, in order. `kinds` are those of each table's columns.
     pub fn entries(&self, alloc: Global, kinds: &[Kinds]) -> Result<Vec<Entry>, NoMemory>
-        requires updates { AllByRecursion (IsUpdate kinds.now) (updates_in self.now.blocks.items self.now.loose.items) }
-        requires bounded { total_rows (updates_in self.now.blocks.items self.now.loose.items) ≤ 4294967295 }
-        ensures { IfOk result (λ entries. entries.items ≡ updates_in self.now.blocks.items self.now.loose.items) }
+        requires few { length kinds.now ≤ 64 }
+        requires updates { AllByRecursion (IsUpdate kinds.now) self.now.updates }
+        requires bounded { total_rows self.now.updates ≤ 4294967295 }
+        ensures { IfOk result (λ entries. entries.items ≡ self.now.updates) }
     {
-        let mut entries = split_blocks(alloc, &self.blocks, kinds)?;
-        for entry in &self.loose {
-            entries.push(copy_entry(alloc, entry)?)?;
-        }
-        Ok(entries)
+        let n = self.shown - self.before;
+        let found = self.store.entries(alloc, kinds, self.sealed, n)?;
+        Ok(found)
     }
 }

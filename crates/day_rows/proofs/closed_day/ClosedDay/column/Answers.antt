@@ -7,7 +7,8 @@ use Rattle.q_values.specs.declared.kind.Kind.{Kind}
 use Rattle.day_rows.specs.Day.{Day, IsDay, arrived, settled}
 use Rattle.day_rows.specs.Joined.{joined}
 use Rattle.day_rows.specs.Rows.{Row, field, symbol_of, column_of}
-use Rattle.day_rows.proofs.DayLemmas.{All-part, kept-order, arrivals-settled, whole-arrived, settled-part}
+use Rattle.day_rows.proofs.DayLemmas.{All-part, kept-order, arrivals-settled, length-settled, whole-arrived, settled-part}
+use Rattle.day_rows.proofs.RowsLemmas.{column-arrived}
 use Rattle.day_rows.proofs.closed_day.ClosedDay.column.Goals as goal
 
 pub part-requires : goal.part-requires
@@ -55,3 +56,17 @@ returns c =
     ∙ ap (λ (x : Kind). record { kind = x; atoms = take c.rows-rows.result (drop 0 (joined c.args.table c.args.column c.args.self.now.updates)) }) same
     ∙ whole-arrived c.args.self.now c.args.table c.args.column c.rows-rows.result has.0 (kind) day has.1 (slice_get_within has.0 c.args.column (kind) has.2) c.rows-rows.ensures in
     settled-part c.args.self.now c.args.table c.args.column c.args.n c.args.from kind order c.in_ok-whole.whole c.in_ok-part.part day K whole (rw (c.deref.ensures.value, c.in_ok-order.ensures) at c.in_ok-part.ensures)
+
+pub column-requires : goal.column-requires
+column-requires c =
+    let day : IsDay c.args.self.now = subst IsDay c.self.view_is c.self.invariant.0 in
+    let has = c.requires.exists.1 in
+    let read = column-arrived c.args.self.now c.args.table c.args.column has.0 day.updates has.1 (slice_get_within has.0 c.args.column c.requires.exists.0 has.2) in
+    let own = ap (λ (d : Day). length (joined c.args.table c.args.column d.updates)) c.self.view_is in
+    omega (arith, ap length read, length-map (arrived c.args.self.now c.args.table) (field c.args.column), own, c.rows-rows.ensures, length-settled c.args.self.now c.args.table)
+
+pub index-requires-2 : goal.index-requires-2
+index-requires-2 c =
+    let has = c.requires.exists.1 in
+    let own = ap (λ (d : Day). length d.kinds) c.self.view_is in
+    omega (arith, slice_get_within c.args.self.now.kinds c.args.table has.0 has.1, own, c.self.invariant.1.count, c.self.inside.orders.ok)

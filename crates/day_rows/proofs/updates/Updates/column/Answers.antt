@@ -1,18 +1,13 @@
-use Rattle.std.proofs.Common.{ap, ◌∙◌, sym, List, flat_map, take, drop}
-use Rattle.std.proofs.lemmas.Grind.{flat_map-append}
-use Rattle.day_rows.specs.Joined.{atoms_in, joined}
-use Rattle.day_rows.specs.declared.entry.Entry.{Entry}
-use Rattle.day_rows.proofs.Lists.{part_more}
+use Rattle.std.proofs.Common.{ap, ◌∙◌, take, drop}
+use Rattle.day_rows.specs.Blocks.{Kept, updates_in}
+use Rattle.day_rows.specs.Joined.{joined}
+use Rattle.day_rows.proofs.StoreLemmas.{part-shown}
 use Rattle.day_rows.proofs.updates.Updates.column.Goals as goal
 
 pub returns : goal.returns
 returns c =
-    let blocks = c.args.self.now.blocks.items in
-    let loose = c.args.self.now.loose.items in
-    let J = joined c.args.table c.args.column (flat_map (λ (b : List Entry). b) blocks) in
-    let A = joined c.args.table c.args.column loose in
-    let first = rw c.deref.ensures.value at c.in_ok-found.ensures.found in
-    let skipped = rw c.deref.ensures.value at c.in_ok-found.ensures.skip in
-    let later = rw c.deref-2.ensures.value at c.in_ok-part.ensures in
-    part_more c.args.kind c.args.n c.args.from c.in_ok-found.skip J A c.in_ok-found.found c.in_ok-part.part first skipped later
-    ∙ ap (λ l. record { kind = c.args.kind; atoms = take c.args.n (drop c.args.from l) }) (sym (flat_map-append (atoms_in c.args.table c.args.column) (flat_map (λ (b : List Entry). b) blocks) loose))
+    let whole = updates_in c.self.inside.store.blocks.items c.self.inside.store.last in
+    let within = rw (← c.self.view_is) at c.requires in
+    c.in_ok-found.ensures
+    ∙ ap (λ a. record { kind = c.args.kind; atoms = a }) (part-shown c.args.table c.args.column c.args.n c.args.from c.self.inside.shown whole within)
+    ∙ ap (λ (k : Kept). record { kind = c.args.kind; atoms = take c.args.n (drop c.args.from (joined c.args.table c.args.column k.updates)) }) c.self.view_is

@@ -1,7 +1,0 @@
-use Rattle.std.proofs.Common.{◌≡◌, take}
-use Rattle.day_rows.specs.Blocks.{columns_with}
-use Rattle.day_rows.specs.Joined.{joined}
-use Rattle.day_rows.proofs.block.join_columns.Given as goal
-
-abbrev pub invariant-loop-i : goal.invariant-loop-i
-invariant-loop-i l = l.columns ≡ columns_with 0 (take l.i l.kinds) (λ column. joined l.table column l.entries)

@@ -1,0 +1,46 @@
+use Rattle.std.proofs.Common.{arith, refl, ap, ◌≡◌, ◌∙◌, ◌+◌, ◌-◌, ◌<◌, length, take}
+use Rattle.std.proofs.lemmas.List.{length-set}
+use Rattle.day_rows.specs.Blocks.{Kept, updates_in, mark_of}
+use Rattle.day_rows.specs.Day.{total_rows}
+use Rattle.day_rows.proofs.BlockLemmas.{take_more_got}
+use Rattle.day_rows.proofs.StoreLemmas.{some-room, next-got, counts-fit, kept-pushed, room-left}
+use Rattle.day_rows.proofs.updates.Updates.push.Goals as goal
+
+pub place_after-sealed-requires-clause-counted : goal.place_after-sealed-requires-clause-counted
+place_after-sealed-requires-clause-counted c =
+    let whole = updates_in c.self.inside.store.blocks.items c.self.inside.store.last in
+    let next = rw (← c.self.view_is) at c.requires.next in
+    omega (arith, some-room whole c.self.inside.shown c.self.inside.room c.args.entry.now next, c.self.invariant.all_within)
+
+pub add_rows-requires-clause-fits : goal.add_rows-requires-clause-fits
+add_rows-requires-clause-fits c =
+    let whole = updates_in c.self.inside.store.blocks.items c.self.inside.store.last in
+    let table = ap (λ (k : Kept). k.tables) c.self.view_is in
+    let rows = ap (λ (k : Kept). total_rows k.updates) c.self.view_is in
+    let t_in : (mark_of c.args.entry.now).table < length c.self.inside.counts.items = omega (arith, table, c.requires.table) in
+    omega (arith, counts-fit (take c.self.inside.shown whole) c.args.entry.now c.self.inside.counts.items c.self.inside.rows c.self.invariant.counted t_in, rows, c.requires.bounded)
+
+pub count_one-shown-requires : goal.count_one-shown-requires
+count_one-shown-requires c =
+    let whole = updates_in c.self.inside.store.blocks.items c.self.inside.store.last in
+    let next = rw (← c.self.view_is) at c.requires.next in
+    omega (arith, some-room whole c.self.inside.shown c.self.inside.room c.args.entry.now next, c.self.invariant.all_within)
+
+pub invariant_of-self : goal.invariant_of-self
+invariant_of-self c =
+    let whole = updates_in c.self.inside.store.blocks.items c.self.inside.store.last in
+    let next = rw (← c.self.view_is) at c.requires.next in
+    let table = ap (λ (k : Kept). k.tables) c.self.view_is in
+    let t_in : (mark_of c.args.entry.now).table < length c.self.inside.counts.items = omega (arith, table, c.requires.table) in
+    let left : (c.self.inside.room - 1) + 1 ≡ c.self.inside.room = omega (arith, some-room whole c.self.inside.shown c.self.inside.room c.args.entry.now next) in
+    rw (c.add_rows.ensures, c.rows_of_entry-rows.ensures, c.count_one-shown.ensures) (kept-pushed _ _ _ _ _ _ _ _ _ c.args.entry.now _ _ _ c.self.invariant next c.place_after-sealed.ensures t_in left)
+
+pub returns : goal.returns
+returns c =
+    let whole = updates_in c.self.inside.store.blocks.items c.self.inside.store.last in
+    let next = rw (← c.self.view_is) at c.requires.next in
+    let left : (c.self.inside.room - 1) + 1 ≡ c.self.inside.room = omega (arith, some-room whole c.self.inside.shown c.self.inside.room c.args.entry.now next) in
+    let size = ap length c.add_rows.ensures ∙ length-set c.self.inside.counts.items _ _ in
+    let grown = take_more_got whole c.self.inside.shown c.args.entry.now (next-got whole c.self.inside.shown c.self.inside.room c.args.entry.now next) in
+    let less = room-left whole c.self.inside.shown c.self.inside.room (c.self.inside.room - 1) left in
+    rw (← c.self.view_is, size, c.count_one-shown.ensures, grown, less) refl

@@ -1,0 +1,201 @@
+//! The updates that a date has and is to have, in blocks.
+ghost use Rattle.std.specs.Prelude.{◌≡◌, ◌<◌, ◌≤◌, ◌+◌, ◌^◌, ◌++◌, [], ◌∷◌, length, take, drop, get_or, IfOk, OnOk, OnErr};
+ghost use Rattle.std.specs.List.{AllByRecursion, flat_map};
+ghost use Rattle.day_rows.specs.Blocks.{updates_in, Grew, IsStore};
+ghost use Rattle.day_rows.specs.Day.{IsUpdate, total_rows};
+ghost use Rattle.day_rows.specs.Joined.{joined};
+
+use crate::block::{Block, SharedBlock};
+use crate::copies::{append_block, join_blocks};
+use crate::entry::Entry;
+use crate::schema::Kinds;
+use q_values::{Kind, NoMemory, Vector};
+use std::alloc::Global;
+use std::mem;
+
+/// Updates in order: full blocks, which days share, and then those of a block that grows.
+#[derive(Drop)]
+pub struct Store {
+    /// The blocks that are full, in order.
+    pub blocks: Vec<SharedBlock>,
+    /// The block of the updates after them.
+    pub last: Block,
+    /// The number of all updates.
+    pub held: usize,
+}
+
+// The same blocks, which are shared and not copied.
+fn share_blocks(alloc: Global, blocks: &[SharedBlock]) -> Result<Vec<SharedBlock>, NoMemory>
+    ensures { IfOk result (λ shared. shared.items ≡ blocks.now) }
+{
+    let mut shared = Vec::with_capacity(alloc, blocks.len())?;
+    for block in blocks {
+        shared.push(block.share()?)?;
+    }
+    Ok(shared)
+}
+
+// Copies of the updates of the blocks, in order. `kinds` are those of each table's columns.
+fn split_blocks(
+    alloc: Global,
+    blocks: &[SharedBlock],
+    kinds: &[Kinds],
+) -> Result<Vec<Entry>, NoMemory>
+    requires updates { AllByRecursion (IsUpdate kinds.now) (flat_map (λ block. block) blocks.now) }
+    requires bounded { total_rows (flat_map (λ block. block) blocks.now) ≤ 4294967295 }
+    ensures { IfOk result (λ entries. entries.items ≡ flat_map (λ block. block) blocks.now) }
+{
+    let mut entries = Vec::new(alloc);
+    for block in blocks {
+        entries = block.block().split(alloc, kinds, entries)?;
+    }
+    Ok(entries)
+}
+
+impl Store {
+    /// No updates. It takes no memory.
+    pub fn new(alloc: Global) -> Store
+        ensures blocks { result.blocks.items ≡ [] }
+        ensures last { result.last ≡ [] }
+        ensures held { result.held ≡ 0 }
+    {
+        Store {
+            blocks: Vec::new(alloc),
+            last: Block::new(alloc),
+            held: 0,
+        }
+    }
+
+    // Moves the block that grows to the full ones. An error changes nothing.
+    fn seal(&mut self, alloc: Global) -> Result<(), NoMemory>
+        ensures held { self.new.held ≡ self.old.held }
+        ensures ok { OnOk result (self.new.blocks.items ≡ self.old.blocks.items ++ self.old.last ∷ []) }
+        ensures fresh { OnOk result (self.new.last ≡ []) }
+        ensures blocks { OnErr result (self.new.blocks.items ≡ self.old.blocks.items) }
+        ensures last { OnErr result (self.new.last ≡ self.old.last) }
+    {
+        self.blocks.reserve(1)?;
+        let full = mem::replace(&mut self.last, Block::new(alloc));
+        match SharedBlock::new(alloc, full) {
+            Ok(block) => {
+                self.blocks.push_reserved(block);
+                Ok(())
+            }
+            Err(full) => {
+                self.last = full;
+                Err(NoMemory)
+            }
+        }
+    }
+
+    /// Appends these updates, whose columns are copied. After an error some of them may have been appended.
+    pub fn extend(&mut self, alloc: Global, entries: &[Entry]) -> Result<(), NoMemory>
+        requires store { IsStore self.old.blocks.items self.old.last self.old.held }
+        requires bounded { total_rows entries.now ≤ 4294967295 }
+        ensures store { IsStore self.new.blocks.items self.new.last self.new.held }
+        ensures grew { Grew self.old.blocks.items self.old.last self.new.blocks.items self.new.last }
+        ensures ok { OnOk result (updates_in self.new.blocks.items self.new.last ≡ updates_in self.old.blocks.items self.old.last ++ entries.now) }
+    {
+        if entries.len() > usize::MAX - self.held {
+            return Err(NoMemory);
+        }
+        for entry in entries {
+            self.last.append(alloc, entry)?;
+            self.held += 1;
+            if self.last.is_full() {
+                self.seal(alloc)?;
+            }
+        }
+        Ok(())
+    }
+
+    /// The first updates: those of the first `sealed` blocks, which are shared and have `before` updates, and `n` more,
+    /// whose columns are copied. `kinds` are those of each table's columns.
+    pub fn first(
+        &self,
+        alloc: Global,
+        kinds: &[Kinds],
+        sealed: usize,
+        before: usize,
+        n: usize,
+    ) -> Result<Store, NoMemory>
+        requires few { length kinds.now ≤ 64 }
+        requires held { before + n < 2 ^ 64 }
+        requires sealed { sealed ≤ length self.now.blocks.items }
+        requires within { n ≤ length (get_or self.now.blocks.items sealed self.now.last) }
+        requires updates { AllByRecursion (IsUpdate kinds.now) (take n (get_or self.now.blocks.items sealed self.now.last)) }
+        requires bounded { total_rows (take n (get_or self.now.blocks.items sealed self.now.last)) ≤ 4294967295 }
+        ensures blocks { IfOk result (λ store. store.blocks.items ≡ take sealed self.now.blocks.items) }
+        ensures last { IfOk result (λ store. store.last ≡ take n (get_or self.now.blocks.items sealed self.now.last)) }
+        ensures held { IfOk result (λ store. store.held ≡ before + n) }
+    {
+        let last = self.next(sealed).first(alloc, kinds, n)?;
+        let blocks = share_blocks(alloc, &self.blocks[..sealed])?;
+        Ok(Store {
+            blocks,
+            last,
+            held: before + n,
+        })
+    }
+
+    /// Becomes this one.
+    pub fn replace(&mut self, fresh: Store)
+        ensures blocks { self.new.blocks.items ≡ fresh.blocks.items }
+        ensures last { self.new.last ≡ fresh.last }
+        ensures held { self.new.held ≡ fresh.held }
+    {
+        *self = fresh;
+    }
+
+    /// The full block with this index; the one that grows after them.
+    pub fn next(&self, index: usize) -> &Block
+        ensures { result.now ≡ get_or self.now.blocks.items index self.now.last }
+    {
+        if index < self.blocks.len() {
+            return self.blocks[index].block();
+        }
+        &self.last
+    }
+
+    /// The `n` atoms from the row `from` on of a table's column, in the order of arrival; fewer where it ends before.
+    pub fn column(
+        &self,
+        alloc: Global,
+        table: u32,
+        column: usize,
+        kind: Kind,
+        from: usize,
+        n: usize,
+    ) -> Result<Vector, NoMemory>
+        ensures { IfOk result (λ found. found ≡ record {
+          kind = kind;
+          atoms = take n (drop from (joined table column (updates_in self.now.blocks.items self.now.last)));
+        }) }
+    {
+        let (mut found, skip) = join_blocks(alloc, &self.blocks, table, column, kind, from, n)?;
+        append_block(&mut found, &self.last, table, column, skip, n)?;
+        Ok(found)
+    }
+
+    /// Copies of the first updates: those of the first `sealed` blocks, and `n` more. `kinds` are those of each table's
+    /// columns.
+    pub fn entries(
+        &self,
+        alloc: Global,
+        kinds: &[Kinds],
+        sealed: usize,
+        n: usize,
+    ) -> Result<Vec<Entry>, NoMemory>
+        requires few { length kinds.now ≤ 64 }
+        requires sealed { sealed ≤ length self.now.blocks.items }
+        requires within { n ≤ length (get_or self.now.blocks.items sealed self.now.last) }
+        requires updates { AllByRecursion (IsUpdate kinds.now) (flat_map (λ block. block) (take sealed self.now.blocks.items) ++ take n (get_or self.now.blocks.items sealed self.now.last)) }
+        requires bounded { total_rows (flat_map (λ block. block) (take sealed self.now.blocks.items) ++ take n (get_or self.now.blocks.items sealed self.now.last)) ≤ 4294967295 }
+        ensures { IfOk result (λ entries. entries.items
+            ≡ flat_map (λ block. block) (take sealed self.now.blocks.items) ++ take n (get_or self.now.blocks.items sealed self.now.last)) }
+    {
+        let last = self.next(sealed).first(alloc, kinds, n)?;
+        let entries = split_blocks(alloc, &self.blocks[..sealed], kinds)?;
+        last.split(alloc, kinds, entries)
+    }
+}
