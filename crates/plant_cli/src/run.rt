@@ -11,7 +11,7 @@ use outside_api::{Clock, Gate, Link, Outside, Recorder};
 use plant_core::{Plant, Solo};
 use plant_edge::{SteadyClock, clock_of};
 use q_values::{Limits, NANOSECONDS_PER_DAY, NoMemory};
-use schema_text::{BUILT_IN, read_schema};
+use schema_text::built_in_schema;
 use session::{Bad, End, serve_session};
 use std::alloc::Global;
 use std::sync::Wait;
@@ -98,10 +98,8 @@ fn new_plant(alloc: Global, date: i32, limits: &Limits) -> Result<Plant, NoMemor
     requires last { date ≤ℤ pos 106751 }
     ensures { IfOk result (λ plant. IsNewPlant limits.now date plant) }
 {
-    match read_schema(alloc, BUILT_IN) {
-        Ok(schema) => Plant::begin(alloc, schema, date, limits),
-        Err(_) => Err(NoMemory),
-    }
+    let schema = built_in_schema(alloc)?;
+    Plant::begin(alloc, schema, date, limits)
 }
 
 /// The date of a moment, in days since 2000.01.01.

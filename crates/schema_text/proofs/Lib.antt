@@ -1,4 +1,10 @@
+pub mod BuiltIn
+pub mod Decides
+pub mod Gaps
 pub mod KindNames
+pub mod Productions
 pub mod Recursion
 pub mod Shapes
+pub mod Texts
+pub mod WordParts
 pub mod Words

@@ -17,7 +17,7 @@ use Rattle.day_rows.proofs.DayLemmas.{all-append}
 use Rattle.day_rows.proofs.Sorting.{all_weaker, all-inserted, rises-inserted, IsPermutation-inserted}
 use Rattle.schema_text.specs.Growing.{IsGrowing}
 use Rattle.schema_text.specs.Positions.{below_count}
-use Rattle.schema_text.specs.Reading.{is_first_names, is_first_kinds}
+use Rattle.schema_text.specs.Kinds.{is_first_names, is_first_kinds}
 use Rattle.schema_text.proofs.Words.{apart-from_list_any, list_any-mapped}
 
 distinct-push : (xs : List (List ℕ)) (new : List ℕ) → AreDistinct xs → AllByRecursion (λ x. bytes_eq new x ≡ false) xs → AreDistinct (xs ++ new ∷ [])
@@ -78,7 +78,7 @@ inserted-at new (table ∷ tables) =
 by_name_total : IsTotalOrder by_name
 by_name_total = on_total (λ (shape : Shape). shape.table) nat_list_cmp_total
 
-length-inserted : (new : Shape) (tables : List Shape) → length (inserted by_name new tables) ≡ suc (length tables)
+pub length-inserted : (new : Shape) (tables : List Shape) → length (inserted by_name new tables) ≡ suc (length tables)
 length-inserted new tables = sym (length_permutation (inserted by_name new tables) (new ∷ tables) (IsPermutation-inserted by_name by_name_total new tables))
 
 -- one table more

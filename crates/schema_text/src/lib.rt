@@ -22,10 +22,12 @@
 #![tactic(auto)]
 
 mod columns;
+mod laws;
 mod names;
 mod reading;
 mod refusal;
 mod tokens;
 
-pub use reading::{BUILT_IN, read_schema};
+pub use laws::{built_in_text_is_read, texts_have_one_reading};
+pub use reading::{BUILT_IN, built_in_schema, read_schema};
 pub use refusal::SchemaRefusal;
