@@ -9,6 +9,7 @@ use Rattle.plant_edge.specs.Arguments.{asked}
 use Rattle.q_values.specs.Limits.{standard_limits}
 use Rattle.q_values.specs.declared.limits.Limits.{Limits}
 use Rattle.q_values.specs.declared.turn.Turn.{Turn}
+use Rattle.plant_cli.specs.Usage.{usage_fault, usage_told}
 use Rattle.plant_core.specs.Access.{AccessView}
 use Rattle.plant_core.specs.Chronicle.{moment_date, top_by}
 use Rattle.plant_core.specs.Plant.{PlantView}
@@ -112,10 +113,10 @@ abbrev pub RunsOnce : Limits → ℤ → OutsideView → OutsideView → ℕ →
 RunsOnce limits moment old new status = CannotStart old new status ⊎ Serves limits moment old new status
 
 -- what the program does where its arguments ask for a session with a clock at this moment, and where they don't
-abbrev pub RunsFor : Option ℤ → OutsideView → OutsideView → ℕ → Type 0
-RunsFor None old new status = (status ≡ 1) × (new ≡ warned_of old (codes "plant: usage"))
-RunsFor (Some moment) old new status = RunsOnce standard_limits moment old new status
+abbrev pub RunsFor : Option ℤ → List (List ℕ) → OutsideView → OutsideView → ℕ → Type 0
+RunsFor None arguments old new status = (status ≡ 1) × (new ≡ usage_told old (usage_fault arguments))
+RunsFor (Some moment) arguments old new status = RunsOnce standard_limits moment old new status
 
 -- what the program does with these arguments
 abbrev pub Runs : List (List ℕ) → OutsideView → OutsideView → ℕ → Type 0
-Runs arguments old new status = RunsFor (asked arguments) old new status
+Runs arguments old new status = RunsFor (asked arguments) arguments old new status
