@@ -36,6 +36,7 @@ then-decides {A} {B} {P} {Q} {f} {g} d e = record { reads = λ text at. go text 
     go : (text : List ℕ) (at : ℕ) (found : Result (A × ℕ) SchemaRefusal) → P text at found → Then P Q text at (found >>= (λ x. g x.0 text x.1))
     go text at (Ok x) p = both p ((e x.0).reads text x.1)
     go text at (Err why) p = first_fails p
+
     only : (text : List ℕ) (at : ℕ) (outcome : Result (B × ℕ) SchemaRefusal) → Then P Q text at outcome → outcome ≡ (f text at >>= (λ x. g x.0 text x.1))
     only text at outcome (first_fails {why = why} p) = subst (λ found. Err why ≡ (found >>= (λ x. g x.0 text x.1))) (d.only text at (Err why) p) refl
     only text at outcome (both {x = x} {end = end} p q) =
@@ -48,6 +49,7 @@ sign-decides {B} {Q} {g} sign e = record { reads = λ text at. go text at (is_si
         → Sign sign Q text at (cond t (Ok (part text at + 1)) (Err (r.Parse (part text at))) >>= (λ end. g text end))
     go text at true h = signed (next-reads text at) h (e.reads text (part text at + 1))
     go text at false h = unsigned (next-reads text at) h
+
     only : (text : List ℕ) (at : ℕ) (outcome : Result (B × ℕ) SchemaRefusal) → Sign sign Q text at outcome → outcome ≡ (sign_at sign text at >>= (λ end. g text end))
     only text at outcome (unsigned {next = next} n h) =
         let here : is_sign sign (slice_get text (part text at)) ≡ false = subst (λ m. is_sign sign (slice_get text m) ≡ false) (next-only n) h in
@@ -66,6 +68,7 @@ optionally-decides {B} {Q} {g} bytes e = record { reads = λ text at. go text at
     go : (text : List ℕ) (at : ℕ) (t : Bool) → stand_at bytes text (part text at) ≡ t → Optionally bytes Q text at (g text (cond t (part text at + length bytes) at))
     go text at true h = present (next-reads text at) h (e.reads text (part text at + length bytes))
     go text at false h = left_out (next-reads text at) h (e.reads text at)
+
     only : (text : List ℕ) (at : ℕ) (outcome : Result (B × ℕ) SchemaRefusal) → Optionally bytes Q text at outcome → outcome ≡ g text (past bytes text at)
     only text at outcome (left_out {next = next} n h q) =
         let here : stand_at bytes text (part text at) ≡ false = subst (λ m. stand_at bytes text m ≡ false) (next-only n) h in

@@ -1,5 +1,5 @@
 -- Gaps are what the reader passes.
-use Rattle.std.specs.Prelude.{◌==◌, ◌||◌, ◌&&◌, Option, Some, None}
+use Rattle.std.specs.Prelude.{◌==◌, ◌||◌, ◌&&◌, Some, None}
 use Rattle.std.proofs.Common.{◌≡◌, ℕ, suc, ◌+◌, Bool, true, false, cond, List, [], ◌∷◌, ◌++◌, length, drop, refl, sym, ap, subst, ◌∙◌, arith}
 use Rattle.std.specs.List.{AllByRecursion}
 use Rattle.std.proofs.lemmas.Bool.{eqb-true}
@@ -74,9 +74,11 @@ gap-here start b bs more line = go (is_blank b) refl
     in_remark : (first : Bool) → (first && (b == 47)) ≡ true → IsGap first (b ∷ bs) (passed (mode_of first) (b ∷ bs))
     in_remark false e = cc
     in_remark true e = subst (λ c. IsGap true (c ∷ bs) (passed LineStart (c ∷ bs))) (sym (eqb-true b 47 e)) (from-remark bs line)
+
     other : (t : Bool) → (start && (b == 47)) ≡ t → is_blank b ≡ false → IsGap start (b ∷ bs) (passed (mode_of start) (b ∷ bs))
     other false slash h = rw (stays start b h slash) (at_token h slash)
     other true slash h = in_remark start slash
+
     go : (t : Bool) → is_blank b ≡ t → IsGap start (b ∷ bs) (passed (mode_of start) (b ∷ bs))
     go true h = rw (passes start b h) (blank h (more (b == 10)))
     go false h = other (start && (b == 47)) refl h

@@ -8,3 +8,6 @@ pub mod Shapes
 pub mod Texts
 pub mod WordParts
 pub mod Words
+pub mod WrittenColumns
+pub mod WrittenParts
+pub mod WrittenTables

@@ -1,20 +1,19 @@
 -- The productions of the grammar, each with the function that reads it.
 use Rattle.std.specs.Prelude.{◌||◌, ◌&&◌, nat_le, nat_lt, Result, Ok, Err, slice_get, codes}
-use Rattle.std.proofs.Common.{◌≡◌, ℕ, zero, suc, ◌+◌, ◌<◌, Bool, true, false, cond, List, [], ◌∷◌, ◌++◌, length, map, refl, sym, ap, subst, ◌∙◌, arith}
+use Rattle.std.proofs.Common.{◌≡◌, ℕ, zero, suc, ◌+◌, ◌<◌, Bool, true, false, cond, List, [], ◌∷◌, length, refl, ap, subst, ◌∙◌, arith}
 use Rattle.std.proofs.lemmas.Bool.{leb-false}
 use Rattle.std.proofs.lemmas.List.{length-append}
 use Rattle.q_values.specs.declared.kind.Kind.{Kind}
 use Rattle.day_rows.specs.declared.schema.Shape.{Shape}
-use Rattle.schema_text.specs.Grammar.{Then, both, signed, left_out, present, means, IsNewName, new_name, IsKind, IsList, IsColumn, with_column, IsColumns, no_column, last_column, more_columns}
-use Rattle.schema_text.specs.Grammar.{Signs, Means, IsEnd, no_time_sym, time_sym, Optionally, names_of, IsHead, IsTable, IsTables, no_tables, no_more, no_table, one_more, IsText}
+use Rattle.schema_text.specs.Grammar.{both, signed, left_out, present, means, IsNewName, new_name, IsList, IsColumn, with_column, IsColumns, no_column, last_column, more_columns}
+use Rattle.schema_text.specs.Grammar.{Signs, Means, IsEnd, no_time_sym, time_sym, Optionally, names_of, IsHead, IsTable}
 use Rattle.schema_text.specs.Kinds.{is_first_names, is_first_kinds}
-use Rattle.schema_text.specs.Reading.{◌>>=◌, typed_at, past_attribute, column_at, columns_at, closed_at, past_semicolon, head_at, table_at, some_tables, tables_at, schema_of}
-use Rattle.schema_text.specs.Tokens.{part, first_part, is_sign, is_end}
+use Rattle.schema_text.specs.Reading.{◌>>=◌, typed_at, past_attribute, column_at, columns_at, closed_at, past_semicolon, head_at, table_at}
+use Rattle.schema_text.specs.Tokens.{part, is_sign}
 use Rattle.schema_text.specs.declared.refusal.SchemaRefusal.{SchemaRefusal}
 use Rattle.schema_text.specs.declared.refusal.SchemaRefusal.TheVariants as r
 use Rattle.schema_text.proofs.Decides.{Decides, Reader, decides-as, means-decides, then-decides, sign-decides, optionally-decides, past}
-use Rattle.schema_text.proofs.Gaps.{gap-reads, gap-only, next-reads, next-only}
-use Rattle.schema_text.proofs.Shapes.{length-inserted}
+use Rattle.schema_text.proofs.Gaps.{next-reads, next-only}
 use Rattle.schema_text.proofs.WordParts.{name-decides, kind-decides}
 
 list-decides : Decides IsList typed_at
@@ -71,9 +70,11 @@ columns-step left shape more = record { reads = λ text at. go text at (column_a
     after text at end grown true p h =
         let known = grows shape p in more_columns p (next-reads text end) h ((more grown known.0 known.1).reads text (part text end + 1))
     after text at end grown false p h = last_column p (next-reads text end) h ((closed-decides grown).reads text end)
+
     go : (text : List ℕ) (at : ℕ) (found : Result (Shape × ℕ) SchemaRefusal) → IsColumn shape text at found → IsColumns shape text at (found >>= after-column left text)
     go text at (Ok column) p = after text at column.1 column.0 (is_sign 59 (slice_get text (part text column.1))) p refl
     go text at (Err why) p = no_column p
+
     only : (text : List ℕ) (at : ℕ) (outcome : Result (Shape × ℕ) SchemaRefusal) → IsColumns shape text at outcome → outcome ≡ (column_at shape text at >>= after-column left text)
     only text at outcome (no_column {why = why} p) = subst (λ found. Err why ≡ (found >>= after-column left text)) ((column-decides shape).only text at (Err why) p) refl
     only text at outcome (last_column {grown = grown} {end = end} p n h q) =
@@ -108,9 +109,11 @@ end-decides shape = record { reads = λ text at. go text at (is_first_names shap
   where
     closing : Decides (Optionally (codes ";") (Means shape)) (λ text at. Ok (shape, past_semicolon text at))
     closing = decides-as (λ text at. ap (λ n. Ok (shape, n)) (semicolon-past text at)) (optionally-decides (codes ";") (means-decides shape))
+
     go : (text : List ℕ) (at : ℕ) (t : Bool) → (is_first_names shape.names && is_first_kinds shape.kinds) ≡ t → IsEnd shape text at (cond t (Ok (shape, past_semicolon text at)) (Err (r.TimeSym shape.table)))
     go text at true h = time_sym h (closing.reads text at)
     go text at false h = no_time_sym h
+
     only : (text : List ℕ) (at : ℕ) (outcome : Result (Shape × ℕ) SchemaRefusal) → IsEnd shape text at outcome → outcome ≡ ended shape text at
     only text at outcome (time_sym h q) = rw h (closing.only text at outcome q)
     only text at outcome (no_time_sym h) = rw h refl

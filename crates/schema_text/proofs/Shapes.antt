@@ -75,7 +75,7 @@ inserted-at new (table ∷ tables) =
     elim (is_gt (by_name new table)) as (λ b. cond b (table ∷ inserted by_name new tables) (new ∷ table ∷ tables) ≡ insert (table ∷ tables) (cond b (suc (below_count new.table tables)) 0) new)
     [ true ↦ ap (λ l. table ∷ l) (inserted-at new tables) | false ↦ refl ]
 
-by_name_total : IsTotalOrder by_name
+pub by_name_total : IsTotalOrder by_name
 by_name_total = on_total (λ (shape : Shape). shape.table) nat_list_cmp_total
 
 pub length-inserted : (new : Shape) (tables : List Shape) → length (inserted by_name new tables) ≡ suc (length tables)

@@ -1,6 +1,6 @@
 -- Whole texts, with the function that reads them.
 use Rattle.std.specs.Prelude.{Result, Ok, Err, IfOk, IfErr, slice_get}
-use Rattle.std.proofs.Common.{◌≡◌, ℕ, zero, suc, ◌+◌, ◌<◌, Bool, true, false, cond, List, [], ◌∷◌, length, refl, sym, ap, subst, ◌∙◌, inl, inr, arith}
+use Rattle.std.proofs.Common.{◌≡◌, ℕ, zero, suc, ◌+◌, ◌<◌, Bool, true, false, cond, List, [], ◌∷◌, length, refl, sym, subst, ◌∙◌, inl, inr, arith}
 use Rattle.day_rows.specs.Schema.{by_name}
 use Rattle.day_rows.specs.Sorted.{inserted}
 use Rattle.day_rows.specs.declared.schema.Shape.{Shape}
@@ -56,6 +56,7 @@ tables-step left tables more = record { reads = λ text at. go text at (is_end (
         → IsTables tables text at (found >>= after-table left tables text)
     after text at (Ok table) h p = one_more (next-reads text at) h p ((more table.0 (few_tables tables p)).reads text table.1)
     after text at (Err why) h p = no_table (next-reads text at) h p
+
     go : (text : List ℕ) (at : ℕ) (t : Bool) → is_end (slice_get text (part text at)) ≡ t
         → IsTables tables text at (cond t (some_tables tables text) (table_at tables text at >>= after-table left tables text))
     go text at true h = some-reads tables text at h

@@ -1,6 +1,6 @@
 -- Names and kinds, each with the function that reads it.
 use Rattle.std.specs.Prelude.{◌||◌, nat_le, nat_lt, Option, Some, None, Result, Ok, Err, slice_get}
-use Rattle.std.proofs.Common.{◌≡◌, ℕ, suc, ◌+◌, Bool, true, false, cond, List, [], ◌∷◌, ◌++◌, length, take, drop, refl, sym, ap, subst, ◌∙◌, arith}
+use Rattle.std.proofs.Common.{◌≡◌, ℕ, suc, ◌+◌, Bool, true, false, cond, List, [], ◌∷◌, ◌++◌, length, take, drop, refl, sym, ap, subst}
 use Rattle.std.specs.List.{AllByRecursion, list_any}
 use Rattle.std.specs.Str.{bytes_eq}
 use Rattle.std.proofs.Math.Seq.{take-append_seam}
@@ -102,6 +102,7 @@ name-decides earlier most = record { reads = λ text at. go text at (begins_word
         → IsNewName earlier most text at (word-if text at t >>= (λ word. judged earlier most word.0 >>= (λ name. Ok (name, word.2))))
     go text at true h = judged-reads earlier most text _ at _ _ (word-reads text at h)
     go text at false h = no_name (record { next = next-reads text at; none = h })
+
     only : (text : List ℕ) (at : ℕ) (outcome : Result (List ℕ × ℕ) SchemaRefusal) → IsNewName earlier most text at outcome
         → outcome ≡ (word_at text at >>= (λ word. judged earlier most word.0 >>= (λ name. Ok (name, word.2))))
     only text at outcome (no_name w) = rw (no_word-only w) refl
@@ -125,6 +126,7 @@ kind-decides = record { reads = λ text at. go text at (begins_word (slice_get t
         → IsKind text at (word-if text at t >>= (λ word. kind_or (kind_named word.0) word.1 word.2))
     go text at true h = kind-reads text _ at _ _ (word-reads text at h)
     go text at false h = no_kind (record { next = next-reads text at; none = h })
+
     only : (text : List ℕ) (at : ℕ) (outcome : Result (Kind × ℕ) SchemaRefusal) → IsKind text at outcome → outcome ≡ (word_at text at >>= (λ word. kind_or (kind_named word.0) word.1 word.2))
     only text at outcome (no_kind w) = rw (no_word-only w) refl
     only text at outcome (bad_kind w h) = rw (word-only w, h) refl

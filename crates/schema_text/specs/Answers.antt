@@ -1,7 +1,7 @@
 -- What the reader answers.
-use Rattle.std.specs.Prelude.{◌≡◌, ◌⊎◌, ℕ, List, Result, Ok, Err}
+use Rattle.std.specs.Prelude.{◌≡◌, ◌⊎◌, ℕ, List, Result, Err}
 use Rattle.day_rows.specs.declared.schema.Shape.{Shape}
-use Rattle.schema_text.specs.Grammar.{IsText, Spells, HasFault}
+use Rattle.schema_text.specs.Grammar.{IsText, HasFault}
 use Rattle.schema_text.specs.declared.refusal.SchemaRefusal.{SchemaRefusal}
 use Rattle.schema_text.specs.declared.refusal.SchemaRefusal.TheVariants as r
 

@@ -7,3 +7,4 @@ pub mod Laws
 pub mod Positions
 pub mod Reading
 pub mod Tokens
+pub mod Written

@@ -1,11 +1,10 @@
 -- The steps of the reader, one definition for each of its functions; each gives what was read and the offset after it. What a
 -- text means is said by Grammar.antt alone.
-use Rattle.std.specs.Prelude.{◌≡◌, ℕ, zero, suc, ◌+◌, ◌||◌, ◌&&◌, Bool, true, false, nat_le, nat_lt, if◌then◌else◌, List, [], ◌∷◌, ◌++◌, length, map}
-use Rattle.std.specs.Prelude.{Option, Some, None, Result, Ok, Err, slice_get, codes}
+use Rattle.std.specs.Prelude.{◌≡◌, ℕ, zero, suc, ◌+◌, ◌||◌, ◌&&◌, Bool, nat_le, nat_lt, if◌then◌else◌, List, [], ◌∷◌, ◌++◌, length, map}
+use Rattle.std.specs.Prelude.{Option, Some, None, Result, Ok, Err, slice_get}
 use Rattle.std.specs.List.{list_any}
 use Rattle.std.specs.Str.{bytes_eq}
 use Rattle.q_values.specs.declared.kind.Kind.{Kind}
-use Rattle.q_values.specs.declared.kind.Kind.TheVariants as k
 use Rattle.q_words.specs.Words.{is_reserved}
 use Rattle.day_rows.specs.Schema.{by_name}
 use Rattle.day_rows.specs.Sorted.{inserted}

@@ -28,6 +28,6 @@ mod reading;
 mod refusal;
 mod tokens;
 
-pub use laws::{built_in_text_is_read, texts_have_one_reading};
+pub use laws::{built_in_text_is_read, texts_have_one_reading, written_schema_is_read};
 pub use reading::{BUILT_IN, built_in_schema, read_schema};
 pub use refusal::SchemaRefusal;
