@@ -18,5 +18,5 @@ ViewIsItsDates =
 -- an update is refused with the first cause that holds, and accepted exactly where none does
 abbrev pub FirstCauseRefuses : Type 0
 FirstCauseRefuses =
-  (frame : Frame) (by : ℕ) (chronicle : List Entry) (name : List ℕ) (items : List Tree) (now : ℤ)
+    (frame : Frame) (by : ℕ) (chronicle : List Entry) (name : List ℕ) (items : List Tree) (now : ℤ)
     → refusal_of (verdict frame by chronicle name items now) ≡ first_cause (causes frame chronicle name items now)

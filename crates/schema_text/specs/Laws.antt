@@ -9,7 +9,9 @@ use Rattle.schema_text.specs.declared.refusal.SchemaRefusal.{SchemaRefusal}
 
 -- a text has one reading: it spells one schema and has no fault, or has one fault and spells no schema
 abbrev pub OneReading : Type 0
-OneReading = (text : List ℕ) → (some : Result (List Shape) SchemaRefusal) × IsText text some × ((other : Result (List Shape) SchemaRefusal) → IsText text other → other ≡ some)
+OneReading =
+  (text : List ℕ)
+    → (some : Result (List Shape) SchemaRefusal) × IsText text some × ((other : Result (List Shape) SchemaRefusal) → IsText text other → other ≡ some)
 
 -- the text that is built in is the schema that is built in
 abbrev pub BuiltInIsRead : Type 0
