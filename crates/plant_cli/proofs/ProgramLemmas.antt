@@ -3,10 +3,10 @@ use Rattle.std.proofs.Common.{rules, sym, ap, subst, ◌∙◌}
 use Rattle.std.specs.Prelude.{Result, Ok, Err, IfOk}
 use Rattle.day_rows.specs.declared.schema.Shape.{Shape}
 use Rattle.q_values.specs.declared.refusal.NoMemory.{NoMemory}
-use Rattle.schema_text.specs.Reading.{schema_of}
+use Rattle.schema_text.specs.BuiltIn.{built_in_tables}
 use Rattle.std.proofs.lemmas.List.Elements.{All-head}
 use Rattle.outside_api.specs.Link.{LinkView}
-use Rattle.plant_cli.specs.Program.{Sits, IsNewPlant, solo_of, built_in}
+use Rattle.plant_cli.specs.Program.{Sits, IsNewPlant, solo_of}
 use Rattle.plant_core.specs.Access.{AccessView}
 use Rattle.plant_core.specs.Chronicle.{moment_date}
 use Rattle.plant_core.specs.Plant.{PlantView}
@@ -34,9 +34,9 @@ sits m k limits plant l l' first all more n n' a a' end new y z session grows st
     in record { plant = plant; new = new; access = a'; readings = all; steady = steady_first m k all more (subst (λ f. all ≡ f ++ more) y grows) steady; session = s2 }
 
 -- a plant that was begun with the built-in tables
-pub new_is : (r : Result PlantView NoMemory) (schema : List Shape) (limits : Limits) (date : ℤ) → schema_of built_in ≡ Ok schema → IfOk r (λ plant. plant ≡ record { frame = record { schema = schema; first = date; limits = limits }; entries = []; room = [] }) → IfOk r (λ plant. IsNewPlant limits date plant)
+pub new_is : (r : Result PlantView NoMemory) (schema : List Shape) (limits : Limits) (date : ℤ) → schema ≡ built_in_tables → IfOk r (λ plant. plant ≡ record { frame = record { schema = schema; first = date; limits = limits }; entries = []; room = [] }) → IfOk r (λ plant. IsNewPlant limits date plant)
 new_is (Ok plant) schema limits date tables is = record {
-  tables = tables ∙ ap (λ (v : PlantView). Ok v.frame.schema) (sym is);
+  tables = ap (λ (v : PlantView). v.frame.schema) is ∙ tables;
   first = ap (λ (v : PlantView). v.frame.first) is;
   limits_are = ap (λ (v : PlantView). v.frame.limits) is;
   empty = ap (λ (v : PlantView). v.entries) is;

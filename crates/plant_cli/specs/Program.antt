@@ -9,10 +9,11 @@ use Rattle.plant_edge.specs.Arguments.{asked}
 use Rattle.q_values.specs.Limits.{standard_limits}
 use Rattle.q_values.specs.declared.limits.Limits.{Limits}
 use Rattle.q_values.specs.declared.turn.Turn.{Turn}
+use Rattle.plant_cli.specs.Usage.{usage_fault, usage_told}
 use Rattle.plant_core.specs.Access.{AccessView}
 use Rattle.plant_core.specs.Chronicle.{moment_date, top_by}
 use Rattle.plant_core.specs.Plant.{PlantView}
-use Rattle.schema_text.specs.Reading.{schema_of}
+use Rattle.schema_text.specs.BuiltIn.{built_in_tables}
 use Rattle.session.specs.Run.{world}
 use Rattle.session.specs.Session.{IsSession}
 use Rattle.ipc_frame.specs.declared.bad.Bad.{Bad}
@@ -63,19 +64,13 @@ printed seen (Some line) = warned_of seen line
 abbrev pub Concludes : End → OutsideView → OutsideView → ℕ → Type 0
 Concludes end old new status = (status ≡ status_of end) × (new ≡ printed old (line_of end))
 
--- the schema text that is built in
-abbrev pub built_in : List ℕ
-built_in =
-    codes "trade:([]time:`timespan$();sym:`g#`symbol$();price:`long$();size:`long$())\n"
-    ++ codes "quote:([]time:`timespan$();sym:`g#`symbol$();bid:`long$();ask:`long$();bsize:`long$();asize:`long$())\n"
-
 -- what a plant shows to the one session that has it, before that session made anything
 abbrev pub solo_of : PlantView → AccessView
 solo_of plant = record { by = top_by plant.entries + 1; frame = plant.frame; alone = true; seen = plant.entries; mine = []; snapshots = 0; ticks = 0 }
 
 -- a plant of the built-in tables that has logged nothing
 pub record IsNewPlant (limits : Limits) (date : ℤ) (plant : PlantView) : Type 0 where
-  pub tables : schema_of built_in ≡ Ok plant.frame.schema
+  pub tables : plant.frame.schema ≡ built_in_tables
   pub first : plant.frame.first ≡ date
   pub limits_are : plant.frame.limits ≡ limits
   pub empty : plant.entries ≡ []
@@ -118,10 +113,10 @@ abbrev pub RunsOnce : Limits → ℤ → OutsideView → OutsideView → ℕ →
 RunsOnce limits moment old new status = CannotStart old new status ⊎ Serves limits moment old new status
 
 -- what the program does where its arguments ask for a session with a clock at this moment, and where they don't
-abbrev pub RunsFor : Option ℤ → OutsideView → OutsideView → ℕ → Type 0
-RunsFor None old new status = (status ≡ 1) × (new ≡ warned_of old (codes "plant: usage"))
-RunsFor (Some moment) old new status = RunsOnce standard_limits moment old new status
+abbrev pub RunsFor : Option ℤ → List (List ℕ) → OutsideView → OutsideView → ℕ → Type 0
+RunsFor None arguments old new status = (status ≡ 1) × (new ≡ usage_told old (usage_fault arguments))
+RunsFor (Some moment) arguments old new status = RunsOnce standard_limits moment old new status
 
 -- what the program does with these arguments
 abbrev pub Runs : List (List ℕ) → OutsideView → OutsideView → ℕ → Type 0
-Runs arguments old new status = RunsFor (asked arguments) old new status
+Runs arguments old new status = RunsFor (asked arguments) arguments old new status

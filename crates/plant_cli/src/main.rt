@@ -22,12 +22,15 @@
 //! 7              was not begun: out of memory                    plant: wsfull
 //! ```
 //!
+//! With exit status 1 a second line says what is wrong with the arguments, and shows arguments that work.
+//!
 //! It keeps no journal, listens on no port and serves no second session.
 #![tactic(auto)]
 
 pub mod run;
 #[cfg(test)]
 mod tests;
+pub mod usage;
 
 use outside_api::Outside;
 use plant_edge::StandardOutside;
@@ -35,6 +38,7 @@ use run::run;
 use std::io::ErrorKind;
 use std::process::ExitCode;
 use std::{env, io};
+use usage::warn_of_usage;
 
 fn main(rt: HostRuntime) -> io::Result<ExitCode> {
     let mut outside = StandardOutside {
@@ -49,7 +53,7 @@ fn main(rt: HostRuntime) -> io::Result<ExitCode> {
         }
         // An argument that is not UTF-8 is none of the program's.
         Err(_) => {
-            outside.warn(b"plant: usage");
+            warn_of_usage(&mut outside, "an argument is not UTF-8");
             Ok(ExitCode::from(1))
         }
     }

@@ -5,13 +5,14 @@ ghost use Rattle.plant_core.specs.Chronicle.{moment_date};
 ghost use Rattle.outside_api.specs.Outside.{warned_of};
 ghost use Rattle.q_values.specs.Limits.{AreLimits};
 
+use crate::usage::{usage_fault, warn_of_usage};
 use arrayvec::ArrayString;
 use itoa::Buffer;
 use outside_api::{Clock, Gate, Link, Outside, Recorder};
 use plant_core::{Plant, Solo};
 use plant_edge::{SteadyClock, clock_of};
 use q_values::{Limits, NANOSECONDS_PER_DAY, NoMemory};
-use schema_text::{BUILT_IN, read_schema};
+use schema_text::built_in_schema;
 use session::{Bad, End, serve_session};
 use std::alloc::Global;
 use std::sync::Wait;
@@ -20,14 +21,14 @@ use std::sync::Wait;
 ///
 /// The arguments are those after the program's own name: `once --clock 2024.01.02Dhh:mm:ss.nnnnnnnnn` serves one session
 /// over standard input and output, with a plant that is open at the date of the clock. With each status but 0 a line is
-/// printed on standard error.
+/// printed on standard error, and with 1 a second one, which names what is wrong and a form that works.
 pub fn run<O: Outside, R: Wait>(rt: &R, alloc: Global, arguments: &[String], outside: &mut O) -> u8
     ensures { Runs (map string_bytes arguments.now) (O.seen outside.old) (O.seen outside.new) result }
 {
     match clock_of(arguments) {
         Some(moment) => once(rt, alloc, moment, &Limits::standard(), outside),
         None => {
-            outside.warn(b"plant: usage");
+            warn_of_usage(outside, usage_fault(arguments));
             1
         }
     }
@@ -98,10 +99,8 @@ fn new_plant(alloc: Global, date: i32, limits: &Limits) -> Result<Plant, NoMemor
     requires last { date ≤ℤ pos 106751 }
     ensures { IfOk result (λ plant. IsNewPlant limits.now date plant) }
 {
-    match read_schema(alloc, BUILT_IN) {
-        Ok(schema) => Plant::begin(alloc, schema, date, limits),
-        Err(_) => Err(NoMemory),
-    }
+    let schema = built_in_schema(alloc)?;
+    Plant::begin(alloc, schema, date, limits)
 }
 
 /// The date of a moment, in days since 2000.01.01.

@@ -172,22 +172,62 @@ fn statuses_of_faults(rt: HostRuntime) -> Result<(), Fail> {
     Ok(())
 }
 
-fn asks_for_nothing<R: Wait>(rt: &R, alloc: Global, text: &str) -> Result<bool, NoMemory> {
-    let link = after_greeting(alloc, b"")?;
-    ends(rt, alloc, text, link, 1, Some(b"plant: usage"))
+fn are_usage_lines(outside: &MemOutside, wanted: &[u8]) -> bool {
+    match outside.warned() {
+        Some([first, second]) => {
+            first.as_slice() == b"plant: usage".as_slice() && second.as_slice() == wanted
+        }
+        _ => false,
+    }
+}
+
+/// Whether the program reads nothing and prints the two lines of a faulty command line, of which this is the second.
+fn asks_for_nothing<R: Wait>(
+    rt: &R,
+    alloc: Global,
+    text: &str,
+    line: &[u8],
+) -> Result<bool, NoMemory> {
+    let arguments = arguments_of(alloc, text)?;
+    let mut outside = outside_of(alloc, after_greeting(alloc, b"")?)?;
+    let ended = run(rt, alloc, &arguments, &mut outside);
+    Ok(ended == 1 && are_usage_lines(&outside, line))
 }
 
 #[test]
 fn words_that_ask_for_nothing(rt: HostRuntime) -> Result<(), Fail> {
-    let texts = [
-        "once",
-        "once --clock",
-        "serve --clock 2024.01.02D09:30:00.000000000",
-        "once --clock 2024.01.02D24:00:00.000000000",
-        "once --clock 2024.01.03D09:30:00.000000000",
+    let rows: [(&str, &[u8]); 7] = [
+        (
+            "once",
+            b"plant: --clock is missing; try: plant once --clock 2024.01.02D09:30:00.000000000",
+        ),
+        (
+            "once --clock",
+            b"plant: the timestamp is missing; try: plant once --clock 2024.01.02D09:30:00.000000000",
+        ),
+        (
+            "serve --clock 2024.01.02D09:30:00.000000000",
+            b"plant: the command is not once; try: plant once --clock 2024.01.02D09:30:00.000000000",
+        ),
+        (
+            "once --date 2024.01.02D09:30:00.000000000",
+            b"plant: the option is not --clock; try: plant once --clock 2024.01.02D09:30:00.000000000",
+        ),
+        (
+            "once --clock 2024.01.02D24:00:00.000000000",
+            b"plant: the timestamp is not 2024.01.02Dhh:mm:ss.nnnnnnnnn; try: plant once --clock 2024.01.02D09:30:00.000000000",
+        ),
+        (
+            "once --clock 2024.01.03D09:30:00.000000000",
+            b"plant: the timestamp is not 2024.01.02Dhh:mm:ss.nnnnnnnnn; try: plant once --clock 2024.01.02D09:30:00.000000000",
+        ),
+        (
+            "once --clock 2024.01.02D09:30:00.000000000 --batch",
+            b"plant: there are too many arguments; try: plant once --clock 2024.01.02D09:30:00.000000000",
+        ),
     ];
-    for text in texts {
-        assert!(rt; asks_for_nothing(&rt, rt.alloc(), text)?);
+    for (text, line) in rows {
+        assert!(rt; asks_for_nothing(&rt, rt.alloc(), text, line)?);
     }
     Ok(())
 }

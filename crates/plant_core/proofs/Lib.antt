@@ -1,3 +1,4 @@
+pub mod CauseLemmas
 pub mod HistoryLemmas
 pub mod ItemsLemmas
 pub mod JudgeLemmas

@@ -1,4 +1,5 @@
 pub mod Access
+pub mod Causes
 pub mod Chronicle
 pub mod Frame
 pub mod History

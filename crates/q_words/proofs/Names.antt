@@ -6,19 +6,19 @@ use Rattle.std.proofs.lemmas.Cmp.{nat_list_eq_equiv}
 use Rattle.std.proofs.lemmas.List.Folds.{list_any-append}
 use Rattle.std.proofs.lemmas.Map.Views.{Contains-from_any, list_any-from_Contains}
 use Rattle.std.proofs.lemmas.Slice.Eq.{bytes_eq-Decides}
-use Rattle.q_words.specs.Words.{words, virtual_names, word_in, reserved_word, is_reserved, NamesAreWords}
+use Rattle.q_words.specs.Words.{words, virtual_names, beside_in, reserved_word, is_reserved, NamesAreWords}
 use Rattle.q_words.specs.declared.word.ReservedWord.{ReservedWord}
 
-is_some-word_in : (entries : List (List ℕ × ReservedWord)) (text : List ℕ) → is_some (word_in entries text) ≡ list_any (bytes_eq text) (map (λ (entry : List ℕ × ReservedWord). entry.0) entries)
-is_some-word_in [] text = refl
-is_some-word_in (entry ∷ entries) text =
-    elim (bytes_eq text entry.0) as (λ v. is_some (if v then Some entry.1 else word_in entries text) ≡ (v || list_any (bytes_eq text) (map (λ (e : List ℕ × ReservedWord). e.0) entries)))
-    [ true ↦ refl | false ↦ is_some-word_in entries text ]
+is_some-beside_in : (entries : List (List ℕ × ReservedWord)) (text : List ℕ) → is_some (beside_in entries text) ≡ list_any (bytes_eq text) (map (λ (entry : List ℕ × ReservedWord). entry.0) entries)
+is_some-beside_in [] text = refl
+is_some-beside_in (entry ∷ entries) text =
+    elim (bytes_eq text entry.0) as (λ v. is_some (if v then Some entry.1 else beside_in entries text) ≡ (v || list_any (bytes_eq text) (map (λ (e : List ℕ × ReservedWord). e.0) entries)))
+    [ true ↦ refl | false ↦ is_some-beside_in entries text ]
 
 is_reserved-list_any : (name : List ℕ) → is_reserved name ≡ list_any (bytes_eq name) (map (λ (entry : List ℕ × ReservedWord). entry.0) words ++ virtual_names)
 unfolding reserved_word
 is_reserved-list_any name =
-    ap (λ v. v || list_any (bytes_eq name) virtual_names) (is_some-word_in words name)
+    ap (λ v. v || list_any (bytes_eq name) virtual_names) (is_some-beside_in words name)
     ∙ sym (list_any-append (bytes_eq name) (map (λ (entry : List ℕ × ReservedWord). entry.0) words) virtual_names)
 
 pub names_are_words : (name : List ℕ) → NamesAreWords name

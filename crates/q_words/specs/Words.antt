@@ -18,14 +18,14 @@ words =
 abbrev pub virtual_names : List (List ℕ)
 virtual_names = codes "date" ∷ codes "i" ∷ []
 
--- the first word of a list with this text
-abbrev pub word_in : List (List ℕ × ReservedWord) → List ℕ → Option ReservedWord
-word_in [] text = None
-word_in (entry ∷ entries) text = if bytes_eq text entry.0 then Some entry.1 else word_in entries text
+-- what stands beside this text in a list, where it stands first
+abbrev pub beside_in : {X : Type 0} → List (List ℕ × X) → List ℕ → Option X
+beside_in [] text = None
+beside_in (entry ∷ entries) text = if bytes_eq text entry.0 then Some entry.1 else beside_in entries text
 
 -- the reserved word with this text
 unfoldable pub reserved_word : List ℕ → Option ReservedWord
-reserved_word text = word_in words text
+reserved_word text = beside_in words text
 
 -- whether no table and no column may have this name
 abbrev pub is_reserved : List ℕ → Bool

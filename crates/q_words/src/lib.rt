@@ -22,9 +22,11 @@
 #![tactic(auto)]
 
 mod laws;
+mod lookup;
 mod reserved;
 mod word;
 
 pub use laws::names_are_words;
+pub use lookup::look_up;
 pub use reserved::is_reserved_name;
 pub use word::ReservedWord;

@@ -1,6 +1,8 @@
 //! The words, and the text of each.
-ghost use Rattle.std.specs.Prelude.{◌≡◌, map};
-ghost use Rattle.q_words.specs.Words.{word_in, reserved_word};
+ghost use Rattle.std.specs.Prelude.{◌≡◌};
+ghost use Rattle.q_words.specs.Words.{reserved_word};
+
+use crate::lookup::look_up;
 
 /// A word that queries reserve (KX, Reference card).
 #[derive(Clone, Copy, Debug, PartialEq, Eq)]
@@ -79,24 +81,12 @@ const WORDS: [(&[u8], ReservedWord); 23] = [
     (b"distinct", ReservedWord::Distinct),
 ];
 
-fn find(mut table: &[(&[u8], ReservedWord)], text: &[u8]) -> Option<ReservedWord>
-    ensures { result ≡ word_in (map (λ entry. (entry.0.now, entry.1)) table.entry.now) text.now }
-{
-    while let [entry, rest @ ..] = table {
-        if text == entry.0 {
-            return Some(entry.1);
-        }
-        table = rest;
-    }
-    None
-}
-
 impl ReservedWord {
     /// The word with this text, or `None` where no word has it.
     #[tactic(auto, unfolding(crate::specs::Words::reserved_word))]
     pub fn from_text(text: &[u8]) -> Option<ReservedWord>
         ensures { result ≡ reserved_word text.now }
     {
-        find(&WORDS, text)
+        look_up(&WORDS, text)
     }
 }

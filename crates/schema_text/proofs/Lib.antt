@@ -1,4 +1,13 @@
+pub mod BuiltIn
+pub mod Decides
+pub mod Gaps
 pub mod KindNames
+pub mod Productions
 pub mod Recursion
 pub mod Shapes
+pub mod Texts
+pub mod WordParts
 pub mod Words
+pub mod WrittenColumns
+pub mod WrittenParts
+pub mod WrittenTables

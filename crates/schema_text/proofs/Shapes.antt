@@ -17,7 +17,7 @@ use Rattle.day_rows.proofs.DayLemmas.{all-append}
 use Rattle.day_rows.proofs.Sorting.{all_weaker, all-inserted, rises-inserted, IsPermutation-inserted}
 use Rattle.schema_text.specs.Growing.{IsGrowing}
 use Rattle.schema_text.specs.Positions.{below_count}
-use Rattle.schema_text.specs.Reading.{is_first_names, is_first_kinds}
+use Rattle.schema_text.specs.Kinds.{is_first_names, is_first_kinds}
 use Rattle.schema_text.proofs.Words.{apart-from_list_any, list_any-mapped}
 
 distinct-push : (xs : List (List ℕ)) (new : List ℕ) → AreDistinct xs → AllByRecursion (λ x. bytes_eq new x ≡ false) xs → AreDistinct (xs ++ new ∷ [])
@@ -75,10 +75,10 @@ inserted-at new (table ∷ tables) =
     elim (is_gt (by_name new table)) as (λ b. cond b (table ∷ inserted by_name new tables) (new ∷ table ∷ tables) ≡ insert (table ∷ tables) (cond b (suc (below_count new.table tables)) 0) new)
     [ true ↦ ap (λ l. table ∷ l) (inserted-at new tables) | false ↦ refl ]
 
-by_name_total : IsTotalOrder by_name
+pub by_name_total : IsTotalOrder by_name
 by_name_total = on_total (λ (shape : Shape). shape.table) nat_list_cmp_total
 
-length-inserted : (new : Shape) (tables : List Shape) → length (inserted by_name new tables) ≡ suc (length tables)
+pub length-inserted : (new : Shape) (tables : List Shape) → length (inserted by_name new tables) ≡ suc (length tables)
 length-inserted new tables = sym (length_permutation (inserted by_name new tables) (new ∷ tables) (IsPermutation-inserted by_name by_name_total new tables))
 
 -- one table more

@@ -1,4 +1,10 @@
+pub mod Answers
+pub mod BuiltIn
+pub mod Grammar
 pub mod Growing
+pub mod Kinds
+pub mod Laws
 pub mod Positions
 pub mod Reading
 pub mod Tokens
+pub mod Written

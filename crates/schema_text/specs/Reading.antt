@@ -1,14 +1,15 @@
--- Reading a schema text from left to right, with the first refusal that is met.
-use Rattle.std.specs.Prelude.{◌≡◌, ℕ, zero, suc, ◌+◌, ◌||◌, ◌&&◌, Bool, true, false, nat_le, nat_lt, if◌then◌else◌, List, [], ◌∷◌, ◌++◌, length, map}
-use Rattle.std.specs.Prelude.{Option, Some, None, Result, Ok, Err, slice_get, codes}
+-- The steps of the reader, one definition for each of its functions; each gives what was read and the offset after it. What a
+-- text means is said by Grammar.antt alone.
+use Rattle.std.specs.Prelude.{◌≡◌, ℕ, zero, suc, ◌+◌, ◌||◌, ◌&&◌, Bool, nat_le, nat_lt, if◌then◌else◌, List, [], ◌∷◌, ◌++◌, length, map}
+use Rattle.std.specs.Prelude.{Option, Some, None, Result, Ok, Err, slice_get}
 use Rattle.std.specs.List.{list_any}
 use Rattle.std.specs.Str.{bytes_eq}
 use Rattle.q_values.specs.declared.kind.Kind.{Kind}
-use Rattle.q_values.specs.declared.kind.Kind.TheVariants as k
 use Rattle.q_words.specs.Words.{is_reserved}
 use Rattle.day_rows.specs.Schema.{by_name}
 use Rattle.day_rows.specs.Sorted.{inserted}
 use Rattle.day_rows.specs.declared.schema.Shape.{Shape}
+use Rattle.schema_text.specs.Kinds.{kind_named, is_first_kinds, is_first_names}
 use Rattle.schema_text.specs.Tokens.{part, first_part, sign_at, word_at, is_sign, is_end}
 use Rattle.schema_text.specs.declared.refusal.SchemaRefusal.{SchemaRefusal}
 use Rattle.schema_text.specs.declared.refusal.SchemaRefusal.TheVariants as r
@@ -51,22 +52,6 @@ name_at earlier most text at = do
   word ← word_at text at
   name ← judged earlier most word.0
   Ok (name, word.2)
-
--- the kinds that a column may have, each with its name (KX, Datatypes reference)
-abbrev pub kind_names : List (List ℕ × Kind)
-kind_names =
-    (codes "boolean", k.Boolean) ∷ (codes "byte", k.Byte) ∷ (codes "short", k.Short) ∷ (codes "int", k.Integer) ∷ (codes "long", k.Long)
-    ∷ (codes "symbol", k.Symbol) ∷ (codes "timestamp", k.Timestamp) ∷ (codes "month", k.Month) ∷ (codes "date", k.Date)
-    ∷ (codes "timespan", k.Timespan) ∷ (codes "minute", k.Minute) ∷ (codes "second", k.Second) ∷ (codes "time", k.Time) ∷ []
-
--- the first kind of a list with this name
-abbrev pub kind_in : List (List ℕ × Kind) → List ℕ → Option Kind
-kind_in [] name = None
-kind_in (entry ∷ entries) name = if bytes_eq name entry.0 then Some entry.1 else kind_in entries name
-
--- the kind with this name
-unfoldable pub kind_named : List ℕ → Option Kind
-kind_named name = kind_in kind_names name
 
 abbrev pub kind_or : Option Kind → ℕ → ℕ → Result (Kind × ℕ) SchemaRefusal
 kind_or None start end = Err (r.BadKind start)
@@ -115,15 +100,6 @@ columns_at (suc left) shape text at = do
   column ← column_at shape text at
   if is_sign 59 (slice_get text (part text column.1)) then columns_at left column.0 text (part text column.1 + 1) else closed_at column.0 text column.1
 
--- the first columns are `time`, a timespan, and `sym`, a symbol
-abbrev pub is_first_kinds : List Kind → Bool
-is_first_kinds (k.Timespan ∷ (k.Symbol ∷ kinds)) = true
-is_first_kinds kinds = false
-
-abbrev pub is_first_names : List (List ℕ) → Bool
-is_first_names (first ∷ (second ∷ names)) = bytes_eq first (codes "time") && bytes_eq second (codes "sym")
-is_first_names names = false
-
 -- the offset after a ";", where it comes next; else the offset itself
 abbrev pub past_semicolon : List ℕ → ℕ → ℕ
 past_semicolon text at = if is_sign 59 (slice_get text (part text at)) then part text at + 1 else at
@@ -143,7 +119,7 @@ unfoldable pub table_at : List Shape → List ℕ → ℕ → Result (Shape × �
 table_at tables text at = do
   head ← head_at (map (λ (table : Shape). table.table) tables) text at
   columns ← columns_at 49 (record { table = head.0; names = []; kinds = [] }) text head.1
-  if is_first_names columns.0.names && is_first_kinds columns.0.kinds then Ok (columns.0, past_semicolon text columns.1) else Err (r.TimeSym head.0)
+  if is_first_names columns.0.names && is_first_kinds columns.0.kinds then Ok (columns.0, past_semicolon text columns.1) else Err (r.TimeSym columns.0.table)
 
 abbrev pub some_tables : List Shape → List ℕ → Result (List Shape) SchemaRefusal
 some_tables [] text = Err (r.Parse (length text))

@@ -2,7 +2,8 @@
 ghost use Rattle.std.specs.Prelude.{◌≡◌, ◌≢◌, ◌<◌, ◌≤◌, ◌+◌, ◌++◌, ◌∷◌, [], length, IfOk, slice_get, nat_lt};
 ghost use Rattle.q_values.specs.declared.kind.Kind.TheVariants as k;
 ghost use Rattle.schema_text.specs.Growing.{IsGrowing};
-ghost use Rattle.schema_text.specs.Reading.{Gives, kind_at, kind_named, kind_or, typed_at, column_at, columns_at, closed_at, past_attribute};
+ghost use Rattle.schema_text.specs.Kinds.{kind_named};
+ghost use Rattle.schema_text.specs.Reading.{Gives, kind_at, kind_or, typed_at, column_at, columns_at, closed_at, past_attribute};
 
 use crate::names::{column_name, kind_of_name};
 use crate::refusal::SchemaRefusal;

@@ -4,14 +4,15 @@ ghost use Rattle.std.specs.List.{list_any};
 ghost use Rattle.std.specs.Str.{bytes_eq};
 ghost use Rattle.q_values.specs.declared.kind.Kind.TheVariants as k;
 ghost use Rattle.day_rows.specs.Schema.{IsName, IsWord};
-ghost use Rattle.schema_text.specs.Reading.{Gives, judged_by, kind_in, kind_named, name_at};
+ghost use Rattle.schema_text.specs.Kinds.{kind_named};
+ghost use Rattle.schema_text.specs.Reading.{Gives, judged_by, name_at};
 ghost use Rattle.schema_text.specs.declared.refusal.SchemaRefusal.TheVariants as r;
 
 use crate::refusal::SchemaRefusal;
 use crate::tokens::read_word;
 use day_rows::Shape;
 use q_values::{Kind, Sym};
-use q_words::is_reserved_name;
+use q_words::{is_reserved_name, look_up};
 use std::alloc::Global;
 
 /// Whether the texts are equal, byte by byte.
@@ -153,23 +154,11 @@ const KIND_NAMES: [(&[u8], Kind); 13] = [
     (b"time", Kind::Time),
 ];
 
-fn find_kind(mut table: &[(&[u8], Kind)], name: &[u8]) -> Option<Kind>
-    ensures { result ≡ kind_in (map (λ entry. (entry.0.now, entry.1)) table.entry.now) name.now }
-{
-    while let [entry, rest @ ..] = table {
-        if is_same(name, entry.0) {
-            return Some(entry.1);
-        }
-        table = rest;
-    }
-    None
-}
-
 /// The kind with this name, or `None` where no column may have such a kind.
-#[tactic(auto, unfolding(crate::specs::Reading::kind_named))]
+#[tactic(auto, unfolding(crate::specs::Kinds::kind_named))]
 pub fn kind_of_name(name: &[u8]) -> Option<Kind>
     ensures value { result ≡ kind_named name.now }
     ensures lawful { IfSome result (λ kind. kind ≢ k.Character) }
 {
-    find_kind(&KIND_NAMES, name)
+    look_up(&KIND_NAMES, name)
 }

@@ -1,5 +1,5 @@
 //! Reads the tables of a schema text. Each function returns what it read, and the offset after it.
-ghost use Rattle.std.specs.Prelude.{◌≡◌, ◌<◌, ◌≤◌, ◌+◌, ◌++◌, ◌∷◌, ◌&&◌, [], false, length, map, IfOk, OnOk, OnErr, slice_get, drop};
+ghost use Rattle.std.specs.Prelude.{◌≡◌, ◌<◌, ◌≤◌, ◌+◌, ◌++◌, ◌∷◌, ◌&&◌, [], false, length, map, IfOk, IfErr, OnOk, OnErr, slice_get, drop};
 ghost use Rattle.std.specs.List.{AllByRecursion, list_any};
 ghost use Rattle.std.specs.Str.{bytes_eq};
 ghost use Rattle.std.specs.Ordering.{is_gt, nat_cmp};
@@ -7,8 +7,12 @@ ghost use Rattle.std.specs.Cmp.Lexicographic.{slice_cmp};
 ghost use Rattle.schema_text.specs.Positions.{below_count};
 ghost use Rattle.day_rows.specs.Schema.{IsName, IsShape, IsSchema, by_name};
 ghost use Rattle.day_rows.specs.Sorted.{inserted};
+ghost use Rattle.schema_text.specs.Answers.{IsFaultOf, GivesOnly};
+ghost use Rattle.schema_text.specs.BuiltIn.{built_in_tables};
+ghost use Rattle.schema_text.specs.Grammar.{Spells};
 ghost use Rattle.schema_text.specs.Growing.{IsGrowing};
-ghost use Rattle.schema_text.specs.Reading.{Gives, head_at, table_at, tables_at, schema_of, is_first_names, is_first_kinds, past_semicolon, some_tables};
+ghost use Rattle.schema_text.specs.Kinds.{is_first_names, is_first_kinds};
+ghost use Rattle.schema_text.specs.Reading.{Gives, head_at, table_at, tables_at, schema_of, past_semicolon, some_tables};
 
 use crate::columns::read_columns;
 use crate::names::{is_same, table_name};
@@ -182,14 +186,38 @@ fn read_tables(
     read_tables(alloc, left - 1, tables, text, end)
 }
 
-/// The schema that a text describes, its tables sorted by name (KX, tick.q, "schema").
-///
-/// A text has tables such as `trade:([]time:`timespan$();sym:`g#`symbol$();price:`long$())`, separated by blanks or
-/// newlines. A line that begins with `/` is a remark. The error is the first in the text's order, from left to right.
+// The schema of a text.
 #[tactic(auto, unfolding(crate::specs::Reading::schema_of))]
-pub fn read_schema(alloc: Global, text: &[u8]) -> Result<Schema, SchemaRefusal>
+fn read_text(alloc: Global, text: &[u8]) -> Result<Schema, SchemaRefusal>
     ensures { Gives (λ schema. schema) result (schema_of text.now) }
 {
     let tables = read_tables(alloc, 65, Vec::new(alloc), text, first_part_of(text))?;
     Ok(Schema::from_vec(tables))
+}
+
+/// The schema that a text describes, its tables sorted by name (KX, tick.q, "schema").
+///
+/// A text has tables such as `trade:([]time:`timespan$();sym:`g#`symbol$();price:`long$())`, separated by blanks or
+/// newlines. A line that begins with `/` is a remark. The error is the first in the text's order, from left to right.
+pub fn read_schema(alloc: Global, text: &[u8]) -> Result<Schema, SchemaRefusal>
+    ensures ok { IfOk result (λ schema. Spells text.now schema) }
+    ensures refused { IfErr result (IsFaultOf text.now) }
+    // Where the text is a schema, or has a fault, the answer is that one, unless memory ran out.
+    ensures exact { GivesOnly text.now result }
+{
+    read_text(alloc, text)
+}
+
+/// The schema that a plant has unless another is given, the one that [`BUILT_IN`] spells. The only error is out of memory.
+pub fn built_in_schema(alloc: Global) -> Result<Schema, NoMemory>
+    ensures { IfOk result (λ schema. schema ≡ built_in_tables) }
+{
+    match read_schema(alloc, BUILT_IN) {
+        Ok(schema) => Ok(schema),
+        Err(why) => {
+            // The built-in text is a schema, so it has no fault.
+            prove!(matches!(&why, SchemaRefusal::NoMemory));
+            Err(NoMemory)
+        }
+    }
 }

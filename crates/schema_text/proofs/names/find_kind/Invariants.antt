@@ -1,9 +1,0 @@
-use Rattle.std.proofs.Common.{◌≡◌, length, map}
-use Rattle.schema_text.specs.Reading.{kind_in}
-use Rattle.schema_text.proofs.names.find_kind.Given as goal
-
-abbrev pub invariant-loop-table : goal.invariant-loop-table
-invariant-loop-table l = kind_in (map (λ entry. (entry.0.now, entry.1)) l.table) l.name ≡ kind_in (map (λ entry. (entry.0.now, entry.1)) l.initial.table) l.name
-
-abbrev pub decreases-loop-table : goal.decreases-loop-table
-decreases-loop-table l = length l.table
