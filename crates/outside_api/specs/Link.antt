@@ -1,5 +1,5 @@
 -- What a link shows, and what its calls change.
-use Rattle.std.specs.Prelude.{◌≡◌, ◌<◌, ◌≤◌, ℕ, Bool, true, false, List, take, length, Option, Result, Ok, Err}
+use Rattle.std.specs.Prelude.{◌≡◌, ◌<◌, ◌≤◌, ℕ, Bool, true, false, List, take, length, Option, Some, Result, Ok, Err}
 use Rattle.outside_api.specs.Told.{told}
 use Rattle.outside_api.specs.Counts.{counted}
 use Rattle.outside_api.specs.declared.link.Got.{Got}
@@ -10,6 +10,8 @@ use Rattle.outside_api.specs.declared.link.LinkFault.{LinkFault}
 pub record LinkView : Type 0 where
   -- the bytes that its reads gave
   pub given : Option (List ℕ)
+  -- all bytes of its input, of which reads give one after the other; no call changes them
+  pub input : Option (List ℕ)
   -- the bytes that its writes took
   pub taken : Option (List ℕ)
   -- whether its input has ended
@@ -18,11 +20,15 @@ pub record LinkView : Type 0 where
   pub write_faults : ℕ
   pub idles : ℕ
 
--- what a read may give: bytes that go on from those before, the end, a timeout that is counted, or a fault that is
--- counted; after the end only the end
+-- none of the input is left, where the link reports its input and what it gave of it
+abbrev pub HasGivenAll : LinkView → Type 0
+HasGivenAll link = (given all : List ℕ) → link.given ≡ Some given → link.input ≡ Some all → given ≡ all
+
+-- what a read may give: bytes that go on from those before; the end, where none of the input is left; a timeout that is
+-- counted; or a fault that is counted; after the end only the end
 abbrev pub Reads : LinkView → LinkView → List ℕ → Got → Type 0
 Reads old new buf (Bytes n) = (old.ended ≡ false) × (n ≤ length buf) × (0 < length buf → 0 < n) × (new ≡ record old { given = told old.given (take n buf) })
-Reads old new buf End = new ≡ record old { ended = true }
+Reads old new buf End = HasGivenAll old × (new ≡ record old { ended = true })
 Reads old new buf Idle = (old.ended ≡ false) × (new ≡ record old { idles = counted old.idles 1 })
 Reads old new buf Failed = (old.ended ≡ false) × (new ≡ record old { read_faults = counted old.read_faults 1 })
 

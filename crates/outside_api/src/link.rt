@@ -24,10 +24,11 @@ pub struct LinkFault;
 pub trait Link {
     ghost use Rattle.outside_api.specs.Link.{LinkView, Reads, Writes};
 
-    /// What it shows: the bytes given and taken where it reports them, whether its input has ended, its counts.
+    /// What it shows: its input and the bytes given and taken, where it reports them; whether its input has ended; its
+    /// counts.
     ghost shown: { Self → LinkView };
 
-    /// Reads into the front of the buffer.
+    /// Reads into the front of the buffer. A link that reports its input ends only where none of it is left.
     fn read(&mut self, buf: &mut [u8]) -> Got
         ensures { Reads (shown self.old) (shown self.new) buf.new result };
 

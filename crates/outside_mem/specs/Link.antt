@@ -23,7 +23,7 @@ pub record MemLinkView : Type 0 where
 -- a link that has given and taken nothing
 abbrev pub new_link : List Piece → List Taking → MemLinkView
 new_link pieces takings = record {
-  shown = record { given = Some []; taken = Some []; ended = false; read_faults = 0; write_faults = 0; idles = 0 };
+  shown = record { given = Some []; input = Some (bytes_of pieces); taken = Some []; ended = false; read_faults = 0; write_faults = 0; idles = 0 };
   input = bytes_of pieces;
   left = pieces;
   takings = takings;

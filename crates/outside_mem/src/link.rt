@@ -52,6 +52,7 @@ impl Model for MemLink {
     ghost view = { λ l. record {
       shown = record {
         given = Some l.given;
+        input = Some (bytes_of l.script.value);
         taken = Some l.taken.items;
         ended = l.ended;
         read_faults = l.read_faults;

@@ -10,6 +10,7 @@ use Rattle.plant_edge.specs.declared.link.StandardLink.{StandardLink}
 abbrev pub link_shown : {I O : Type 0} → StandardLink I O → LinkView
 link_shown link = record {
   given = None;
+  input = None;
   taken = None;
   ended = link.ended;
   read_faults = link.read_faults;

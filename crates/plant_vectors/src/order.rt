@@ -23,6 +23,7 @@ fn makes<R: Wait>(
     }
 }
 
+// Fails with a body that writes the response first, and then notes its turn.
 #[test]
 fn a_turn_is_noted_before_its_bytes(rt: HostRuntime) -> Result<(), Fail> {
     let reads = [Read::Bytes(GREETING), Read::Bytes(UPDATE)];
@@ -37,6 +38,7 @@ fn a_turn_is_noted_before_its_bytes(rt: HostRuntime) -> Result<(), Fail> {
     Ok(())
 }
 
+// Fails with a body that doesn't pause after an update's roll, or pauses at another point, or before the roll.
 #[test]
 fn an_update_pauses_after_its_roll(rt: HostRuntime) -> Result<(), Fail> {
     let reads = [Read::Bytes(GREETING), Read::Bytes(UPDATE)];
@@ -61,6 +63,7 @@ fn an_update_pauses_after_its_roll(rt: HostRuntime) -> Result<(), Fail> {
     Ok(())
 }
 
+// Fails with a body that doesn't pause before it computes an answer, or pauses at another point, or before the snapshot.
 #[test]
 fn a_text_pauses_between_snapshot_and_answer(rt: HostRuntime) -> Result<(), Fail> {
     let reads = [Read::Bytes(GREETING), Read::Bytes(QUERY)];
@@ -76,6 +79,7 @@ fn a_text_pauses_between_snapshot_and_answer(rt: HostRuntime) -> Result<(), Fail
     Ok(())
 }
 
+// Fails with a body that doesn't pause at a read timeout's roll, or pauses at another point, or where nothing rolled.
 #[test]
 fn a_timeout_pauses_after_its_roll(rt: HostRuntime) -> Result<(), Fail> {
     let reads = [Read::Bytes(GREETING), Read::Idle, Read::Idle];

@@ -20,6 +20,7 @@ use Rattle.session.specs.Heard.{Hears, greeting_heard, messages_heard}
 use Rattle.session.specs.Run.{World, world}
 use Rattle.session.specs.Served.{Event}
 use Rattle.session.specs.Served as s
+use Rattle.session.specs.State.{fresh_state}
 use Rattle.session.specs.Session.{IsSession, HasCause, HasNoFault, LeavesNone, ReadsNothing, events_of}
 use Rattle.session.specs.declared.end.End.{End}
 use Rattle.session.specs.declared.end.End.TheVariants as e
@@ -219,7 +220,7 @@ reads_something e.Idle limits greeted place rest read r = tt
 reads_something e.NoMemory limits greeted place rest read r = absurd r
 
 -- a session that began with nothing read is whole
-pub whole_session : (limits : Limits) (a b : World) (end : End) → Converses limits 0 a b (record { framer = fresh limits; pending = [] }) limits.idle end → IsSession limits a b end
+pub whole_session : (limits : Limits) (a b : World) (end : End) → Converses limits 0 a b (fresh_state a.access) (record { framer = fresh limits; pending = [] }) limits.idle end → IsSession limits a b end
 whole_session limits a b end c =
     let read = read_by limits end c.heard c.rest (events_of c.steps) c.greeted c.idled c.hears c.rests c.idles in
     record {
@@ -227,6 +228,7 @@ whole_session limits a b end c =
       written = c.written;
       idled = c.idled;
       link = c.link;
+      input = c.input;
       opened = opened c.opened;
       steps = c.steps;
       unserved = read.unserved;
@@ -241,6 +243,7 @@ whole_session limits a b end c =
       all = read.all;
       cause = read.cause;
       nothing = reads_something end limits c.greeted (0 + length c.heard) c.rest c.given c.rests;
+      after = c.after;
       served = c.works.served;
       notes = c.works.notes;
       sent = c.sent;
@@ -255,12 +258,13 @@ whole_session limits a b end c =
 -- a session without memory for its buffers
 pub no_session : (limits : Limits) (l : LinkView) (k : Option (List ℤ)) (n : Option (List Turn)) (a : AccessView) → IsSession limits (world l k n a) (world l k n a) e.NoMemory
 no_session limits l k n a =
-    let works = works-none l l k n a in
+    let works = works-none l l k n a (fresh_state a) in
     record {
       read = [];
       written = [];
       idled = 0;
       link = sym (moved-none l);
+      input = tt;
       opened = tt;
       steps = [];
       unserved = [];
@@ -275,6 +279,7 @@ no_session limits l k n a =
       all = refl;
       cause = (refl, refl);
       nothing = refl;
+      after = fresh_state a;
       served = works.served;
       notes = works.notes;
       sent = refl;

@@ -1,12 +1,11 @@
 -- How an access goes on.
 use Rattle.std.proofs.Common.{◌≡◌, ◌≤◌, ◌+◌, ℕ, List, [], ◌∷◌, ◌++◌, length, refl, sym, ap, ◌∙◌, arith, append_assoc}
-use Rattle.std.specs.List.{count_by}
 use Rattle.std.proofs.lemmas.List.{append-nil, length-append}
 use Rattle.day_rows.specs.declared.entry.Entry.{Entry}
 use Rattle.plant_core.specs.Access.{AccessView, SeesMore}
 use Rattle.q_values.specs.declared.turn.Turn.{Turn}
 use Rattle.q_values.specs.declared.turn.Turn.TheVariants.{Logged, Rolled, Refused, Quiet, Answered}
-use Rattle.session.specs.Lawful.{AllGoOn, GoesOn, length_after, last_length, is_answered, is_quiet}
+use Rattle.session.specs.Lawful.{AllGoOn, GoesOn, length_after, last_length}
 use Rattle.session.specs.Run.{Advances, advanced}
 
 abbrev pub at_most : ℕ → ℕ → Type 0
@@ -50,23 +49,17 @@ pub advances : (a b : AccessView) (others made : List Entry) (turns : List Turn)
     → b ≡ advanced a (others ++ made) made asked ticked
     → AllGoOn just (length (a.seen ++ others)) turns
     → last_length (length (a.seen ++ others)) turns ≡ length ((a.seen ++ others) ++ made)
-    → count_by is_answered turns ≤ asked
-    → count_by is_quiet turns ≤ ticked
-    → Advances a b turns made
-advances a b others made turns asked ticked saw after each last answered quiet =
+    → Advances a b turns made asked ticked
+advances a b others made turns asked ticked saw after each last =
     let seen : b.seen ≡ (a.seen ++ others) ++ made = ap (λ (v : AccessView). v.seen) after ∙ sym (append_assoc a.seen others made) in
     let size : length b.seen ≡ length ((a.seen ++ others) ++ made) = ap length seen in
     let front : length (a.seen ++ others) ≡ length a.seen + length others = rw length-append refl in
     let lower = go_on-lower (length a.seen) (length (a.seen ++ others)) turns (omega arith) (go_on-weaker (length (a.seen ++ others)) turns each) in
     record {
       gained = others ++ made;
-      asked = asked;
-      ticked = ticked;
       after = after;
       lengths = record { rising = lower.0; within = let l = lower.1 in omega arith };
       alone = λ only.
           let none : a.seen ++ others ≡ a.seen = ap (λ o. a.seen ++ o) (saw.alone only) ∙ append-nil a.seen in
           record { each = rw none at each; last = (rw none at last) ∙ ap (λ l. length (l ++ made)) (sym none) ∙ sym size };
-      answered = answered;
-      quiet = quiet;
     }

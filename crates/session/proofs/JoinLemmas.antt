@@ -1,10 +1,8 @@
 -- Consecutive parts of a session.
-use Rattle.std.proofs.Common.{◌≡◌, ◌+◌, ℕ, Bool, true, false, List, [], ◌∷◌, ◌++◌, length, All, cond, refl, sym, ap, subst, ◌∙◌, arith, append_assoc, inl, inr}
-use Rattle.std.specs.List.{count_by}
+use Rattle.std.proofs.Common.{◌≡◌, ◌+◌, ℕ, Bool, true, false, List, [], ◌∷◌, ◌++◌, length, refl, sym, ap, subst, ◌∙◌, arith, append_assoc, inl, inr}
 use Rattle.std.proofs.lemmas.List.{length-append}
 use Rattle.std.proofs.lemmas.List.Concat.{flat_map-append}
 use Rattle.std.proofs.lemmas.List.Sums.{sum_by-append}
-use Rattle.std.proofs.lemmas.List.Elements.{All-append, All-weaker}
 use Rattle.day_rows.specs.declared.entry.Entry.{Entry}
 use Rattle.ipc_frame.specs.Stream.{Content, built, unbuilt}
 use Rattle.plant_core.specs.Access.{AccessView}
@@ -13,10 +11,11 @@ use Rattle.q_values.specs.declared.limits.Limits.{Limits}
 use Rattle.q_values.specs.declared.turn.Turn.{Turn}
 use Rattle.session.specs.Chronicle.{IsFront}
 use Rattle.session.specs.Heard.{Hears, idles_heard}
-use Rattle.session.specs.Lawful.{AllGoOn, length_after, last_length, is_answered, is_quiet}
+use Rattle.session.specs.Lawful.{AllGoOn, length_after, last_length}
 use Rattle.session.specs.Request.{Request, update, mistyped, text, other, request_of}
-use Rattle.session.specs.Run.{World, Works, Advances, turns_of, made_in}
+use Rattle.session.specs.Run.{World, Works, Advances, turns_of, made_in, snapshots_in, ticks_in}
 use Rattle.session.specs.Served.{Event, greeted, asked, idled, Deed, Step, StandsAfter, Serves, ServesContent, ServesRequest, ServesText, ServesIdle, IsIdle, IsStep}
+use Rattle.session.specs.State.{State, Chain}
 use Rattle.session.proofs.GoingLemmas.{at_most, just, go_on-lower}
 use Rattle.session.proofs.ToldLemmas.{told-told, counted-counted, tells-append}
 
@@ -52,13 +51,13 @@ stands-more : (front made seen more : List Entry) → StandsAfter front made see
 stands-more front made seen more h = record { more = h.more ++ more; whole = ap (λ l. l ++ more) h.whole ∙ append_assoc (front ++ made) h.more more }
 
 text-more : (frame : Frame) (seen more : List Entry) (sync : Bool) (bytes : List ℕ) (deed : Deed) → ServesText frame seen sync bytes deed → ServesText frame (seen ++ more) sync bytes deed
-text-more frame seen more true bytes deed (inl h) = inl (record { count = h.count; front = h.front; is_front = front-more h.count h.front seen more h.is_front; value = h.value; known = h.known; noted = h.noted; answered = h.answered; still = h.still })
+text-more frame seen more true bytes deed (inl h) = inl (record { count = h.count; front = h.front; is_front = front-more h.count h.front seen more h.is_front; value = h.value; known = h.known; noted = h.noted; answered = h.answered; unread = h.unread; unmade = h.unmade; asked = h.asked })
 text-more frame seen more true bytes deed (inr h) = inr h
 text-more frame seen more false bytes deed h = h
 
 request-more : (frame : Frame) (by : ℕ) (seen more : List Entry) (sync : Bool) (request : Request) (deed : Deed) → ServesRequest frame by seen sync request deed → ServesRequest frame by (seen ++ more) sync request deed
-request-more frame by seen more sync (update table items) deed (inl h) = inl (record { front = h.front; now = h.now; accepted = h.accepted; stands = stands-more h.front deed.made seen more h.stands; noted = h.noted; answered = h.answered; read = h.read })
-request-more frame by seen more sync (update table items) deed (inr h) = inr (record { count = h.count; front = h.front; is_front = front-more h.count h.front seen more h.is_front; now = h.now; why = h.why; refused = h.refused; noted = h.noted; answered = h.answered; read = h.read; unmade = h.unmade })
+request-more frame by seen more sync (update table items) deed (inl h) = inl (record { front = h.front; now = h.now; accepted = h.accepted; stands = stands-more h.front deed.made seen more h.stands; noted = h.noted; answered = h.answered; read = h.read; unasked = h.unasked })
+request-more frame by seen more sync (update table items) deed (inr h) = inr (record { count = h.count; front = h.front; is_front = front-more h.count h.front seen more h.is_front; now = h.now; why = h.why; refused = h.refused; noted = h.noted; answered = h.answered; read = h.read; unmade = h.unmade; unasked = h.unasked })
 request-more frame by seen more sync mistyped deed h = h
 request-more frame by seen more sync (text bytes) deed h = text-more frame seen more sync bytes deed h
 request-more frame by seen more sync other deed h = h
@@ -68,18 +67,22 @@ content-more frame by seen more sync (unbuilt at) deed h = h
 content-more frame by seen more sync (built t) deed (inl h) = inl (request-more frame by seen more sync (request_of t) deed h)
 content-more frame by seen more sync (built t) deed (inr h) = inr h
 
-idle_done-more : (frame : Frame) (by : ℕ) (seen more : List Entry) (deed : Deed) → IsIdle frame by seen deed → IsIdle frame by (seen ++ more) deed
-idle_done-more frame by seen more deed (inl d) = inl (record { count = d.count; front = d.front; is_front = front-more d.count d.front seen more d.is_front; now = d.now; same = d.same; noted = d.noted; read = d.read; unmade = d.unmade })
-idle_done-more frame by seen more deed (inr (inl d)) = inr (inl (record { front = d.front; now = d.now; next = d.next; rolled = d.rolled; stands = stands-more d.front deed.made seen more d.stands; noted = d.noted; read = d.read }))
-idle_done-more frame by seen more deed (inr (inr d)) = inr (inr d)
+idle_done-more : (frame : Frame) (by : ℕ) (seen more : List Entry) (before : State) (deed : Deed) → IsIdle frame by seen before deed → IsIdle frame by (seen ++ more) before deed
+idle_done-more frame by seen more before deed (inl d) = inl (record { count = d.count; front = d.front; is_front = front-more d.count d.front seen more d.is_front; now = d.now; same = d.same; noted = d.noted; read = d.read; unmade = d.unmade; asked = d.asked })
+idle_done-more frame by seen more before deed (inr (inl d)) = inr (inl (record { front = d.front; now = d.now; next = d.next; rolled = d.rolled; stands = stands-more d.front deed.made seen more d.stands; noted = d.noted; read = d.read; asked = d.asked }))
+idle_done-more frame by seen more before deed (inr (inr d)) =
+    inr (inr (record { count = d.count; front = d.front; is_front = front-more d.count d.front seen more d.is_front; known = d.known; now = d.now; next = d.next; noted = d.noted; read = d.read; unmade = d.unmade; asked = d.asked }))
 
-idle-more : (frame : Frame) (by : ℕ) (seen more : List Entry) (deed : Deed) → ServesIdle frame by seen deed → ServesIdle frame by (seen ++ more) deed
-idle-more frame by seen more deed h = record { unsent = h.unsent; done = idle_done-more frame by seen more deed h.done }
+idle-more : (frame : Frame) (by : ℕ) (seen more : List Entry) (before : State) (deed : Deed) → ServesIdle frame by seen before deed → ServesIdle frame by (seen ++ more) before deed
+idle-more frame by seen more before deed h = record { unsent = h.unsent; done = idle_done-more frame by seen more before deed h.done }
 
-pub serves-more : (frame : Frame) (by : ℕ) (seen more : List Entry) (event : Event) (deed : Deed) → Serves frame by seen event deed → Serves frame by (seen ++ more) event deed
-serves-more frame by seen more (greeted c) deed h = h
-serves-more frame by seen more (asked m) deed h = content-more frame by seen more m.sync m.content deed h
-serves-more frame by seen more idled deed h = idle-more frame by seen more deed h
+serves-more : (frame : Frame) (by : ℕ) (seen more : List Entry) (before : State) (event : Event) (deed : Deed) → Serves frame by seen before event deed → Serves frame by (seen ++ more) before event deed
+serves-more frame by seen more before (greeted c) deed h = h
+serves-more frame by seen more before (asked m) deed h = content-more frame by seen more m.sync m.content deed h
+serves-more frame by seen more before idled deed h = idle-more frame by seen more before deed h
+
+step-more : (frame : Frame) (by : ℕ) (seen more : List Entry) (before after : State) (s : Step) → IsStep frame by seen before after s → IsStep frame by (seen ++ more) before after s
+step-more frame by seen more before after s h = record { served = serves-more frame by seen more before s.event s.deed h.served; lengths = h.lengths }
 
 -- ---- lengths in two parts
 
@@ -91,22 +94,13 @@ go_on-append : (R : ℕ → ℕ → Type 0) (n : ℕ) (xs ys : List Turn) → Al
 go_on-append R n [] ys p q = q
 go_on-append R n (x ∷ xs) ys p q = (p.0, go_on-append R (length_after n x) xs ys p.1 q)
 
-count_by-append : (p : Turn → Bool) (xs ys : List Turn) → count_by p (xs ++ ys) ≡ count_by p xs + count_by p ys
-count_by-append p xs ys = sum_by-append (λ x. cond (p x) 1 0) xs ys
-
-pub advances-append : (a b c : AccessView) (xs ys : List Turn) (made more : List Entry) → Advances a b xs made → Advances b c ys more → Advances a c (xs ++ ys) (made ++ more)
-advances-append a b c xs ys made more p q =
+pub advances-append : (a b c : AccessView) (xs ys : List Turn) (made more : List Entry) (i j m n : ℕ) → Advances a b xs made i m → Advances b c ys more j n → Advances a c (xs ++ ys) (made ++ more) (i + j) (m + n)
+advances-append a b c xs ys made more i j m n p q =
     let seen : b.seen ≡ a.seen ++ p.gained = ap (λ (v : AccessView). v.seen) p.after in
     let lower = go_on-lower (last_length (length a.seen) xs) (length b.seen) ys p.lengths.within q.lengths.rising in
     let second = q.lengths.within in
-    let first_answered = p.answered in
-    let second_answered = q.answered in
-    let first_quiet = p.quiet in
-    let second_quiet = q.quiet in
     record {
       gained = p.gained ++ q.gained;
-      asked = p.asked + q.asked;
-      ticked = p.ticked + q.ticked;
       after = q.after ∙ rw (p.after, append_assoc, append_assoc, counted-counted, counted-counted) refl;
       lengths = record {
         rising = go_on-append at_most (length a.seen) xs ys p.lengths.rising lower.0;
@@ -119,21 +113,30 @@ advances-append a b c xs ys made more p q =
             each = go_on-append just (length a.seen) xs ys one.each (rw one.last two.each);
             last = last_length-append (length a.seen) xs ys ∙ rw one.last two.last;
           };
-      answered = rw (count_by-append is_answered xs ys) (omega arith);
-      quiet = rw (count_by-append is_quiet xs ys) (omega arith);
     }
 
+-- ---- consecutive steps in two parts
+
+chain-append : {S : Type 0} (R : State → State → S → Type 0) (x y z : State) (ss ts : List S) → Chain R x y ss → Chain R y z ts → Chain R x z (ss ++ ts)
+chain-append R x y z [] ts p q = subst (λ v. Chain R v z ts) p q
+chain-append R x y z (s ∷ ss) ts p q = (p.0, p.1, chain-append R p.0 y z ss ts p.2 q)
+
+chain-weaker : {S : Type 0} (P Q : State → State → S → Type 0) (x y : State) (ss : List S) → ((v w : State) (s : S) → P v w s → Q v w s) → Chain P x y ss → Chain Q x y ss
+chain-weaker P Q x y [] f h = h
+chain-weaker P Q x y (s ∷ ss) f h = (h.0, f x h.0 s h.1, chain-weaker P Q h.0 y ss f h.2)
+
 -- steps in two parts
-pub works-append : (a b c : World) (xs ys : List Step) → Works a b xs → Works b c ys → Works a c (xs ++ ys)
-works-append a b c xs ys p q =
+pub works-append : (a b c : World) (x y z : State) (xs ys : List Step) → Works a b x y xs → Works b c y z ys → Works a c x z (xs ++ ys)
+works-append a b c x y z xs ys p q =
     let by_is : b.access.by ≡ a.access.by = ap (λ (v : AccessView). v.by) p.access.after in
     let frame_is : b.access.frame ≡ a.access.frame = ap (λ (v : AccessView). v.frame) p.access.after in
     let seen_is : c.access.seen ≡ b.access.seen ++ q.access.gained = ap (λ (v : AccessView). v.seen) q.access.after in
-    let first : All (IsStep a.access.frame a.access.by c.access.seen) xs = rw seen_is (All-weaker (IsStep a.access.frame a.access.by b.access.seen) (IsStep a.access.frame a.access.by (b.access.seen ++ q.access.gained)) (λ (s : Step) h. serves-more a.access.frame a.access.by b.access.seen q.access.gained s.event s.deed h) xs p.served) in
-    let second : All (IsStep a.access.frame a.access.by c.access.seen) ys = rw (by_is, frame_is) at q.served in
+    let first : Chain (IsStep a.access.frame a.access.by c.access.seen) x y xs =
+    rw seen_is (chain-weaker (IsStep a.access.frame a.access.by b.access.seen) (IsStep a.access.frame a.access.by (b.access.seen ++ q.access.gained)) x y xs (step-more a.access.frame a.access.by b.access.seen q.access.gained) p.served) in
+    let second : Chain (IsStep a.access.frame a.access.by c.access.seen) y z ys = rw (by_is, frame_is) at q.served in
     record {
       clock = q.clock ∙ rw (p.clock, told-told, flat_map-append) refl;
       notes = rw flat_map-append (tells-append a.notes b.notes c.notes (turns_of xs) (turns_of ys) p.notes q.notes);
-      access = rw (flat_map-append, flat_map-append) (advances-append a.access b.access c.access (turns_of xs) (turns_of ys) (made_in xs) (made_in ys) p.access q.access);
-      served = All-append (IsStep a.access.frame a.access.by c.access.seen) xs ys first second;
+      access = rw (flat_map-append, flat_map-append, sum_by-append, sum_by-append) (advances-append a.access b.access c.access (turns_of xs) (turns_of ys) (made_in xs) (made_in ys) (snapshots_in xs) (snapshots_in ys) (ticks_in xs) (ticks_in ys) p.access q.access);
+      served = chain-append (IsStep a.access.frame a.access.by c.access.seen) x y z xs ys first second;
     }

@@ -10,6 +10,7 @@ use Rattle.session.specs.Arrival.{ReaderView, unheard}
 use Rattle.session.specs.Ended.{Runs, Converses, Rests, IsSent, SpendsIdles, WasOpenAt, NeedsNoRead, ended_link}
 use Rattle.session.specs.Run.{World, world, moved, sent_in}
 use Rattle.session.specs.Served.{Event, Step}
+use Rattle.session.specs.State.{State}
 use Rattle.session.specs.declared.end.End.{End}
 use Rattle.session.specs.declared.end.End.TheVariants as e
 use Rattle.session.proofs.JoinLemmas.{hears-append, idles-append, works-append}
@@ -32,8 +33,8 @@ bytes-append r x h s y g t p q =
 link_stays : (a b : LinkView) (given sent : List ℕ) (idled : ℕ) → b ≡ moved a given sent idled → b.ended ≡ false → a.ended ≡ false
 link_stays a b given sent idled is still = sym (ap (λ (l : LinkView). l.ended) is) ∙ still
 
-pub runs-append : (limits : Limits) (place : ℕ) (a b c : World) (r s t : ReaderView) (x y z : ℕ) (p : Runs limits place a b r s x y) → Runs limits (place + length p.heard) b c s t y z → Runs limits place a c r t x z
-runs-append limits place a b c r s t x y z p q =
+pub runs-append : (limits : Limits) (place : ℕ) (a b c : World) (u v w : State) (r s t : ReaderView) (x y z : ℕ) (p : Runs limits place a b u v r s x y) → Runs limits (place + length p.heard) b c v w s t y z → Runs limits place a c u w r t x z
+runs-append limits place a b c u v w r s t x y z p q =
     let first = p.idles in
     let second = q.idles in
     let far : place + length p.heard + length q.heard ≡ place + length (p.heard ++ q.heard) = omega (arith, length-append p.heard q.heard) in
@@ -43,7 +44,7 @@ runs-append limits place a b c r s t x y z p q =
       given = p.given ++ q.given;
       idled = p.idled + q.idled;
       link = q.link ∙ rw (p.link, moved-moved, flat_map-append) refl;
-      works = works-append a b c p.steps q.steps p.works q.works;
+      works = works-append a b c u v w p.steps q.steps p.works q.works;
       bytes = bytes-append (unheard r) p.given p.heard (unheard s) q.given q.heard (unheard t) p.bytes q.bytes;
       hears = rw map-append (hears-append limits r.framer.greeted s.framer.greeted t.framer.greeted place p.heard q.heard (events p.steps) (events q.steps) p.hears q.hears);
       limits_same = q.limits_same;
@@ -112,10 +113,11 @@ sent_is [] = refl
 sent_is (s ∷ steps) = ap (λ l. s.deed.sent ++ l) (sent_is steps)
 
 -- steps and then an end
-pub runs-converses : (limits : Limits) (place : ℕ) (a b c : World) (r s : ReaderView) (x y : ℕ) (end : End) (p : Runs limits place a b r s x y) → Converses limits (place + length p.heard) b c s y end → Converses limits place a c r x end
-runs-converses limits place a b c r s x y end p q =
+pub runs-converses : (limits : Limits) (place : ℕ) (a b c : World) (u v : State) (r s : ReaderView) (x y : ℕ) (end : End) (p : Runs limits place a b u v r s x y) → Converses limits (place + length p.heard) b c v s y end → Converses limits place a c u r x end
+runs-converses limits place a b c u v r s x y end p q =
     let far : place + length p.heard + length q.heard ≡ place + length (p.heard ++ q.heard) = omega (arith, length-append p.heard q.heard) in
     record {
+      after = q.after;
       steps = p.steps ++ q.steps;
       heard = p.heard ++ q.heard;
       rest = q.rest;
@@ -123,8 +125,9 @@ runs-converses limits place a b c r s x y end p q =
       written = sent_in p.steps ++ q.written;
       idled = p.idled + q.idled;
       greeted = q.greeted;
+      input = q.input;
       link = q.link ∙ ap (λ l. ended_link end (moved l q.given q.written q.idled)) p.link ∙ ended-moved end a.link p.given (sent_in p.steps) p.idled q.given q.written q.idled;
-      works = works-append a b c p.steps q.steps p.works q.works;
+      works = works-append a b c u v q.after p.steps q.steps p.works q.works;
       bytes = bytes-append (unheard r) p.given p.heard (unheard s) q.given q.heard q.rest p.bytes q.bytes;
       hears = rw map-append (hears-append limits r.framer.greeted s.framer.greeted q.greeted place p.heard q.heard (events p.steps) (events q.steps) p.hears q.hears);
       rests = subst (λ n. Rests end limits q.greeted n q.rest) far q.rests;
@@ -140,8 +143,8 @@ runs-converses limits place a b c r s x y end p q =
     opened-append (inr still) other = inr (open_at end a.link still)
 
 -- nothing was done yet
-pub runs_none : (limits : Limits) (place : ℕ) (l : LinkView) (k : Option (List ℤ)) (n : Option (List Turn)) (a : AccessView) (r : ReaderView) (left : ℕ) → r.framer.limits ≡ limits → r.framer.place ≡ told_place place → 0 < left → Runs limits place (world l k n a) (world l k n a) r r left left
-runs_none limits place l k n a r left same at some =
+pub runs_none : (limits : Limits) (place : ℕ) (l : LinkView) (k : Option (List ℤ)) (n : Option (List Turn)) (a : AccessView) (u : State) (r : ReaderView) (left : ℕ) → r.framer.limits ≡ limits → r.framer.place ≡ told_place place → 0 < left → Runs limits place (world l k n a) (world l k n a) u u r r left left
+runs_none limits place l k n a u r left same at some =
     let z : place ≡ place + 0 = omega arith in
     record {
       steps = [];
@@ -149,7 +152,7 @@ runs_none limits place l k n a r left same at some =
       given = [];
       idled = 0;
       link = sym (moved-none l);
-      works = works-none l l k n a;
+      works = works-none l l k n a u;
       bytes = append-nil (unheard r);
       hears = (refl, refl);
       limits_same = same;
@@ -161,12 +164,12 @@ runs_none limits place l k n a r left same at some =
     }
 
 -- the limits of the access stay
-pub same_frame : (limits : Limits) (place : ℕ) (a b : World) (r s : ReaderView) (x y : ℕ) → Runs limits place a b r s x y → a.access.frame.limits ≡ limits → b.access.frame.limits ≡ limits
-same_frame limits place a b r s x y p same = ap (λ (v : AccessView). v.frame.limits) p.works.access.after ∙ same
+pub same_frame : (limits : Limits) (place : ℕ) (a b : World) (u v : State) (r s : ReaderView) (x y : ℕ) → Runs limits place a b u v r s x y → a.access.frame.limits ≡ limits → b.access.frame.limits ≡ limits
+same_frame limits place a b u v r s x y p same = ap (λ (v : AccessView). v.frame.limits) p.works.access.after ∙ same
 
 -- steps, and what comes next
-pub goes_on : (limits : Limits) (place : ℕ) (a b c : World) (r s t : ReaderView) (x y z : ℕ) → Runs limits place a b r s x y → ((q : ℕ) → s.framer.place ≡ told_place q → Runs limits q b c s t y z) → Runs limits place a c r t x z
-goes_on limits place a b c r s t x y z p next = runs-append limits place a b c r s t x y z p (next (place + length p.heard) p.placed)
+pub goes_on : (limits : Limits) (place : ℕ) (a b c : World) (u v w : State) (r s t : ReaderView) (x y z : ℕ) → Runs limits place a b u v r s x y → ((q : ℕ) → s.framer.place ≡ told_place q → Runs limits q b c v w s t y z) → Runs limits place a c u w r t x z
+goes_on limits place a b c u v w r s t x y z p next = runs-append limits place a b c u v w r s t x y z p (next (place + length p.heard) p.placed)
 
-pub goes_to_end : (limits : Limits) (place : ℕ) (a b c : World) (r s : ReaderView) (x y : ℕ) (end : End) → Runs limits place a b r s x y → ((q : ℕ) → s.framer.place ≡ told_place q → Converses limits q b c s y end) → Converses limits place a c r x end
-goes_to_end limits place a b c r s x y end p next = runs-converses limits place a b c r s x y end p (next (place + length p.heard) p.placed)
+pub goes_to_end : (limits : Limits) (place : ℕ) (a b c : World) (u v : State) (r s : ReaderView) (x y : ℕ) (end : End) → Runs limits place a b u v r s x y → ((q : ℕ) → s.framer.place ≡ told_place q → Converses limits q b c v s y end) → Converses limits place a c u r x end
+goes_to_end limits place a b c u v r s x y end p next = runs-converses limits place a b c u v r s x y end p (next (place + length p.heard) p.placed)

@@ -1,6 +1,5 @@
 -- What serving a request gives.
 use Rattle.std.proofs.Common.{◌≡◌, ◌≤◌, ◌<◌, ◌+◌, ℕ, ℤ, Bool, true, false, if◌then◌else◌, List, [], ◌∷◌, ◌++◌, length, refl, sym, ap, subst, ◌∙◌, arith, append_assoc, Option, Some, None, codes, inl, inr}
-use Rattle.std.specs.List.{count_by}
 use Rattle.std.proofs.lemmas.List.{append-nil, length-append}
 use Rattle.day_rows.specs.declared.entry.Entry.{Entry}
 use Rattle.day_rows.specs.declared.entry.Entry.TheVariants as e
@@ -23,13 +22,14 @@ use Rattle.q_values.specs.declared.limits.Limits.{Limits}
 use Rattle.q_values.specs.declared.turn.Turn.{Turn}
 use Rattle.q_values.specs.declared.turn.Turn.TheVariants as t
 use Rattle.session.specs.Answering.{Does, ServesValue, FindsTable, AnswersRefusal, turns_by, roll_turn, sent_by, deed_of}
-use Rattle.session.specs.Lawful.{AllGoOn, last_length, is_answered, is_quiet}
+use Rattle.session.specs.Lawful.{AllGoOn, last_length}
 use Rattle.session.specs.Replies.{reply_bytes}
 use Rattle.session.specs.Replies as replies
 use Rattle.session.specs.Reply.{response, reply, replied, refusal_text}
 use Rattle.session.specs.Request.{Request, update, mistyped, text, other}
 use Rattle.session.specs.Run.{Advances, advanced}
 use Rattle.session.specs.Served.{Deed, IsUnserved, ServesText, ServesIdle, entry_turns}
+use Rattle.session.specs.State.{State}
 use Rattle.session.specs.declared.answer.Answer.{Answer}
 use Rattle.session.specs.declared.reply.Reply.{Reply}
 use Rattle.session.proofs.GoingLemmas.{advances, just}
@@ -41,12 +41,10 @@ record Tells (n : ℕ) (now : ℤ) (entries : List Entry) (turns : List Turn) : 
   noted : turns ≡ entry_turns n now entries
   each : AllGoOn just n turns
   last : last_length n turns ≡ n + length entries
-  answered : count_by is_answered turns ≤ 0
-  quiet : count_by is_quiet turns ≤ 0
 
 logged_turns : (n : ℕ) (now : ℤ) (entries : List Entry) (rolled : Option ℕ) (place : ℕ) → AreAt n entries rolled place → Tells n now entries (turns_by (roll_turn rolled now) (t.Logged place now))
 logged_turns n now [] rolled place at = absurd at
-logged_turns n now (e.Upd by table columns ∷ []) None place at = record { noted = rw at refl; each = (sym at, tt); last = rw at refl; answered = omega arith; quiet = omega arith }
+logged_turns n now (e.Upd by table columns ∷ []) None place at = record { noted = rw at refl; each = (sym at, tt); last = rw at refl }
 logged_turns n now (e.Upd by table columns ∷ []) (Some rolled) place at = absurd at
 logged_turns n now (e.Upd by table columns ∷ x ∷ entries) rolled place at = absurd at
 logged_turns n now (e.Fault by ∷ entries) rolled place at = absurd at
@@ -56,7 +54,7 @@ logged_turns n now (e.Roll by date ∷ e.Fault by' ∷ entries) rolled place at 
 logged_turns n now (e.Roll by date ∷ e.Upd by' table columns ∷ x ∷ entries) rolled place at = absurd at
 logged_turns n now (e.Roll by date ∷ e.Upd by' table columns ∷ []) None place at = absurd at
 logged_turns n now (e.Roll by date ∷ e.Upd by' table columns ∷ []) (Some rolled) place at =
-    record { noted = rw (at.0, at.1) refl; each = (sym at.0, (rw at.0 (sym at.1), tt)); last = rw at.1 (omega arith); answered = omega arith; quiet = omega arith }
+    record { noted = rw (at.0, at.1) refl; each = (sym at.0, (rw at.0 (sym at.1), tt)); last = rw at.1 (omega arith) }
 
 pub does_logged : (a b : AccessView) (k k' : Option (List ℤ)) (limits : Limits) (sync : Bool) (table : List ℕ) (items : List Tree) (now : ℤ) (rolled : Option ℕ) (place : ℕ) (answer : Answer)
     → a.frame.limits ≡ limits
@@ -76,8 +74,10 @@ does_logged a b k k' limits sync table items now rolled place answer same read l
     record {
       readings = now ∷ [];
       made = l.entries;
+      asked = 0;
+      ticked = 0;
       clock = read;
-      access = advances a b l.others l.entries (turns_by answer.roll answer.turn) 0 0 l.saw after each last (rw turns tells.answered) (rw turns tells.quiet);
+      access = advances a b l.others l.entries (turns_by answer.roll answer.turn) 0 0 l.saw after each last;
       done = inl (inl (record {
         front = a.seen ++ l.others;
         now = now;
@@ -86,20 +86,19 @@ does_logged a b k k' limits sync table items now rolled place answer same read l
         noted = turns ∙ tells.noted;
         answered = rw same answered;
         read = refl;
+        unasked = (refl, refl);
       }));
     }
 
 -- an access that made nothing, whose turns tell its length or nothing
-pub record Idles (n : ℕ) (turns : List Turn) (asked ticked : ℕ) : Type 0 where
+pub record Idles (n : ℕ) (turns : List Turn) : Type 0 where
   pub each : AllGoOn just n turns
   pub last : last_length n turns ≡ n
-  pub answered : count_by is_answered turns ≤ asked
-  pub quiet : count_by is_quiet turns ≤ ticked
 
-pub advances_idle : (a b : AccessView) (others : List Entry) (turns : List Turn) (asked ticked : ℕ) → SeesMore a others → b ≡ advanced a others [] asked ticked → Idles (length (a.seen ++ others)) turns asked ticked → Advances a b turns []
+pub advances_idle : (a b : AccessView) (others : List Entry) (turns : List Turn) (asked ticked : ℕ) → SeesMore a others → b ≡ advanced a others [] asked ticked → Idles (length (a.seen ++ others)) turns → Advances a b turns [] asked ticked
 advances_idle a b others turns asked ticked saw after rests =
     let none : (a.seen ++ others) ++ [] ≡ a.seen ++ others = append-nil (a.seen ++ others) in
-    advances a b others [] turns asked ticked saw (after ∙ ap (λ o. advanced a o [] asked ticked) (sym (append-nil others))) rests.each (rests.last ∙ ap length (sym none)) rests.answered rests.quiet
+    advances a b others [] turns asked ticked saw (after ∙ ap (λ o. advanced a o [] asked ticked) (sym (append-nil others))) rests.each (rests.last ∙ ap length (sym none))
 
 -- what refusing leaves
 refuses_after : (a b : AccessView) (table : List ℕ) (items : List Tree) (now : ℤ) (count : ℕ) (why : UpdRefusal) (l : Looks a b table items now count why) → b ≡ advanced a l.others [] 0 0
@@ -126,9 +125,11 @@ does_refused a b k k' limits sync table items now count why answer same read l (
     record {
       readings = now ∷ [];
       made = [];
+      asked = 0;
+      ticked = 0;
       clock = read;
       access = advances_idle a b l.others (turns_by answer.roll answer.turn) 0 0 l.saw (refuses_after a b table items now count why l)
-          (rw turns (record { each = (sym l.length, tt); last = l.length; answered = omega arith; quiet = omega arith }));
+          (rw turns (record { each = (sym l.length, tt); last = l.length }));
       done = inl (inr (record {
         count = count;
         front = a.seen ++ l.others;
@@ -140,6 +141,7 @@ does_refused a b k k' limits sync table items now count why answer same read l (
         answered = r.reply ∙ ap (λ bytes. replied sync bytes) (is.1 ∙ ap (λ (m : Limits). reply m (wrong (refusal_text why))) (sym same));
         read = refl;
         unmade = refl;
+        unasked = (refl, refl);
       }));
     }
 does_refused a b k k' limits sync table items now count why answer same read l (inr r) =
@@ -147,45 +149,49 @@ does_refused a b k k' limits sync table items now count why answer same read l (
     record {
       readings = now ∷ [];
       made = [];
+      asked = 0;
+      ticked = 0;
       clock = read;
       access = advances_idle a b l.others (turns_by answer.roll answer.turn) 0 0 l.saw (refuses_after a b table items now count why l)
-          (rw turns (record { each = (tt, tt); last = refl; answered = omega arith; quiet = omega arith }));
-      done = inr (record { noted = turns; answered = r.reply; read = omega arith; unmade = refl });
+          (rw turns (record { each = (tt, tt); last = refl }));
+      done = inr (record { noted = turns; answered = r.reply; read = omega arith; unticked = refl; unmade = refl });
     }
 
 -- nothing was asked of the access
-pub does_nothing : (a : AccessView) (k : Option (List ℤ)) (Done : Deed → Type 0) (answer : Answer) (turn : Turn) → answer.roll ≡ None → answer.turn ≡ turn → Idles (length (a.seen ++ [])) (turn ∷ []) 0 0 → Done (deed_of answer [] []) → Does Done k k a a answer
+pub does_nothing : (a : AccessView) (k : Option (List ℤ)) (Done : Deed → Type 0) (answer : Answer) (turn : Turn) → answer.roll ≡ None → answer.turn ≡ turn → Idles (length (a.seen ++ [])) (turn ∷ []) → Done (deed_of answer [] [] 0 0) → Does Done k k a a answer
 does_nothing a k Done answer turn roll is idles done =
     let turns : turns_by answer.roll answer.turn ≡ turn ∷ [] = rw (roll, is) refl in
     record {
       readings = [];
       made = [];
+      asked = 0;
+      ticked = 0;
       clock = sym (told-nil k);
       access = advances_idle a a [] (turns_by answer.roll answer.turn) 0 0 (record { alone = λ _. refl }) (rw (append-nil a.seen, append-nil a.mine) refl) (rw turns idles);
       done = done;
     }
 
 -- a turn that reports no length
-pub tells_declined : (n : ℕ) → Idles n (t.Declined ∷ []) 0 0
-tells_declined n = record { each = (tt, tt); last = refl; answered = omega arith; quiet = omega arith }
+pub tells_declined : (n : ℕ) → Idles n (t.Declined ∷ [])
+tells_declined n = record { each = (tt, tt); last = refl }
 
-pub tells_passed : (n : ℕ) → Idles n (t.Passed ∷ []) 0 0
-tells_passed n = record { each = (tt, tt); last = refl; answered = omega arith; quiet = omega arith }
+pub tells_passed : (n : ℕ) → Idles n (t.Passed ∷ [])
+tells_passed n = record { each = (tt, tt); last = refl }
 
-pub tells_short : (n asked ticked : ℕ) → Idles n (t.Short ∷ []) asked ticked
-tells_short n asked ticked = record { each = (tt, tt); last = refl; answered = omega arith; quiet = omega arith }
+pub tells_short : (n : ℕ) → Idles n (t.Short ∷ [])
+tells_short n = record { each = (tt, tt); last = refl }
 
 abbrev pub unserved_turn : Bool → Turn
 unserved_turn sync = if sync then t.Declined else t.Passed
 
-pub tells_unserved : (n : ℕ) (sync : Bool) → Idles n (unserved_turn sync ∷ []) 0 0
+pub tells_unserved : (n : ℕ) (sync : Bool) → Idles n (unserved_turn sync ∷ [])
 tells_unserved n true = tells_declined n
 tells_unserved n false = tells_passed n
 
 -- what isn't served
-pub unserved_deed : (frame : Frame) (limits : Limits) (sync : Bool) (answer : Answer) → frame.limits ≡ limits → answer.roll ≡ None → answer.turn ≡ unserved_turn sync → sent_by answer.reply ≡ replied sync (reply limits (wrong (codes "nyi"))) → IsUnserved frame sync (deed_of answer [] [])
-unserved_deed frame limits true answer same roll turn answered = record { noted = rw (roll, turn) refl; answered = rw same answered; still = record { unread = refl; unmade = refl } }
-unserved_deed frame limits false answer same roll turn answered = record { noted = rw (roll, turn) refl; unanswered = answered; still = record { unread = refl; unmade = refl } }
+pub unserved_deed : (frame : Frame) (limits : Limits) (sync : Bool) (answer : Answer) → frame.limits ≡ limits → answer.roll ≡ None → answer.turn ≡ unserved_turn sync → sent_by answer.reply ≡ replied sync (reply limits (wrong (codes "nyi"))) → IsUnserved frame sync (deed_of answer [] [] 0 0)
+unserved_deed frame limits true answer same roll turn answered = record { noted = rw (roll, turn) refl; answered = rw same answered; still = record { unread = refl; unmade = refl; unasked = (refl, refl) } }
+unserved_deed frame limits false answer same roll turn answered = record { noted = rw (roll, turn) refl; unanswered = answered; still = record { unread = refl; unmade = refl; unasked = (refl, refl) } }
 
 pub does_unserved : (a : AccessView) (k : Option (List ℤ)) (limits : Limits) (sync : Bool) (answer : Answer) → a.frame.limits ≡ limits → answer.roll ≡ None → answer.turn ≡ unserved_turn sync → sent_by answer.reply ≡ replied sync (reply limits (wrong (codes "nyi"))) → Does (ServesValue a.frame a.by a.seen sync other) k k a a answer
 does_unserved a k limits sync answer same roll turn answered =
@@ -198,22 +204,22 @@ unknown_text frame seen false bytes deed none unserved = unserved
 
 pub does_unknown : (a : AccessView) (k : Option (List ℤ)) (limits : Limits) (sync : Bool) (bytes : List ℕ) (answer : Answer) → a.frame.limits ≡ limits → table_asked bytes 0 a.frame.schema ≡ None → answer.roll ≡ None → answer.turn ≡ unserved_turn sync → sent_by answer.reply ≡ replied sync (reply limits (wrong (codes "nyi"))) → Does (ServesValue a.frame a.by a.seen sync (text bytes)) k k a a answer
 does_unknown a k limits sync bytes answer same none roll turn answered =
-    does_nothing a k (ServesValue a.frame a.by a.seen sync (text bytes)) answer (unserved_turn sync) roll turn (tells_unserved _ sync) (inl (unknown_text a.frame a.seen sync bytes (deed_of answer [] []) none (unserved_deed a.frame limits sync answer same roll turn answered)))
+    does_nothing a k (ServesValue a.frame a.by a.seen sync (text bytes)) answer (unserved_turn sync) roll turn (tells_unserved _ sync) (inl (unknown_text a.frame a.seen sync bytes (deed_of answer [] [] 0 0) none (unserved_deed a.frame limits sync answer same roll turn answered)))
 
 -- an async text
 pub does_passed : (a : AccessView) (k : Option (List ℤ)) (limits : Limits) (bytes : List ℕ) (answer : Answer) → answer.roll ≡ None → answer.turn ≡ t.Passed → sent_by answer.reply ≡ [] → Does (ServesValue a.frame a.by a.seen false (text bytes)) k k a a answer
 does_passed a k limits bytes answer roll turn answered =
-    does_nothing a k (ServesValue a.frame a.by a.seen false (text bytes)) answer t.Passed roll turn (tells_passed _) (inl (record { noted = rw (roll, turn) refl; unanswered = answered; still = record { unread = refl; unmade = refl } }))
+    does_nothing a k (ServesValue a.frame a.by a.seen false (text bytes)) answer t.Passed roll turn (tells_passed _) (inl (record { noted = rw (roll, turn) refl; unanswered = answered; still = record { unread = refl; unmade = refl; unasked = (refl, refl) } }))
 
 -- an update whose parts are of wrong kinds
 pub does_mistyped : (a : AccessView) (k : Option (List ℤ)) (limits : Limits) (sync : Bool) (answer : Answer) → a.frame.limits ≡ limits → answer.roll ≡ None → answer.turn ≡ t.Declined → sent_by answer.reply ≡ replied sync (reply limits (wrong (codes "type"))) → Does (ServesValue a.frame a.by a.seen sync mistyped) k k a a answer
 does_mistyped a k limits sync answer same roll turn answered =
-    does_nothing a k (ServesValue a.frame a.by a.seen sync mistyped) answer t.Declined roll turn (tells_declined _) (inl (record { noted = rw (roll, turn) refl; answered = rw same answered; still = record { unread = refl; unmade = refl } }))
+    does_nothing a k (ServesValue a.frame a.by a.seen sync mistyped) answer t.Declined roll turn (tells_declined _) (inl (record { noted = rw (roll, turn) refl; answered = rw same answered; still = record { unread = refl; unmade = refl; unasked = (refl, refl) } }))
 
 -- the session was out of memory before it asked for anything
 pub does_short : (a : AccessView) (k : Option (List ℤ)) (sync : Bool) (request : Request) (answer : Answer) → answer.roll ≡ None → answer.turn ≡ t.Short → sent_by answer.reply ≡ replied sync (response (wrong (codes "wsfull"))) → Does (ServesValue a.frame a.by a.seen sync request) k k a a answer
 does_short a k sync request answer roll turn answered =
-    does_nothing a k (ServesValue a.frame a.by a.seen sync request) answer t.Short roll turn (tells_short _ 0 0) (inr (record { noted = rw (roll, turn) refl; answered = answered; read = omega arith; unmade = refl }))
+    does_nothing a k (ServesValue a.frame a.by a.seen sync request) answer t.Short roll turn (tells_short _) (inr (record { noted = rw (roll, turn) refl; answered = answered; read = omega arith; unticked = refl; unmade = refl }))
 
 -- what asking for a snapshot leaves
 asks_after : (a b : AccessView) (l : Asks a b) → b ≡ advanced a l.others [] 1 0
@@ -231,8 +237,10 @@ does_answered a b k limits bytes shape place answer same l found roll turn answe
     record {
       readings = [];
       made = [];
+      asked = 1;
+      ticked = 0;
       clock = sym (told-nil k);
-      access = advances_idle a b l.others (turns_by answer.roll answer.turn) 1 0 l.saw (asks_after a b l) (rw turns (record { each = (sym size, tt); last = size; answered = omega arith; quiet = omega arith }));
+      access = advances_idle a b l.others (turns_by answer.roll answer.turn) 1 0 l.saw (asks_after a b l) (rw turns (record { each = (sym size, tt); last = size }));
       done = inl (inl (record {
         count = length b.seen;
         front = b.seen;
@@ -241,7 +249,9 @@ does_answered a b k limits bytes shape place answer same l found roll turn answe
         known = rw found refl;
         noted = turns;
         answered = rw same answered;
-        still = record { unread = refl; unmade = refl };
+        unread = refl;
+        unmade = refl;
+        asked = (refl, refl);
       }));
     }
 
@@ -251,46 +261,64 @@ does_short_text a b k request answer l roll turn answered =
     record {
       readings = [];
       made = [];
+      asked = 1;
+      ticked = 0;
       clock = sym (told-nil k);
-      access = advances_idle a b l.others (turns_by answer.roll answer.turn) 1 0 l.saw (asks_after a b l) (rw turns (tells_short (length (a.seen ++ l.others)) 1 0));
-      done = inr (record { noted = turns; answered = answered; read = omega arith; unmade = refl });
+      access = advances_idle a b l.others (turns_by answer.roll answer.turn) 1 0 l.saw (asks_after a b l) (rw turns (tells_short (length (a.seen ++ l.others))));
+      done = inr (record { noted = turns; answered = answered; read = omega arith; unticked = refl; unmade = refl });
     }
 
 -- what a read timeout leaves
 idle_after : (a b : AccessView) (others : List Entry) → b ≡ record a { seen = a.seen ++ others; ticks = next_count a.ticks } → b ≡ advanced a others [] 0 1
 idle_after a b others after = after ∙ ap (λ m. record a { seen = a.seen ++ others; mine = m; ticks = next_count a.ticks }) (sym (append-nil a.mine))
 
-pub does_quiet : (a b : AccessView) (k k' : Option (List ℤ)) (now : ℤ) (count : ℕ) (answer : Answer) → k' ≡ told k (now ∷ []) → Waits a b now count → answer.roll ≡ None → answer.turn ≡ t.Quiet count now → sent_by answer.reply ≡ [] → Does (ServesIdle a.frame a.by b.seen) k k' a b answer
-does_quiet a b k k' now count answer read l roll turn unsent =
+pub does_quiet : (a b : AccessView) (before : State) (k k' : Option (List ℤ)) (now : ℤ) (count : ℕ) (answer : Answer) → k' ≡ told k (now ∷ []) → Waits a b now count → answer.roll ≡ None → answer.turn ≡ t.Quiet count now → sent_by answer.reply ≡ [] → Does (ServesIdle a.frame a.by b.seen before) k k' a b answer
+does_quiet a b before k k' now count answer read l roll turn unsent =
     let turns : turns_by answer.roll answer.turn ≡ t.Quiet count now ∷ [] = rw (roll, turn) refl in
     let seen : b.seen ≡ a.seen ++ l.others = ap (λ (v : AccessView). v.seen) l.after in
     record {
       readings = now ∷ [];
       made = [];
+      asked = 0;
+      ticked = 1;
       clock = read;
-      access = advances_idle a b l.others (turns_by answer.roll answer.turn) 0 1 l.saw (idle_after a b l.others l.after) (rw turns (record { each = (sym l.length, tt); last = l.length; answered = omega arith; quiet = omega arith }));
+      access = advances_idle a b l.others (turns_by answer.roll answer.turn) 0 1 l.saw (idle_after a b l.others l.after) (rw turns (record { each = (sym l.length, tt); last = l.length }));
       done = record {
         unsent = unsent;
-        done = inl (record { count = count; front = a.seen ++ l.others; is_front = record { count = l.length; more = []; whole = seen ∙ sym (append-nil (a.seen ++ l.others)) }; now = now; same = l.early; noted = turns; read = refl; unmade = refl });
+        done = inl (record { count = count; front = a.seen ++ l.others; is_front = record { count = l.length; more = []; whole = seen ∙ sym (append-nil (a.seen ++ l.others)) }; now = now; same = l.early; noted = turns; read = refl; unmade = refl; asked = (refl, refl) });
       };
     }
 
-pub does_short_idle : (a b : AccessView) (k k' : Option (List ℤ)) (now : ℤ) (answer : Answer) → k' ≡ told k (now ∷ []) → Wants a b now → answer.roll ≡ None → answer.turn ≡ t.Short → sent_by answer.reply ≡ [] → Does (ServesIdle a.frame a.by b.seen) k k' a b answer
-does_short_idle a b k k' now answer read l roll turn unsent =
+pub does_short_idle : (a b : AccessView) (before : State) (k k' : Option (List ℤ)) (now : ℤ) (answer : Answer) → before.known ≡ length a.seen → k' ≡ told k (now ∷ []) → Wants a b now → answer.roll ≡ None → answer.turn ≡ t.Short → sent_by answer.reply ≡ [] → Does (ServesIdle a.frame a.by b.seen before) k k' a b answer
+does_short_idle a b before k k' now answer knows read l roll turn unsent =
     let turns : turns_by answer.roll answer.turn ≡ t.Short ∷ [] = rw (roll, turn) refl in
+    let seen : b.seen ≡ a.seen ++ l.others = ap (λ (v : AccessView). v.seen) l.after in
     record {
       readings = now ∷ [];
       made = [];
+      asked = 0;
+      ticked = 1;
       clock = read;
-      access = advances_idle a b l.others (turns_by answer.roll answer.turn) 0 1 l.saw (idle_after a b l.others l.after) (rw turns (tells_short (length (a.seen ++ l.others)) 0 1));
+      access = advances_idle a b l.others (turns_by answer.roll answer.turn) 0 1 l.saw (idle_after a b l.others l.after) (rw turns (tells_short (length (a.seen ++ l.others))));
       done = record {
         unsent = unsent;
-        done = inr (inr (record { now = now; noted = turns; read = refl; unmade = refl }));
+        done = inr (inr (record {
+          count = length (a.seen ++ l.others);
+          front = a.seen ++ l.others;
+          is_front = record { count = refl; more = []; whole = seen ∙ sym (append-nil (a.seen ++ l.others)) };
+          known = omega (arith, knows, length-append a.seen l.others);
+          now = now;
+          next = l.due;
+          noted = turns;
+          read = refl;
+          unmade = refl;
+          asked = (refl, refl);
+        }));
       };
     }
 
-pub does_rolled : (a b : AccessView) (k k' : Option (List ℤ)) (now : ℤ) (place : ℕ) (answer : Answer) → k' ≡ told k (now ∷ []) → Rolls a b now place → answer.roll ≡ None → answer.turn ≡ t.Rolled place now → sent_by answer.reply ≡ [] → Does (ServesIdle a.frame a.by b.seen) k k' a b answer
-does_rolled a b k k' now place answer read l roll turn unsent =
+pub does_rolled : (a b : AccessView) (before : State) (k k' : Option (List ℤ)) (now : ℤ) (place : ℕ) (answer : Answer) → k' ≡ told k (now ∷ []) → Rolls a b now place → answer.roll ≡ None → answer.turn ≡ t.Rolled place now → sent_by answer.reply ≡ [] → Does (ServesIdle a.frame a.by b.seen before) k k' a b answer
+does_rolled a b before k k' now place answer read l roll turn unsent =
     let n = length (a.seen ++ l.others) in
     let entry = next_roll a.frame.first (a.seen ++ l.others) a.by in
     let turns : turns_by answer.roll answer.turn ≡ t.Rolled n now ∷ [] = rw (roll, turn, l.at_end) refl in
@@ -302,8 +330,10 @@ does_rolled a b k k' now place answer read l roll turn unsent =
     record {
       readings = now ∷ [];
       made = entry ∷ [];
+      asked = 0;
+      ticked = 1;
       clock = read;
-      access = advances a b l.others (entry ∷ []) (turns_by answer.roll answer.turn) 0 1 l.saw after each last (rw turns (omega arith)) (rw turns (omega arith));
+      access = advances a b l.others (entry ∷ []) (turns_by answer.roll answer.turn) 0 1 l.saw after each last;
       done = record {
         unsent = unsent;
         done = inr (inl (record {
@@ -314,6 +344,7 @@ does_rolled a b k k' now place answer read l roll turn unsent =
           stands = record { more = []; whole = seen ∙ sym (append-nil ((a.seen ++ l.others) ++ entry ∷ [])) };
           noted = turns;
           read = refl;
+          asked = (refl, refl);
         }));
       };
     }

@@ -3,9 +3,8 @@ use Rattle.std.proofs.Common.{◌≡◌, ◌<◌, ◌+◌, ℕ, ℤ, Bool, true,
 use Rattle.std.specs.Option.{MatchOption}
 use Rattle.std.proofs.lemmas.List.{append-nil, length-append}
 use Rattle.std.specs.Prelude.{IsTrue, ◌↔◌}
-use Rattle.std.proofs.lemmas.List.Elements.{All-nil, All-cons}
 use Rattle.outside_api.specs.Counts.{counted}
-use Rattle.outside_api.specs.Link.{LinkView}
+use Rattle.outside_api.specs.Link.{LinkView, HasGivenAll}
 use Rattle.outside_api.specs.Told.{told, Tells}
 use Rattle.plant_core.specs.Access.{AccessView}
 use Rattle.ipc_frame.specs.Framing.{IsNeeded}
@@ -21,63 +20,71 @@ use Rattle.session.specs.Arrival.{ReaderView, Gathers, Waits, HoldsFault, heard_
 use Rattle.session.specs.Ended.{Runs, Converses, Goes, IsBad}
 use Rattle.session.specs.Heard.{Hears, idles_heard}
 use Rattle.session.specs.Run.{World, world, Works, Advances, moved}
+use Rattle.session.specs.Lawful.{AreLengths}
 use Rattle.session.specs.Served.{Event, idled, Step, Serves, IsStep}
+use Rattle.session.specs.State.{State, Chain}
 use Rattle.session.specs.declared.end.End.{End}
 use Rattle.session.specs.declared.end.End.TheVariants as e
 use Rattle.session.proofs.ToldLemmas.{told-nil, moved-none}
 
 -- nothing was done
-pub advances-none : (a : AccessView) → Advances a a [] []
+pub advances-none : (a : AccessView) → Advances a a [] [] 0 0
 advances-none a = record {
   gained = [];
-  asked = 0;
-  ticked = 0;
   after = rw (append-nil a.seen, append-nil a.mine) refl;
   lengths = record { rising = tt; within = omega arith };
   alone = λ _. record { each = tt; last = refl };
-  answered = omega arith;
-  quiet = omega arith;
 }
 
 pub tells-none : {X : Type 0} (o : Option (List X)) → Tells o o []
 tells-none o all e = told-nil o ∙ e
 
-pub works-none : (link link' : LinkView) (k : Option (List ℤ)) (n : Option (List Turn)) (a : AccessView) → Works (world link k n a) (world link' k n a) []
-works-none link link' k n a = record {
+pub works-none : (link link' : LinkView) (k : Option (List ℤ)) (n : Option (List Turn)) (a : AccessView) (x : State) → Works (world link k n a) (world link' k n a) x x []
+works-none link link' k n a x = record {
   clock = sym (told-nil k);
   notes = tells-none n;
   access = advances-none a;
-  served = All-nil (IsStep a.frame a.by a.seen);
+  served = refl;
 }
 
 -- what one step does
-pub works-one : (a b : World) (s : Step) → b.clock ≡ told a.clock s.deed.readings → Tells a.notes b.notes s.deed.turns → Advances a.access b.access s.deed.turns s.deed.made → Serves a.access.frame a.access.by b.access.seen s.event s.deed → Works a b (s ∷ [])
-works-one a b s clock notes access serves = record {
+pub works-one : (a b : World) (x y : State) (s : Step) → x.known ≡ length a.access.seen → y.known ≡ length b.access.seen
+    → b.clock ≡ told a.clock s.deed.readings → Tells a.notes b.notes s.deed.turns → Advances a.access b.access s.deed.turns s.deed.made s.deed.snapshots s.deed.ticks
+    → Serves a.access.frame a.access.by b.access.seen x s.event s.deed
+    → Works a b x y (s ∷ [])
+works-one a b x y s before after clock notes access serves = record {
   clock = clock ∙ rw (append-nil s.deed.readings) refl;
   notes = rw (append-nil s.deed.turns) notes;
-  access = rw (append-nil s.deed.turns, append-nil s.deed.made) access;
-  served = All-cons (IsStep a.access.frame a.access.by b.access.seen) s [] serves (All-nil (IsStep a.access.frame a.access.by b.access.seen));
+  access = rw (append-nil s.deed.turns, append-nil s.deed.made, alone s.deed.snapshots, alone s.deed.ticks) access;
+  served = (y, record { served = serves; lengths = within }, refl);
 }
+  where
+    alone : (n : ℕ) → 0 + n ≡ n
+    alone n = omega arith
+
+    within : AreLengths x.known y.known s.deed.turns
+    within = rw (before, after) access.lengths
 
 -- an offset after n bytes more is reported as the one before them was
 told_after : (p place n : ℕ) → p ≡ told_place place → told_place (p + n) ≡ told_place (place + n)
 told_after p place n e = omega arith
 
 -- what was held was heard, and served
-pub heard_step : (limits : Limits) (place : ℕ) (a b : World) (r s : ReaderView) (left : ℕ) (event : Event) (result : Option End)
+pub heard_step : (limits : Limits) (place : ℕ) (a b : World) (x y : State) (r s : ReaderView) (left : ℕ) (event : Event) (result : Option End)
+    → x.known ≡ length a.access.seen → y.known ≡ length b.access.seen
     → r.framer.limits ≡ limits → r.framer.place ≡ told_place place → 0 < left
     → s ≡ heard_by r
     → Hears limits r.framer.greeted place r.framer.held (event ∷ []) true
     → idles_heard (event ∷ []) ≡ 0
-    → Acts (Serves a.access.frame a.access.by b.access.seen event) a b result
-    → Goes limits place a b r s left left result
-heard_step limits place a b r s left event None same at some is hears none acts = record {
+    → Acts (Serves a.access.frame a.access.by b.access.seen x event) a b result
+    → Goes limits place a b x y r s left left result
+heard_step limits place a b x y r s left event None before after same at some is hears none acts = record {
   steps = record { event = event; deed = acts.deed } ∷ [];
   heard = r.framer.held;
   given = [];
   idled = 0;
   link = acts.link ∙ rw (told-nil a.link.given, append-nil acts.deed.sent) refl;
-  works = works-one a b (record { event = event; deed = acts.deed }) acts.clock acts.notes acts.access acts.done;
+  works = works-one a b x y (record { event = event; deed = acts.deed }) before after acts.clock acts.notes acts.access acts.done;
   bytes = append-nil (unheard r) ∙ ap (λ (v : ReaderView). r.framer.held ++ unheard v) (sym is);
   hears = subst (λ (v : ReaderView). Hears limits r.framer.greeted place r.framer.held (event ∷ []) v.framer.greeted) (sym is) hears;
   limits_same = ap (λ (v : ReaderView). v.framer.limits) is ∙ same;
@@ -87,9 +94,11 @@ heard_step limits place a b r s left event None same at some is hears none acts 
   some = some;
   opened = inl (refl, refl);
 }
-heard_step limits place a b r s left event (Some end) same at some is hears none acts =
+heard_step limits place a b x y r s left event (Some end) before after same at some is hears none acts =
     let f = acts.link in
-    subst (λ x. Converses limits place a b r left x) (sym f.0) (record {
+    subst (λ e. Converses limits place a b x r left e) (sym f.0) (record {
+      after = y;
+      input = tt;
       steps = record { event = event; deed = acts.deed } ∷ [];
       heard = r.framer.held;
       rest = r.pending;
@@ -98,7 +107,7 @@ heard_step limits place a b r s left event (Some end) same at some is hears none
       idled = 0;
       greeted = true;
       link = f.3 ∙ rw (told-nil a.link.given) refl;
-      works = works-one a b (record { event = event; deed = acts.deed }) acts.clock acts.notes acts.access acts.done;
+      works = works-one a b x y (record { event = event; deed = acts.deed }) before after acts.clock acts.notes acts.access acts.done;
       bytes = append-nil (unheard r);
       hears = hears;
       rests = refl;
@@ -113,8 +122,8 @@ opened_by l given (inl none) = inl (none, refl)
 opened_by l given (inr still) = inr still
 
 -- more was read or taken, and nothing heard
-pub more_step : (limits : Limits) (place : ℕ) (l l' : LinkView) (k : Option (List ℤ)) (n : Option (List Turn)) (a : AccessView) (r s : ReaderView) (left : ℕ) → r.framer.limits ≡ limits → r.framer.place ≡ told_place place → 0 < left → Gathers l l' r s → Runs limits place (world l k n a) (world l' k n a) r s left left
-more_step limits place l l' k n a r s left same at some g =
+pub more_step : (limits : Limits) (place : ℕ) (l l' : LinkView) (k : Option (List ℤ)) (n : Option (List Turn)) (a : AccessView) (x : State) (r s : ReaderView) (left : ℕ) → r.framer.limits ≡ limits → r.framer.place ≡ told_place place → 0 < left → Gathers l l' r s → Runs limits place (world l k n a) (world l' k n a) x x r s left left
+more_step limits place l l' k n a x r s left same at some g =
     let z : place ≡ place + 0 = omega arith in
     record {
       steps = [];
@@ -122,7 +131,7 @@ more_step limits place l l' k n a r s left same at some g =
       given = g.given;
       idled = 0;
       link = g.link;
-      works = works-none l l' k n a;
+      works = works-none l l' k n a x;
       bytes = g.bytes;
       hears = (refl, g.greeted);
       limits_same = g.limits ∙ same;
@@ -149,8 +158,8 @@ idle_link : (l : LinkView) (sent : List ℕ) → sent ≡ [] → record l { idle
 idle_link l sent none = rw (none, told-nil l.given, told-nil l.taken) refl
 
 -- a read timed out, and that was served
-pub idle_step : (limits : Limits) (place : ℕ) (l m l' : LinkView) (k k' : Option (List ℤ)) (n n' : Option (List Turn)) (a a' : AccessView) (r s : ReaderView) (left left' : ℕ) → r.framer.limits ≡ limits → r.framer.place ≡ told_place place → m ≡ record l { idles = counted l.idles 1 } → l.ended ≡ false → Waits r s → IdlesBy (world m k n a) (world l' k' n' a') → left ≡ left' + 1 → 0 < left' → Runs limits place (world l k n a) (world l' k' n' a') r s left left'
-idle_step limits place l m l' k k' n n' a a' r s left left' same at moved_on still w acts once some =
+pub idle_step : (limits : Limits) (place : ℕ) (l m l' : LinkView) (k k' : Option (List ℤ)) (n n' : Option (List Turn)) (a a' : AccessView) (x y : State) (r s : ReaderView) (left left' : ℕ) → x.known ≡ length a.seen → y.known ≡ length a'.seen → r.framer.limits ≡ limits → r.framer.place ≡ told_place place → m ≡ record l { idles = counted l.idles 1 } → l.ended ≡ false → Waits r s → IdlesBy x (world m k n a) (world l' k' n' a') → left ≡ left' + 1 → 0 < left' → Runs limits place (world l k n a) (world l' k' n' a') x y r s left left'
+idle_step limits place l m l' k k' n n' a a' x y r s left left' before after same at moved_on still w acts once some =
     let z : place ≡ place + 0 = omega arith in
     record {
       steps = record { event = idled; deed = acts.deed } ∷ [];
@@ -158,7 +167,7 @@ idle_step limits place l m l' k k' n n' a a' r s left left' same at moved_on sti
       given = [];
       idled = 1;
       link = acts.link ∙ moved_on ∙ idle_link l acts.deed.sent acts.done.unsent;
-      works = works-one (world l k n a) (world l' k' n' a') (record { event = idled; deed = acts.deed }) acts.clock acts.notes acts.access acts.done;
+      works = works-one (world l k n a) (world l' k' n' a') x y (record { event = idled; deed = acts.deed }) before after acts.clock acts.notes acts.access acts.done;
       bytes = append-nil (unheard r) ∙ ap unheard (sym w.same);
       hears = hears_idle limits r.framer.greeted s.framer.greeted place (ap (λ (v : ReaderView). v.framer.greeted) w.same);
       limits_same = ap (λ (v : ReaderView). v.framer.limits) w.same ∙ same;
@@ -170,9 +179,11 @@ idle_step limits place l m l' k k' n n' a a' r s left left' same at moved_on sti
     }
 
 -- the last read timeout
-pub idle_end : (limits : Limits) (place : ℕ) (l m l' : LinkView) (k k' : Option (List ℤ)) (n n' : Option (List Turn)) (a a' : AccessView) (r s : ReaderView) (left left' : ℕ) → r.framer.limits ≡ limits → m ≡ record l { idles = counted l.idles 1 } → l.ended ≡ false → Waits r s → IdlesBy (world m k n a) (world l' k' n' a') → left ≡ left' + 1 → left' ≡ 0 → Converses limits place (world l k n a) (world l' k' n' a') r left e.Idle
-idle_end limits place l m l' k k' n n' a a' r s left left' same moved_on still w acts once last =
+pub idle_end : (limits : Limits) (place : ℕ) (l m l' : LinkView) (k k' : Option (List ℤ)) (n n' : Option (List Turn)) (a a' : AccessView) (x y : State) (r s : ReaderView) (left left' : ℕ) → x.known ≡ length a.seen → y.known ≡ length a'.seen → r.framer.limits ≡ limits → m ≡ record l { idles = counted l.idles 1 } → l.ended ≡ false → Waits r s → IdlesBy x (world m k n a) (world l' k' n' a') → left ≡ left' + 1 → left' ≡ 0 → Converses limits place (world l k n a) (world l' k' n' a') x r left e.Idle
+idle_end limits place l m l' k k' n n' a a' x y r s left left' before after same moved_on still w acts once last =
     record {
+      after = y;
+      input = tt;
       steps = record { event = idled; deed = acts.deed } ∷ [];
       heard = [];
       rest = r.framer.held;
@@ -181,7 +192,7 @@ idle_end limits place l m l' k k' n n' a a' r s left left' same moved_on still w
       idled = 1;
       greeted = r.framer.greeted;
       link = acts.link ∙ moved_on ∙ rw (told-nil l.given, told-nil l.taken) refl;
-      works = works-one (world l k n a) (world l' k' n' a') (record { event = idled; deed = acts.deed }) acts.clock acts.notes acts.access acts.done;
+      works = works-one (world l k n a) (world l' k' n' a') x y (record { event = idled; deed = acts.deed }) before after acts.clock acts.notes acts.access acts.done;
       bytes = all_held r w.taken;
       hears = hears_idle limits r.framer.greeted r.framer.greeted place refl;
       rests = needed_by limits r same w.needed;
@@ -200,8 +211,10 @@ bad_rests limits false place p held pending code at e h =
     let size = h.0.long in
     (too_long limits held pending h.0, omega (arith, length-append held pending, size), h.1, h.2 ∙ told_after p place limits.greeting e ∙ let z : place + limits.greeting ≡ place + 0 + limits.greeting = omega arith in ap told_place z)
 
-pub bad_end : (limits : Limits) (place : ℕ) (l l' : LinkView) (k : Option (List ℤ)) (n : Option (List Turn)) (a : AccessView) (r : ReaderView) (left : ℕ) (code : Bad) (at : ℕ) → r.framer.limits ≡ limits → r.framer.place ≡ told_place place → 0 < left → l' ≡ l → HoldsFault r.framer code at → Converses limits place (world l k n a) (world l' k n a) r left (e.BadMessage code at)
-bad_end limits place l l' k n a r left code at same told_at some moved_on held = record {
+pub bad_end : (limits : Limits) (place : ℕ) (l l' : LinkView) (k : Option (List ℤ)) (n : Option (List Turn)) (a : AccessView) (x : State) (r : ReaderView) (left : ℕ) (code : Bad) (at : ℕ) → r.framer.limits ≡ limits → r.framer.place ≡ told_place place → 0 < left → l' ≡ l → HoldsFault r.framer code at → Converses limits place (world l k n a) (world l' k n a) x r left (e.BadMessage code at)
+bad_end limits place l l' k n a x r left code at same told_at some moved_on held = record {
+  after = x;
+  input = tt;
   steps = [];
   heard = [];
   rest = unheard r;
@@ -210,7 +223,7 @@ bad_end limits place l l' k n a r left code at same told_at some moved_on held =
   idled = 0;
   greeted = r.framer.greeted;
   link = moved_on ∙ sym (moved-none l);
-  works = works-none l l' k n a;
+  works = works-none l l' k n a x;
   bytes = append-nil (unheard r);
   hears = (refl, refl);
   rests = subst (λ m. IsBad m r.framer.greeted (place + 0) (unheard r) code at) same (bad_rests r.framer.limits r.framer.greeted place r.framer.place r.framer.held r.pending code at told_at held);
@@ -220,8 +233,10 @@ bad_end limits place l l' k n a r left code at same told_at some moved_on held =
   opened = inl (refl, refl, tt);
 }
 
-pub failed_end : (limits : Limits) (place : ℕ) (l l' : LinkView) (k : Option (List ℤ)) (n : Option (List Turn)) (a : AccessView) (r s : ReaderView) (left : ℕ) → r.framer.limits ≡ limits → 0 < left → l' ≡ record l { read_faults = counted l.read_faults 1 } → l.ended ≡ false → Waits r s → Converses limits place (world l k n a) (world l' k n a) r left e.ReadFault
-failed_end limits place l l' k n a r s left same some moved_on still w = record {
+pub failed_end : (limits : Limits) (place : ℕ) (l l' : LinkView) (k : Option (List ℤ)) (n : Option (List Turn)) (a : AccessView) (x : State) (r s : ReaderView) (left : ℕ) → r.framer.limits ≡ limits → 0 < left → l' ≡ record l { read_faults = counted l.read_faults 1 } → l.ended ≡ false → Waits r s → Converses limits place (world l k n a) (world l' k n a) x r left e.ReadFault
+failed_end limits place l l' k n a x r s left same some moved_on still w = record {
+  after = x;
+  input = tt;
   steps = [];
   heard = [];
   rest = r.framer.held;
@@ -230,7 +245,7 @@ failed_end limits place l l' k n a r s left same some moved_on still w = record 
   idled = 0;
   greeted = r.framer.greeted;
   link = moved_on ∙ rw (told-nil l.given, told-nil l.taken) refl;
-  works = works-none l l' k n a;
+  works = works-none l l' k n a x;
   bytes = all_held r w.taken;
   hears = (refl, refl);
   rests = needed_by limits r same w.needed;
@@ -245,8 +260,14 @@ some_held : (held : List ℕ) → (held ≡ [] → ⊥) → 0 < length held
 some_held [] h = absurd (h refl)
 some_held (x ∷ held) h = omega arith
 
-pub input_end : (limits : Limits) (place : ℕ) (l l' : LinkView) (k : Option (List ℤ)) (n : Option (List Turn)) (a : AccessView) (r s : ReaderView) (left : ℕ) (between : Bool) → r.framer.limits ≡ limits → 0 < left → l' ≡ record l { ended = true } → IsTrue between ↔ (r.framer.held ≡ []) → Waits r s → Converses limits place (world l k n a) (world l' k n a) r left (if between then e.Closed else e.Truncated)
-input_end limits place l l' k n a r s left true same some moved_on iff w = record {
+-- a link that has given all of its input, after it has ended
+given_all : (l l' : LinkView) → HasGivenAll l → l' ≡ record l { ended = true } → HasGivenAll l'
+given_all l l' all ends = λ given whole g w. all given whole (ap (λ (v : LinkView). v.given) (sym ends) ∙ g) (ap (λ (v : LinkView). v.input) (sym ends) ∙ w)
+
+pub input_end : (limits : Limits) (place : ℕ) (l l' : LinkView) (k : Option (List ℤ)) (n : Option (List Turn)) (a : AccessView) (x : State) (r s : ReaderView) (left : ℕ) (between : Bool) → r.framer.limits ≡ limits → 0 < left → HasGivenAll l → l' ≡ record l { ended = true } → IsTrue between ↔ (r.framer.held ≡ []) → Waits r s → Converses limits place (world l k n a) (world l' k n a) x r left (if between then e.Closed else e.Truncated)
+input_end limits place l l' k n a x r s left true same some all moved_on iff w = record {
+  after = x;
+  input = given_all l l' all moved_on;
   steps = [];
   heard = [];
   rest = r.framer.held;
@@ -255,7 +276,7 @@ input_end limits place l l' k n a r s left true same some moved_on iff w = recor
   idled = 0;
   greeted = r.framer.greeted;
   link = moved_on ∙ rw (told-nil l.given, told-nil l.taken) refl;
-  works = works-none l l' k n a;
+  works = works-none l l' k n a x;
   bytes = all_held r w.taken;
   hears = (refl, refl);
   rests = iff.0 refl;
@@ -264,7 +285,9 @@ input_end limits place l l' k n a r s left true same some moved_on iff w = recor
   idles = some;
   opened = inr tt;
 }
-input_end limits place l l' k n a r s left false same some moved_on iff w = record {
+input_end limits place l l' k n a x r s left false same some all moved_on iff w = record {
+  after = x;
+  input = given_all l l' all moved_on;
   steps = [];
   heard = [];
   rest = r.framer.held;
@@ -273,7 +296,7 @@ input_end limits place l l' k n a r s left false same some moved_on iff w = reco
   idled = 0;
   greeted = r.framer.greeted;
   link = moved_on ∙ rw (told-nil l.given, told-nil l.taken) refl;
-  works = works-none l l' k n a;
+  works = works-none l l' k n a x;
   bytes = all_held r w.taken;
   hears = (refl, refl);
   rests = (needed_by limits r same w.needed, some_held r.framer.held (λ none. absurd (let h = iff.1 none in cc)));
@@ -284,6 +307,6 @@ input_end limits place l l' k n a r s left false same some moved_on iff w = reco
 }
 
 -- a read timeout was served, perhaps the last
-pub idle_goes : (limits : Limits) (place : ℕ) (l m l' : LinkView) (k k' : Option (List ℤ)) (n n' : Option (List Turn)) (a a' : AccessView) (r s : ReaderView) (left left' : ℕ) (result : Option End) → r.framer.limits ≡ limits → r.framer.place ≡ told_place place → m ≡ record l { idles = counted l.idles 1 } → l.ended ≡ false → Waits r s → IdlesBy (world m k n a) (world l' k' n' a') → left ≡ left' + 1 → MatchOption result (0 < left') (λ end. (end ≡ e.Idle) × (left' ≡ 0)) → Goes limits place (world l k n a) (world l' k' n' a') r s left left' result
-idle_goes limits place l m l' k k' n n' a a' r s left left' None same at moved_on still w acts once some = idle_step limits place l m l' k k' n n' a a' r s left left' same at moved_on still w acts once some
-idle_goes limits place l m l' k k' n n' a a' r s left left' (Some end) same at moved_on still w acts once last = subst (λ x. Converses limits place (world l k n a) (world l' k' n' a') r left x) (sym last.0) (idle_end limits place l m l' k k' n n' a a' r s left left' same moved_on still w acts once last.1)
+pub idle_goes : (limits : Limits) (place : ℕ) (l m l' : LinkView) (k k' : Option (List ℤ)) (n n' : Option (List Turn)) (a a' : AccessView) (x y : State) (r s : ReaderView) (left left' : ℕ) (result : Option End) → x.known ≡ length a.seen → y.known ≡ length a'.seen → r.framer.limits ≡ limits → r.framer.place ≡ told_place place → m ≡ record l { idles = counted l.idles 1 } → l.ended ≡ false → Waits r s → IdlesBy x (world m k n a) (world l' k' n' a') → left ≡ left' + 1 → MatchOption result (0 < left') (λ end. (end ≡ e.Idle) × (left' ≡ 0)) → Goes limits place (world l k n a) (world l' k' n' a') x y r s left left' result
+idle_goes limits place l m l' k k' n n' a a' x y r s left left' None before after same at moved_on still w acts once some = idle_step limits place l m l' k k' n n' a a' x y r s left left' before after same at moved_on still w acts once some
+idle_goes limits place l m l' k k' n n' a a' x y r s left left' (Some end) before after same at moved_on still w acts once last = subst (λ e. Converses limits place (world l k n a) (world l' k' n' a') x r left e) (sym last.0) (idle_end limits place l m l' k k' n n' a a' x y r s left left' before after same moved_on still w acts once last.1)

@@ -10,6 +10,7 @@ use Rattle.q_values.specs.declared.turn.Turn.TheVariants as t
 use Rattle.session.specs.Reply.{response, reply, replied}
 use Rattle.session.specs.Run.{World, Advances}
 use Rattle.session.specs.Served.{Deed, ServesIdle}
+use Rattle.session.specs.State.{State}
 use Rattle.session.specs.declared.end.End.{End}
 use Rattle.session.specs.declared.end.End.TheVariants.{WriteFault}
 
@@ -24,7 +25,7 @@ pub record Acts (Done : Deed → Type 0) (a b : World) (end : Option End) : Type
   pub deed : Deed
   pub done : Done deed
   pub clock : b.clock ≡ told a.clock deed.readings
-  pub access : Advances a.access b.access deed.turns deed.made
+  pub access : Advances a.access b.access deed.turns deed.made deed.snapshots deed.ticks
   pub notes : Tells a.notes b.notes deed.turns
   pub link : Finishes a.link b.link deed.sent end
 
@@ -48,10 +49,10 @@ abbrev pub IsShortBy : Bool → LinkView → LinkView → Option (List Turn) →
 IsShortBy sync = IsAnsweredBy t.Short (replied sync (response (wrong (codes "wsfull"))))
 
 -- a read timeout was served: the clock was read, the access went on, and its turns were noted; nothing was sent
-pub record IdlesBy (a b : World) : Type 0 where
+pub record IdlesBy (before : State) (a b : World) : Type 0 where
   pub deed : Deed
-  pub done : ServesIdle a.access.frame a.access.by b.access.seen deed
+  pub done : ServesIdle a.access.frame a.access.by b.access.seen before deed
   pub clock : b.clock ≡ told a.clock deed.readings
-  pub access : Advances a.access b.access deed.turns deed.made
+  pub access : Advances a.access b.access deed.turns deed.made deed.snapshots deed.ticks
   pub notes : Tells a.notes b.notes deed.turns
   pub link : b.link ≡ a.link

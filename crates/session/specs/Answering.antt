@@ -51,17 +51,26 @@ pub record AnswersRefused (limits : Limits) (sync : Bool) (count : ℕ) (now : �
 abbrev pub AnswersRefusal : Limits → Bool → ℕ → ℤ → UpdRefusal → Answer → Type 0
 AnswersRefusal limits sync count now why answer = AnswersRefused limits sync count now why answer ⊎ AnswersShort sync answer
 
--- an answer, with the clock's readings and the entries that were made
-abbrev pub deed_of : Answer → List ℤ → List Entry → Deed
-deed_of answer readings made = record { turns = turns_by answer.roll answer.turn; sent = sent_by answer.reply; readings = readings; made = made }
+-- an answer, with the clock's readings, the entries that were made, and the snapshots and ticks that were asked for
+abbrev pub deed_of : Answer → List ℤ → List Entry → ℕ → ℕ → Deed
+deed_of answer readings made asked ticked = record {
+  turns = turns_by answer.roll answer.turn;
+  sent = sent_by answer.reply;
+  readings = readings;
+  made = made;
+  snapshots = asked;
+  ticks = ticked;
+}
 
 -- the clock was read, the access went on, and the answer is part of a deed of this kind
 pub record Does (Done : Deed → Type 0) (clock_old clock_new : Option (List ℤ)) (old new : AccessView) (answer : Answer) : Type 0 where
   pub readings : List ℤ
   pub made : List Entry
+  pub asked : ℕ
+  pub ticked : ℕ
   pub clock : clock_new ≡ told clock_old readings
-  pub access : Advances old new (turns_by answer.roll answer.turn) made
-  pub done : Done (deed_of answer readings made)
+  pub access : Advances old new (turns_by answer.roll answer.turn) made asked ticked
+  pub done : Done (deed_of answer readings made asked ticked)
 
 -- what is done with a message that has a value
 abbrev pub ServesValue : Frame → ℕ → List Entry → Bool → Request → Deed → Type 0

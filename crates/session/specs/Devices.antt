@@ -5,6 +5,7 @@ use Rattle.outside_api.specs.Link.{LinkView}
 use Rattle.plant_core.specs.Access.{AccessView}
 use Rattle.q_values.specs.declared.turn.Turn.{Turn}
 use Rattle.session.specs.Run.{World, world}
+use Rattle.session.specs.State.{State, fresh_state}
 use Rattle.session.specs.declared.session.Session.{Session}
 
 -- a field holds the reference that was given, and its value is unchanged
@@ -15,6 +16,10 @@ pub record IsLent {T : Type 0} (given field : MutBor T) : Type 0 where
 -- what a session's devices show, by what each of them shows
 abbrev pub world_of : {A L C G N : Type 0} → (A → AccessView) → (L → LinkView) → (C → Option (List ℤ)) → (N → Option (List Turn)) → Session A L C G N → World
 world_of access link clock notes s = world (link s.link.now) (clock s.clock.now) (notes s.recorder.now) (access s.access.now)
+
+-- what a session knows, by what its access shows
+abbrev pub state_of : {A L C G N : Type 0} → (A → AccessView) → Session A L C G N → State
+state_of access s = fresh_state (access s.access.now)
 
 -- the session still has its devices and its limits
 pub record HasSameDevices {A L C G N : Type 0} (old new : Session A L C G N) : Type 0 where

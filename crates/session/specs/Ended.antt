@@ -2,7 +2,7 @@
 use Rattle.std.specs.Prelude.{◌≡◌, ◌≤◌, ◌<◌, ◌+◌, ◌⊎◌, ℕ, Bool, true, false, List, [], ◌∷◌, ◌++◌, length, map, take, MatchBool, MatchOption, Option}
 use Rattle.std.specs.List.{flat_map}
 use Rattle.outside_api.specs.Counts.{counted}
-use Rattle.outside_api.specs.Link.{LinkView}
+use Rattle.outside_api.specs.Link.{LinkView, HasGivenAll}
 use Rattle.ipc_frame.specs.Framing.{IsNeeded}
 use Rattle.ipc_frame.specs.Stream.{fault, front_of}
 use Rattle.ipc_frame.specs.View.{told_place}
@@ -14,6 +14,7 @@ use Rattle.session.specs.Arrival.{ReaderView, unheard}
 use Rattle.session.specs.Heard.{Hears, idles_heard}
 use Rattle.session.specs.Run.{World, Works, moved, sent_in}
 use Rattle.session.specs.Served.{Step}
+use Rattle.session.specs.State.{State}
 use Rattle.session.specs.declared.end.End.{End}
 use Rattle.session.specs.declared.end.End.TheVariants.{Closed, Truncated, BadMessage, ReadFault, WriteFault, Idle, NoMemory}
 
@@ -36,6 +37,16 @@ WasOpenAt ReadFault link = link.ended ≡ false
 WasOpenAt WriteFault link = link.ended ≡ false
 WasOpenAt Idle link = link.ended ≡ false
 WasOpenAt NoMemory link = Unit {0}
+
+-- where the input has ended, a link that reports its input has given all of it
+abbrev pub HasReadAll : End → LinkView → Type 0
+HasReadAll Closed link = HasGivenAll link
+HasReadAll Truncated link = HasGivenAll link
+HasReadAll (BadMessage code at) link = Unit {0}
+HasReadAll ReadFault link = Unit {0}
+HasReadAll WriteFault link = Unit {0}
+HasReadAll Idle link = Unit {0}
+HasReadAll NoMemory link = Unit {0}
 
 -- at `Idle` all the read timeouts that were left have come, at another end not all
 abbrev pub SpendsIdles : End → ℕ → ℕ → Type 0
@@ -94,13 +105,13 @@ NeedsNoRead Idle = ⊥
 NeedsNoRead NoMemory = ⊥
 
 -- some steps of a session, from an offset of the stream on
-pub record Runs (limits : Limits) (place : ℕ) (a b : World) (r s : ReaderView) (left_old left_new : ℕ) : Type 0 where
+pub record Runs (limits : Limits) (place : ℕ) (a b : World) (before after : State) (r s : ReaderView) (left_old left_new : ℕ) : Type 0 where
   pub steps : List Step
   pub heard : List ℕ
   pub given : List ℕ
   pub idled : ℕ
   pub link : b.link ≡ moved a.link given (sent_in steps) idled
-  pub works : Works a b steps
+  pub works : Works a b before after steps
   -- the bytes that were left and those that came are those that were heard and those that are left
   pub bytes : unheard r ++ given ≡ heard ++ unheard s
   pub hears : Hears limits r.framer.greeted place heard (map (λ s. s.event) steps) s.framer.greeted
@@ -112,7 +123,8 @@ pub record Runs (limits : Limits) (place : ℕ) (a b : World) (r s : ReaderView)
   pub opened : ((given ≡ []) × (idled ≡ 0)) ⊎ (a.link.ended ≡ false)
 
 -- steps of a session from an offset of the stream on, and then its end
-pub record Converses (limits : Limits) (place : ℕ) (a b : World) (r : ReaderView) (left : ℕ) (end : End) : Type 0 where
+pub record Converses (limits : Limits) (place : ℕ) (a b : World) (before : State) (r : ReaderView) (left : ℕ) (end : End) : Type 0 where
+  pub after : State
   pub steps : List Step
   pub heard : List ℕ
   pub rest : List ℕ
@@ -121,7 +133,8 @@ pub record Converses (limits : Limits) (place : ℕ) (a b : World) (r : ReaderVi
   pub idled : ℕ
   pub greeted : Bool
   pub link : b.link ≡ ended_link end (moved a.link given written idled)
-  pub works : Works a b steps
+  pub input : HasReadAll end b.link
+  pub works : Works a b before after steps
   pub bytes : unheard r ++ given ≡ heard ++ rest
   pub hears : Hears limits r.framer.greeted place heard (map (λ s. s.event) steps) greeted
   pub rests : Rests end limits greeted (place + length heard) rest
@@ -131,6 +144,6 @@ pub record Converses (limits : Limits) (place : ℕ) (a b : World) (r : ReaderVi
   pub opened : ((given ≡ []) × (idled ≡ 0) × NeedsNoRead end) ⊎ WasOpenAt end a.link
 
 -- a session goes on after some steps, or ends
-abbrev pub Goes : Limits → ℕ → World → World → ReaderView → ReaderView → ℕ → ℕ → Option End → Type 0
-Goes limits place a b r s left_old left_new result =
-    MatchOption result (Runs limits place a b r s left_old left_new) (λ end. Converses limits place a b r left_old end)
+abbrev pub Goes : Limits → ℕ → World → World → State → State → ReaderView → ReaderView → ℕ → ℕ → Option End → Type 0
+Goes limits place a b before after r s left_old left_new result =
+    MatchOption result (Runs limits place a b before after r s left_old left_new) (λ end. Converses limits place a b before r left_old end)

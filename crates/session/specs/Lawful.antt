@@ -1,5 +1,5 @@
 -- The lengths of the chronicle that turns report, one after the other.
-use Rattle.std.specs.Prelude.{◌≡◌, ◌≤◌, ◌+◌, ℕ, Bool, true, false, List, [], ◌∷◌}
+use Rattle.std.specs.Prelude.{◌≡◌, ◌≤◌, ◌+◌, ℕ, List, [], ◌∷◌}
 use Rattle.q_values.specs.declared.turn.Turn.{Turn}
 use Rattle.q_values.specs.declared.turn.Turn.TheVariants.{Logged, Rolled, Refused, Quiet, Answered}
 
@@ -40,13 +40,3 @@ pub record AreLengths (from to : ℕ) (turns : List Turn) : Type 0 where
 pub record AreExact (from to : ℕ) (turns : List Turn) : Type 0 where
   pub each : AllGoOn (λ a b. a ≡ b) from turns
   pub last : last_length from turns ≡ to
-
--- whether a turn is that of an answered text
-abbrev pub is_answered : Turn → Bool
-is_answered (Answered count) = true
-is_answered turn = false
-
--- whether a turn is that of a read timeout at which no date ended
-abbrev pub is_quiet : Turn → Bool
-is_quiet (Quiet count now) = true
-is_quiet turn = false

@@ -15,3 +15,4 @@ pub mod Request
 pub mod Run
 pub mod Served
 pub mod Session
+pub mod State

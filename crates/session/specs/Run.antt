@@ -1,5 +1,5 @@
 -- A part of a session: what its devices showed before and after it, and the steps in between.
-use Rattle.std.specs.Prelude.{◌≡◌, ◌≤◌, ℕ, ℤ, true, List, ◌++◌, length, All, count_by, Option}
+use Rattle.std.specs.Prelude.{◌≡◌, ℕ, ℤ, true, List, ◌++◌, length, sum_by, Option}
 use Rattle.std.specs.List.{flat_map}
 use Rattle.day_rows.specs.declared.entry.Entry.{Entry}
 use Rattle.outside_api.specs.Counts.{counted}
@@ -7,8 +7,9 @@ use Rattle.outside_api.specs.Link.{LinkView}
 use Rattle.outside_api.specs.Told.{told, Tells}
 use Rattle.plant_core.specs.Access.{AccessView}
 use Rattle.q_values.specs.declared.turn.Turn.{Turn}
-use Rattle.session.specs.Lawful.{AreLengths, AreExact, is_answered, is_quiet}
+use Rattle.session.specs.Lawful.{AreLengths, AreExact}
 use Rattle.session.specs.Served.{Step, IsStep}
+use Rattle.session.specs.State.{State, Chain}
 
 -- what the devices of a session show
 pub record World : Type 0 where
@@ -29,21 +30,16 @@ abbrev pub advanced : AccessView → List Entry → List Entry → ℕ → ℕ �
 advanced access gained made asked ticked =
     record access { seen = access.seen ++ gained; mine = access.mine ++ made; snapshots = counted access.snapshots asked; ticks = counted access.ticks ticked }
 
--- how the access changed while these turns were noted
-pub record Advances (a b : AccessView) (turns : List Turn) (made : List Entry) : Type 0 where
+-- how the access changed while these turns were noted, these entries made, and so many snapshots and ticks asked for
+pub record Advances (a b : AccessView) (turns : List Turn) (made : List Entry) (asked ticked : ℕ) : Type 0 where
   pub gained : List Entry
-  pub asked : ℕ
-  pub ticked : ℕ
   pub after : b ≡ advanced a gained made asked ticked
   -- the lengths never fall, begin at no less than what was seen at first, and end within what is seen
   pub lengths : AreLengths (length a.seen) (length b.seen) turns
   -- where nobody else makes entries, each length is exact
   pub alone : a.alone ≡ true → AreExact (length a.seen) (length b.seen) turns
-  -- each text was answered over a snapshot of its own, and each quiet timeout had a tick of its own
-  pub answered : count_by is_answered turns ≤ asked
-  pub quiet : count_by is_quiet turns ≤ ticked
 
--- all that was noted, read, made and sent in these steps
+-- all that was noted, read, made, sent and asked for in these steps
 abbrev pub turns_of : List Step → List Turn
 turns_of = flat_map (λ s. s.deed.turns)
 
@@ -56,9 +52,15 @@ made_in = flat_map (λ s. s.deed.made)
 abbrev pub sent_in : List Step → List ℕ
 sent_in = flat_map (λ s. s.deed.sent)
 
--- what was done in these steps
-pub record Works (a b : World) (steps : List Step) : Type 0 where
+abbrev pub snapshots_in : List Step → ℕ
+snapshots_in = sum_by (λ s. s.deed.snapshots)
+
+abbrev pub ticks_in : List Step → ℕ
+ticks_in = sum_by (λ s. s.deed.ticks)
+
+-- what was done in these steps, from one state to another
+pub record Works (a b : World) (before after : State) (steps : List Step) : Type 0 where
   pub clock : b.clock ≡ told a.clock (readings_of steps)
   pub notes : Tells a.notes b.notes (turns_of steps)
-  pub access : Advances a.access b.access (turns_of steps) (made_in steps)
-  pub served : All (IsStep a.access.frame a.access.by b.access.seen) steps
+  pub access : Advances a.access b.access (turns_of steps) (made_in steps) (snapshots_in steps) (ticks_in steps)
+  pub served : Chain (IsStep a.access.frame a.access.by b.access.seen) before after steps

@@ -13,8 +13,10 @@ use Rattle.q_values.specs.declared.turn.Turn.{Turn}
 use Rattle.q_values.specs.declared.turn.Turn.TheVariants as t
 use Rattle.session.specs.Answer.{answer, table_asked}
 use Rattle.session.specs.Chronicle.{IsFront}
+use Rattle.session.specs.Lawful.{AreLengths}
 use Rattle.session.specs.Reply.{response, reply, replied, refusal_text}
 use Rattle.session.specs.Request.{Request, update, mistyped, text, other, request_of}
+use Rattle.session.specs.State.{State}
 
 -- what a session hears: a handshake with this capability, a message, or a read timeout
 pub data Event : Type 0 where
@@ -22,12 +24,15 @@ pub data Event : Type 0 where
   asked : Message → Event
   idled : Event
 
--- what was done with an event: the turns noted, the bytes sent, the readings of the clock, the entries made
+-- what was done with an event: the turns noted, the bytes sent, the readings of the clock, the entries made, and how many
+-- snapshots and ticks the access was asked for
 pub record Deed : Type 0 where
   pub turns : List Turn
   pub sent : List ℕ
   pub readings : List ℤ
   pub made : List Entry
+  pub snapshots : ℕ
+  pub ticks : ℕ
 
 -- an event, and what was done with it
 pub record Step : Type 0 where
@@ -50,10 +55,15 @@ abbrev pub entry_turns : ℕ → ℤ → List Entry → List Turn
 entry_turns place now [] = []
 entry_turns place now (entry ∷ entries) = entry_turn place now entry ∷ entry_turns (place + 1) now entries
 
--- nothing was made, and the clock was not read
+-- the access was asked for so many snapshots, and for so many ticks
+abbrev pub AsksFor : ℕ → ℕ → Deed → Type 0
+AsksFor snapshots ticks deed = (deed.snapshots ≡ snapshots) × (deed.ticks ≡ ticks)
+
+-- nothing was made, the clock was not read, and the access was asked for no snapshot and no tick
 pub record IsStill (deed : Deed) : Type 0 where
   pub unread : deed.readings ≡ []
   pub unmade : deed.made ≡ []
+  pub unasked : AsksFor 0 0 deed
 
 -- an update was logged: what the verdict on it adds stands in the chronicle, and the answer is `(::)`
 pub record IsLogged (frame : Frame) (by : ℕ) (seen : List Entry) (sync : Bool)
@@ -65,6 +75,7 @@ pub record IsLogged (frame : Frame) (by : ℕ) (seen : List Entry) (sync : Bool)
   pub noted : deed.turns ≡ entry_turns (length front) now deed.made
   pub answered : deed.sent ≡ replied sync (reply frame.limits identity)
   pub read : deed.readings ≡ now ∷ []
+  pub unasked : AsksFor 0 0 deed
 
 -- an update was refused: the answer is the text of the verdict's refusal, and nothing was made
 pub record IsRefused (frame : Frame) (by : ℕ) (seen : List Entry) (sync : Bool)
@@ -79,15 +90,17 @@ pub record IsRefused (frame : Frame) (by : ℕ) (seen : List Entry) (sync : Bool
   pub answered : deed.sent ≡ replied sync (reply frame.limits (wrong (refusal_text why)))
   pub read : deed.readings ≡ now ∷ []
   pub unmade : deed.made ≡ []
+  pub unasked : AsksFor 0 0 deed
 
--- out of memory: nothing was made, and the clock was read at most once
+-- out of memory: nothing was made; the clock was read once, or a snapshot was asked for once, or neither
 pub record IsShort (sync : Bool) (deed : Deed) : Type 0 where
   pub noted : deed.turns ≡ t.Short ∷ []
   pub answered : deed.sent ≡ replied sync (response (wrong (codes "wsfull")))
-  pub read : length deed.readings ≤ 1
+  pub read : length deed.readings + deed.snapshots ≤ 1
+  pub unticked : deed.ticks ≡ 0
   pub unmade : deed.made ≡ []
 
--- a text was answered over a prefix of the chronicle
+-- a text was answered over a prefix of the chronicle, of which a snapshot was asked for
 pub record IsAnswered (frame : Frame) (seen : List Entry) (bytes : List ℕ) (deed : Deed) : Type 0 where
   pub count : ℕ
   pub front : List Entry
@@ -96,7 +109,9 @@ pub record IsAnswered (frame : Frame) (seen : List Entry) (bytes : List ℕ) (de
   pub known : answer frame front bytes ≡ Some value
   pub noted : deed.turns ≡ t.Answered count ∷ []
   pub answered : deed.sent ≡ reply frame.limits value
-  pub still : IsStill deed
+  pub unread : deed.readings ≡ []
+  pub unmade : deed.made ≡ []
+  pub asked : AsksFor 1 0 deed
 
 -- what isn't served is answered with this error
 pub record IsDeclined (frame : Frame) (sync : Bool) (error : List ℕ) (deed : Deed) : Type 0 where
@@ -148,6 +163,7 @@ pub record IsQuiet (frame : Frame) (seen : List Entry) (deed : Deed) : Type 0 wh
   pub noted : deed.turns ≡ t.Quiet count now ∷ []
   pub read : deed.readings ≡ now ∷ []
   pub unmade : deed.made ≡ []
+  pub asked : AsksFor 0 1 deed
 
 -- a read timeout at which the open date is ended, and the next one opened, which is that of the clock
 pub record IsRolled (frame : Frame) (by : ℕ) (seen : List Entry) (deed : Deed) : Type 0 where
@@ -158,29 +174,39 @@ pub record IsRolled (frame : Frame) (by : ℕ) (seen : List Entry) (deed : Deed)
   pub stands : StandsAfter front deed.made seen
   pub noted : deed.turns ≡ t.Rolled (length front) now ∷ []
   pub read : deed.readings ≡ now ∷ []
+  pub asked : AsksFor 0 1 deed
 
--- a read timeout at which the session was out of memory
-pub record IsShortIdle (deed : Deed) : Type 0 where
+-- a read timeout at which the open date was to be ended, and the session was out of memory for that
+pub record IsShortIdle (frame : Frame) (seen : List Entry) (before : State) (deed : Deed) : Type 0 where
+  pub count : ℕ
+  pub front : List Entry
+  pub is_front : IsFront count front seen
+  -- the session has seen no more before
+  pub known : before.known ≤ count
   pub now : ℤ
+  pub next : is_next_day (date_of frame.first front) now ≡ true
   pub noted : deed.turns ≡ t.Short ∷ []
   pub read : deed.readings ≡ now ∷ []
   pub unmade : deed.made ≡ []
+  pub asked : AsksFor 0 1 deed
 
 -- what a read timeout may come to
-abbrev pub IsIdle : Frame → ℕ → List Entry → Deed → Type 0
-IsIdle frame by seen deed = IsQuiet frame seen deed ⊎ IsRolled frame by seen deed ⊎ IsShortIdle deed
+abbrev pub IsIdle : Frame → ℕ → List Entry → State → Deed → Type 0
+IsIdle frame by seen before deed = IsQuiet frame seen deed ⊎ IsRolled frame by seen deed ⊎ IsShortIdle frame seen before deed
 
 -- a read timeout sends nothing
-pub record ServesIdle (frame : Frame) (by : ℕ) (seen : List Entry) (deed : Deed) : Type 0 where
+pub record ServesIdle (frame : Frame) (by : ℕ) (seen : List Entry) (before : State) (deed : Deed) : Type 0 where
   pub unsent : deed.sent ≡ []
-  pub done : IsIdle frame by seen deed
+  pub done : IsIdle frame by seen before deed
 
--- what is done with an event, where this is the chronicle in the end
-abbrev pub Serves : Frame → ℕ → List Entry → Event → Deed → Type 0
-Serves frame by seen (greeted capability) deed = IsGreeted capability deed
-Serves frame by seen (asked message) deed = ServesContent frame by seen message.sync message.content deed
-Serves frame by seen idled deed = ServesIdle frame by seen deed
+-- what is done with an event in this state, where this is the chronicle in the end
+abbrev pub Serves : Frame → ℕ → List Entry → State → Event → Deed → Type 0
+Serves frame by seen before (greeted capability) deed = IsGreeted capability deed
+Serves frame by seen before (asked message) deed = ServesContent frame by seen message.sync message.content deed
+Serves frame by seen before idled deed = ServesIdle frame by seen before deed
 
--- a step is served as its event asks
-abbrev pub IsStep : Frame → ℕ → List Entry → Step → Type 0
-IsStep frame by seen s = Serves frame by seen s.event s.deed
+-- A step is served as its event asks in the state before it. The lengths that its turns report begin at no less than what
+-- was known before it, never fall, and end within what is known after it.
+pub record IsStep (frame : Frame) (by : ℕ) (seen : List Entry) (before after : State) (s : Step) : Type 0 where
+  pub served : Serves frame by seen before s.event s.deed
+  pub lengths : AreLengths before.known after.known s.deed.turns

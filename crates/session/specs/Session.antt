@@ -1,13 +1,14 @@
 -- What a session is: what it read from its link, and what it did with that.
-use Rattle.std.specs.Prelude.{◌≡◌, ◌<◌, ◌⊎◌, ℕ, Bool, false, List, [], ◌++◌, map, All, min}
+use Rattle.std.specs.Prelude.{◌≡◌, ◌<◌, ◌⊎◌, ℕ, Bool, false, List, [], ◌++◌, map, min}
 use Rattle.outside_api.specs.Counts.{last_count}
 use Rattle.outside_api.specs.Told.{told, Tells}
 use Rattle.ipc_frame.specs.Stream.{Ending, Message, closed, truncated, bad, IsStream}
 use Rattle.q_values.specs.declared.limits.Limits.{Limits}
-use Rattle.session.specs.Ended.{ended_link, WasOpenAt, IsSent}
+use Rattle.session.specs.Ended.{ended_link, HasReadAll, WasOpenAt, IsSent}
 use Rattle.session.specs.Heard.{Hears, greeting_heard, messages_heard, idles_heard}
-use Rattle.session.specs.Run.{World, Advances, moved, turns_of, readings_of, made_in}
+use Rattle.session.specs.Run.{World, Advances, moved, turns_of, readings_of, made_in, snapshots_in, ticks_in}
 use Rattle.session.specs.Served.{Event, Step, IsStep}
+use Rattle.session.specs.State.{State, Chain, fresh_state}
 use Rattle.session.specs.declared.end.End.{End}
 use Rattle.session.specs.declared.end.End.TheVariants.{Closed, Truncated, BadMessage, ReadFault, WriteFault, Idle, NoMemory}
 
@@ -57,6 +58,7 @@ pub record IsSession (limits : Limits) (a b : World) (end : End) : Type 0 where
   pub idled : ℕ
   -- no count of faults rose but that of the end's fault, and the input has ended only where the end says so
   pub link : b.link ≡ ended_link end (moved a.link read written idled)
+  pub input : HasReadAll end b.link
   pub opened : WasOpenAt end a.link
   -- the bytes read are a handshake, messages and an ending; they were heard in order from the first on, among the timeouts
   pub steps : List Step
@@ -72,11 +74,12 @@ pub record IsSession (limits : Limits) (a b : World) (end : End) : Type 0 where
   pub all : LeavesNone end unserved
   pub cause : HasCause limits end ending idled
   pub nothing : ReadsNothing end read
-  -- what was heard was served, over prefixes of the chronicle
-  pub served : All (IsStep a.access.frame a.access.by b.access.seen) steps
+  -- what was heard was served, over prefixes of the chronicle, each step in the state that the one before it left
+  pub after : State
+  pub served : Chain (IsStep a.access.frame a.access.by b.access.seen) (fresh_state a.access) after steps
   -- what was noted, what was written, and the readings of the clock
   pub notes : Tells a.notes b.notes (turns_of steps)
   pub sent : IsSent end (map (λ s. s.deed.sent) steps) written
   pub clock : b.clock ≡ told a.clock (readings_of steps)
-  -- the lengths that turns report never fall; the entries made are those of the turns
-  pub access : Advances a.access b.access (turns_of steps) (made_in steps)
+  -- the lengths that turns report never fall; the entries made, and the snapshots and ticks asked for, are those of the steps
+  pub access : Advances a.access b.access (turns_of steps) (made_in steps) (snapshots_in steps) (ticks_in steps)

@@ -81,7 +81,7 @@ pub fn serve_short<L: Link, N: Recorder>(link: &mut L, recorder: &mut N, sync: b
 }
 
 impl<A: Access, L: Link, C: Clock, G: Gate, N: Recorder> Session<'_, A, L, C, G, N> {
-    ghost use Rattle.session.specs.Devices.{world_of, HearsNothing};
+    ghost use Rattle.session.specs.Devices.{world_of, state_of, HearsNothing};
 
     /// Serves a message that has a value.
     pub fn serve_value<R: Wait>(
@@ -108,7 +108,7 @@ impl<A: Access, L: Link, C: Clock, G: Gate, N: Recorder> Session<'_, A, L, C, G,
     /// Serves a read timeout of the link, for which nothing is sent.
     pub fn serve_timeout<R: Wait>(&mut self, rt: &R, alloc: Global)
         ensures same { HearsNothing self.old self.new }
-        ensures idled { IdlesBy
+        ensures idled { IdlesBy (state_of A.shown self.old)
             (world_of A.shown L.shown C.readings N.noted self.old)
             (world_of A.shown L.shown C.readings N.noted self.new) }
     {

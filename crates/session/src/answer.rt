@@ -153,7 +153,7 @@ fn unsent(turn: Turn) -> Answer
 }
 
 impl<A: Access, L: Link, C: Clock, G: Gate, N: Recorder> Session<'_, A, L, C, G, N> {
-    ghost use Rattle.session.specs.Devices.{OnlyAsks};
+    ghost use Rattle.session.specs.Devices.{OnlyAsks, state_of};
 
     /// Logs an update, or refuses it.
     fn answer_update<R: Wait>(
@@ -279,7 +279,8 @@ impl<A: Access, L: Link, C: Clock, G: Gate, N: Recorder> Session<'_, A, L, C, G,
     pub fn answer_timeout<R: Wait>(&mut self, rt: &R, alloc: Global) -> Answer
         ensures same { OnlyAsks self.old self.new }
         ensures does { Does
-            (ServesIdle (A.shown self.old.access.now).frame (A.shown self.old.access.now).by (A.shown self.new.access.now).seen)
+            (ServesIdle (A.shown self.old.access.now).frame (A.shown self.old.access.now).by (A.shown self.new.access.now).seen
+            (state_of A.shown self.old))
             (C.readings self.old.clock.now) (C.readings self.new.clock.now)
             (A.shown self.old.access.now) (A.shown self.new.access.now) result }
     {

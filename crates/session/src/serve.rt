@@ -22,14 +22,14 @@ fn end_of_input(between: bool) -> End
 }
 
 impl<A: Access, L: Link, C: Clock, G: Gate, N: Recorder> Session<'_, A, L, C, G, N> {
-    ghost use Rattle.session.specs.Devices.{world_of, HasSameDevices};
+    ghost use Rattle.session.specs.Devices.{world_of, state_of, HasSameDevices};
 
     /// Serves a read timeout of the link, and ends the session where it was the last one that the limits allow.
     fn time_out<R: Wait>(&mut self, rt: &R, alloc: Global) -> Option<End>
         requires { 0 < self.old.idles_left }
         ensures same { HasSameDevices self.old self.new }
         ensures reader { self.new.reader.now ≡ self.old.reader.now }
-        ensures idled { IdlesBy
+        ensures idled { IdlesBy (state_of A.shown self.old)
             (world_of A.shown L.shown C.readings N.noted self.old)
             (world_of A.shown L.shown C.readings N.noted self.new) }
         ensures left { self.old.idles_left ≡ self.new.idles_left + 1 }
@@ -54,6 +54,7 @@ impl<A: Access, L: Link, C: Clock, G: Gate, N: Recorder> Session<'_, A, L, C, G,
         ensures goes { (place : ℕ) → self.old.reader.now.framer.place ≡ told_place place → Goes self.old.limits.now place
             (world_of A.shown L.shown C.readings N.noted self.old)
             (world_of A.shown L.shown C.readings N.noted self.new)
+            (state_of A.shown self.old) (state_of A.shown self.new)
             self.old.reader.now self.new.reader.now self.old.idles_left self.new.idles_left result }
     {
         match self.reader.arrive(self.link) {
@@ -80,7 +81,7 @@ impl<A: Access, L: Link, C: Clock, G: Gate, N: Recorder> Session<'_, A, L, C, G,
         ensures converses { Converses self.old.limits.now 0
             (world_of A.shown L.shown C.readings N.noted self.old)
             (world_of A.shown L.shown C.readings N.noted self.new)
-            self.old.reader.now self.old.idles_left result }
+            (state_of A.shown self.old) self.old.reader.now self.old.idles_left result }
     {
         for _ in rt.forever() {
             match self.serve_next(rt, alloc) {
