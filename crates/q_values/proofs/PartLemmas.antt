@@ -102,3 +102,20 @@ part_at bytes ends from n l h =
       ascends = rw none at (ascends-part s s n bytes (take (start_of s others n - s) (drop s bytes)) others (omega arith) rest size h');
       value = (rw none at (cut-part s (start_of s others n) s n bytes others (omega arith) rest (omega arith) h')) ∙ ap (take n) (sym (drop-cut from 0 bytes ends));
     })
+
+lowered-none : (xs : List ℕ) → lowered 0 xs ≡ xs
+lowered-none [] = refl
+lowered-none (x ∷ xs) = let same : x - 0 ≡ x = omega arith in rw same (ap (λ l. x ∷ l) (lowered-none xs))
+
+-- the first n symbols are an arena of their own
+pub truncated : (bytes ends : List ℕ) (n e : ℕ) → n ≤ length ends → e ≡ start_of 0 ends n → EndsAscend 0 bytes ends → cut 0 (take e bytes) (take n ends) ≡ take n (cut 0 bytes ends)
+truncated bytes ends n e l is h =
+    let same : e - 0 ≡ e = omega arith in
+    let none : 0 - 0 ≡ 0 = omega arith in
+    rw (none, same, lowered-none (take n ends)) at (cut-part 0 e 0 n bytes ends (omega arith) l (omega (arith, is)) h)
+
+pub ascends-truncated : (bytes ends : List ℕ) (n e : ℕ) → n ≤ length ends → e ≡ start_of 0 ends n → EndsAscend 0 bytes ends → EndsAscend 0 (take e bytes) (take n ends)
+ascends-truncated bytes ends n e l is h =
+    let none : 0 - 0 ≡ 0 = omega arith in
+    let size : length (take e bytes) ≡ start_of 0 ends n - 0 = omega (arith, is, length-take e bytes, start_of-within n 0 bytes ends l h) in
+    rw (none, lowered-none (take n ends)) at (ascends-part 0 0 n bytes (take e bytes) ends (omega arith) l size h)

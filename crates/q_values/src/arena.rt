@@ -100,6 +100,24 @@ impl Arena {
         Ok(())
     }
 
+    /// Makes room for `n` more symbols, and none for their bytes. It changes no symbol.
+    pub fn reserve(&mut self, n: usize) -> Result<(), NoMemory>
+        ensures { self.new ≡ self.old }
+    {
+        Ok(self.ends.reserve(n)?)
+    }
+
+    /// Keeps the first `n` symbols, where there are more.
+    pub fn truncate(&mut self, n: usize)
+        ensures { self.new ≡ take n self.old }
+    {
+        if n < self.len() {
+            let end = start_of_symbol(&self.ends, n);
+            self.bytes.truncate(end);
+            self.ends.truncate(n);
+        }
+    }
+
     /// A copy of the symbols at these indices, in their order.
     pub fn gather(&self, alloc: Global, places: &[usize]) -> Result<Arena, NoMemory>
         requires { All (λ i. i < length self.now) places.now }

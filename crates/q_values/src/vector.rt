@@ -165,6 +165,20 @@ impl Vector {
         self.column.append_part(&other.column, from, n)
     }
 
+    /// Makes room for `n` more atoms; where they are symbols, none for their bytes. It changes no atom.
+    pub fn reserve(&mut self, n: usize) -> Result<(), NoMemory>
+        ensures { self.new ≡ self.old }
+    {
+        self.column.reserve(n)
+    }
+
+    /// Keeps the first `n` atoms, where there are more.
+    pub fn truncate(&mut self, n: usize)
+        ensures { self.new ≡ record self.old { atoms = take n self.old.atoms } }
+    {
+        self.column.truncate(n)
+    }
+
     /// The indices of the atoms in ascending order, ties by index: symbols and characters by bytes, all others by
     /// number, so that a null comes first (the null of a character aside).
     pub fn order(&self, alloc: Global) -> Result<Places, NoMemory>

@@ -1,4 +1,4 @@
-use Rattle.std.proofs.Common.{sym, ◌∙◌}
+use Rattle.std.proofs.Common.{sym}
 use Rattle.q_values.proofs.ShortLemmas.{number_of_cmp}
 use Rattle.q_values.proofs.short.ShortSymbolOrd.cmp.Goals as goal
 

@@ -1,4 +1,4 @@
-use Rattle.std.proofs.Common.{sym, ◌∙◌}
+use Rattle.std.proofs.Common.{sym}
 use Rattle.q_values.proofs.ShortLemmas.{number_of_eq}
 use Rattle.q_values.proofs.short.ShortSymbolPartialEq.eq.Goals as goal
 
