@@ -1,6 +1,10 @@
 use Rattle.std.proofs.Common.{◌≡◌, ℕ, ◌+◌, ◌-◌, ◌<◌, ◌≤◌, ◌++◌, List, [], ◌∷◌, length, get_or, take, drop, refl, sym, ap, ◌∙◌, arith, zero, suc, All}
 use Rattle.std.proofs.lemmas.List.{drop-drop, drop_at, take_all, take-append-le, drop-append-le, length-drop, length-append}
-use Rattle.std.proofs.lemmas.List.Elements.{All-nil, All-cons}
+use Rattle.std.proofs.lemmas.List.Elements.{All-nil, All-cons, All-take, All-drop}
+use Rattle.std.specs.List.{sum_by}
+use Rattle.std.proofs.lemmas.List.{length-take}
+use Rattle.std.proofs.lemmas.List.Sums.{sum_by-cons}
+use Rattle.q_values.specs.Bytes.{HasNoNul}
 use Rattle.q_values.specs.Arena.{cut, EndsAscend, start_of, IsPiece, moved}
 
 pub ascends-le : (from : ℕ) (bytes ends : List ℕ) → EndsAscend from bytes ends → from ≤ length bytes
@@ -74,3 +78,17 @@ piece_at from bytes (e ∷ es) (suc zero) start end h l s t =
 piece_at from bytes (e ∷ es) (suc (suc i)) start end h l s t =
     let p = piece_at e bytes es (suc i) start end h.1 (omega (arith, l)) s t in
     record { rises = p.rises; within = p.within; value = p.value }
+
+-- the symbols from a place on are as long as the bytes from there on
+pub sum-cut : (from : ℕ) (bytes ends : List ℕ) → EndsAscend from bytes ends → from + sum_by length (cut from bytes ends) ≡ length bytes
+sum-cut from bytes [] h = omega (arith, h)
+sum-cut from bytes (e ∷ es) h =
+    let within = ascends-le e bytes es h.1 in
+    let rest = sum-cut e bytes es h.1 in
+    let sum = sum_by-cons length (take (e - from) (drop from bytes)) (cut e bytes es) in
+    omega (arith, h.0, within, rest, sum, length-take (e - from) (drop from bytes), length-drop from bytes)
+
+-- bytes without a 0 are cut into symbols without a 0
+pub no_nul-cut : (from : ℕ) (bytes ends : List ℕ) → HasNoNul bytes → All HasNoNul (cut from bytes ends)
+no_nul-cut from bytes [] h = All-nil HasNoNul
+no_nul-cut from bytes (e ∷ es) h = All-cons HasNoNul (take (e - from) (drop from bytes)) (cut e bytes es) (All-take (λ b. 0 < b) (e - from) (drop from bytes) (All-drop (λ b. 0 < b) from bytes h)) (no_nul-cut e bytes es h)

@@ -1,6 +1,7 @@
 //! Symbols of any length in one arena: all their bytes in order, and the offset at which each ends.
 ghost use Rattle.std.specs.Prelude.{◌≡◌, ◌<◌, ◌+◌, ◌-◌, ◌≤◌, ◌^◌, vec_len, vec_capacity, [], ◌∷◌, ◌++◌, length, take, drop, ◌==◌};
 ghost use Rattle.std.specs.Prelude.{Some, map, slice_get, option_copied, OnOk, OnErr, IfOk, All};
+ghost use Rattle.std.specs.List.{sum_by};
 ghost use Rattle.q_values.specs.Bytes.{HasNoNul};
 ghost use Rattle.q_values.specs.Lists.{gathered};
 ghost use Rattle.q_values.specs.Order.{IsOrder};
@@ -61,6 +62,14 @@ impl Arena {
         ensures { result ≡ length self.now }
     {
         self.ends.len()
+    }
+
+    /// The number of bytes of all symbols together.
+    pub fn bytes_len(&self) -> usize
+        ensures total { result ≡ sum_by length self.now }
+        ensures no_nul { All HasNoNul self.now }
+    {
+        self.bytes.len()
     }
 
     /// Lends the bytes of the symbol at the index `i`.

@@ -1,7 +1,7 @@
 //! Lists that contracts see as lists.
 ghost use Rattle.std.specs.Iterator.Adapters.{IterYieldsInOrder};
 ghost use Rattle.std.specs.Slice.Iter.{iter_rest};
-ghost use Rattle.std.specs.Prelude.{◌≡◌, ◌==◌, ◌<◌, ◌^◌, [], ◌∷◌, ◌++◌, length, Some, slice_get, option_copied, OnOk, OnErr};
+ghost use Rattle.std.specs.Prelude.{◌≡◌, ◌==◌, ◌<◌, ◌^◌, [], ◌∷◌, ◌++◌, length, Some, slice_get, option_copied, OnOk, OnErr, IfOk};
 
 use crate::refusal::NoMemory;
 use std::alloc::Global;
@@ -30,6 +30,15 @@ impl<T: Drop> Sequence<T> {
         Sequence {
             items: Vec::new(alloc),
         }
+    }
+
+    /// An empty list with room for this many items.
+    pub fn with_capacity(alloc: Global, room: usize) -> Result<Sequence<T>, NoMemory>
+        ensures { IfOk result (λ s. s ≡ []) }
+    {
+        Ok(Sequence {
+            items: Vec::with_capacity(alloc, room)?,
+        })
     }
 
     /// A list of these items, which are not copied.

@@ -1,18 +1,23 @@
 //! A symbol of at most eight bytes, in eight bytes.
-ghost use Rattle.std.specs.Prelude.{◌≡◌, ◌≤◌, length};
+ghost use Rattle.std.specs.Prelude.{◌≡◌, ◌<◌, length, min, All, MatchOption};
+ghost use Rattle.std.specs.List.{sum_by};
 ghost use Rattle.q_values.specs.Bytes.{HasNoNul};
 ghost use Rattle.q_values.specs.Short.{IsShort, number_of};
 
 use crate::sym::first_nul;
 use std::cmp::Ordering;
+use std::hash::{Hash, Hasher};
 use std::marker::Model;
+
+/// The most bytes of a short symbol.
+const LENGTH: usize = 8;
 
 /// A symbol of at most eight bytes. It has no zero byte, so the zeros after it show its length. The eight bytes, read as
 /// a big-endian number, compare as the symbols do.
 #[derive(Clone, Copy)]
 pub struct ShortSymbol {
     // The bytes of the symbol, and then zeros.
-    bytes: [u8; 8],
+    bytes: [u8; LENGTH],
 }
 
 impl Model for ShortSymbol {
@@ -32,15 +37,17 @@ impl Model for ShortSymbol {
 }
 
 impl ShortSymbol {
-    /// The symbol of these bytes.
-    pub fn of(symbol: &[u8]) -> ShortSymbol
-        requires no_nul { HasNoNul symbol.now }
-        requires short { length symbol.now ≤ 8 }
-        ensures { result ≡ symbol.now }
+    /// The symbol of these bytes, or `None` where they are more than eight.
+    pub fn of(symbol: &[u8]) -> Option<ShortSymbol>
+        requires { HasNoNul symbol.now }
+        ensures { MatchOption result (8 < length symbol.now) (λ short. short ≡ symbol.now) }
     {
-        let mut bytes = [0u8; 8];
+        if symbol.len() > LENGTH {
+            return None;
+        }
+        let mut bytes = [0u8; LENGTH];
         bytes[..symbol.len()].copy_from_slice(symbol);
-        ShortSymbol { bytes }
+        Some(ShortSymbol { bytes })
     }
 
     /// Lends its bytes.
@@ -51,13 +58,14 @@ impl ShortSymbol {
         &self.bytes[..self.len()]
     }
 
-    // The number of its bytes.
-    fn len(&self) -> usize
-        ensures { result ≡ length self.now }
+    /// The number of its bytes.
+    pub fn len(&self) -> usize
+        ensures value { result ≡ length self.now }
+        ensures short { IsShort self.now }
     {
         match first_nul(&self.bytes) {
             Some(n) => n,
-            None => 8,
+            None => LENGTH,
         }
     }
 
@@ -68,6 +76,18 @@ impl ShortSymbol {
     {
         u64::from_be_bytes(self.bytes)
     }
+}
+
+/// The number of bytes of these symbols together, or `usize::MAX` where it is more.
+pub fn bytes_in(symbols: &[ShortSymbol]) -> usize
+    ensures total { result ≡ min (sum_by length symbols.now) 18446744073709551615 }
+    ensures no_nul { All HasNoNul symbols.now }
+{
+    let mut total = 0usize;
+    for symbol in symbols {
+        total = total.saturating_add(symbol.len());
+    }
+    total
 }
 
 impl PartialEq for ShortSymbol {
@@ -124,5 +144,19 @@ impl PartialOrd for ShortSymbol {
 
     fn partial_cmp(&self, other: &ShortSymbol) -> Option<Ordering> {
         Some(self.cmp(other))
+    }
+}
+
+impl Hash for ShortSymbol {
+    ghost use Rattle.std.specs.Hash as fed;
+    ghost use Rattle.std.proofs.Common.{rules};
+    ghost use Rattle.std.specs.Cmp.Rules.{hashing};
+
+    ghost hash_input = { λ s. fed.u64 (number_of s) };
+
+    ghost respects_eq = { Prim.search (hashing, rules) };
+
+    fn hash<H: Hasher>(&self, state: &mut H) {
+        self.number().hash(state);
     }
 }

@@ -1,7 +1,7 @@
 //! Values: what a message or an answer holds.
 ghost use Rattle.std.specs.Iterator.Adapters.{IterYieldsInOrder};
 ghost use Rattle.std.specs.Slice.Iter.{iter_rest};
-ghost use Rattle.std.specs.Prelude.{◌≡◌, ◌==◌, ◌<◌, ◌^◌, [], ◌∷◌, ◌++◌, length, map, Some, slice_get, option_copied, option_map, OnOk, OnErr};
+ghost use Rattle.std.specs.Prelude.{◌≡◌, ◌==◌, ◌<◌, ◌^◌, [], ◌∷◌, ◌++◌, length, map, Some, slice_get, option_copied, option_map, OnOk, OnErr, IfOk};
 ghost use Rattle.q_values.specs.Table.{IsTable, rows_of};
 
 use crate::atom::Atom;
@@ -93,6 +93,15 @@ impl Values {
         Values {
             items: Vec::new(alloc),
         }
+    }
+
+    /// An empty list with room for this many items.
+    pub fn with_capacity(alloc: Global, room: usize) -> Result<Values, NoMemory>
+        ensures { IfOk result (λ v. trees v ≡ []) }
+    {
+        Ok(Values {
+            items: Vec::with_capacity(alloc, room)?,
+        })
     }
 
     /// A list of these items, which are not copied.

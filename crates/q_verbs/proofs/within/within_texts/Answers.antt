@@ -3,7 +3,7 @@ use Rattle.q_values.specs.declared.atom.Atom.TheVariants as a
 use Rattle.q_verbs.specs.Numbers.{worth}
 use Rattle.q_verbs.specs.Tests.{lies_within}
 use Rattle.q_verbs.proofs.MapLemmas.{map_more_read}
-use Rattle.q_verbs.proofs.within.within_symbols.Goals as goal
+use Rattle.q_verbs.proofs.within.within_texts.Goals as goal
 
 pub loop-i-preserved : goal.loop-i-preserved
 loop-i-preserved c =

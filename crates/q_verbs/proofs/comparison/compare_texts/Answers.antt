@@ -2,7 +2,7 @@ use Rattle.std.proofs.Common.{◌<◌, arith, length}
 use Rattle.std.specs.Ordering.{nat_cmp}
 use Rattle.std.specs.Cmp.Lexicographic.{slice_cmp}
 use Rattle.q_verbs.proofs.ZipLemmas.{zip2_more_read}
-use Rattle.q_verbs.proofs.comparison.compare_symbols.Goals as goal
+use Rattle.q_verbs.proofs.comparison.compare_texts.Goals as goal
 
 pub loop-i-preserved : goal.loop-i-preserved
 loop-i-preserved g c =

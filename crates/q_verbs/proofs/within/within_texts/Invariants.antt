@@ -2,7 +2,7 @@ use Rattle.std.proofs.Common.{◌≡◌, ◌≤◌, length, map, take, vec_len, 
 use Rattle.q_values.specs.declared.atom.Atom.TheVariants as a
 use Rattle.q_verbs.specs.Numbers.{worth}
 use Rattle.q_verbs.specs.Tests.{lies_within}
-use Rattle.q_verbs.proofs.within.within_symbols.Given as goal
+use Rattle.q_verbs.proofs.within.within_texts.Given as goal
 
 abbrev pub invariant-loop-i : goal.invariant-loop-i
 invariant-loop-i l = record {
