@@ -1,6 +1,7 @@
 mod PartLemmas
+pub mod ShortLemmas
 pub mod ColumnLemmas
 pub mod ListLemmas
 pub mod OrderLemmas
-pub mod SymbolsLemmas
+pub mod ArenaLemmas
 pub mod TreeLemmas

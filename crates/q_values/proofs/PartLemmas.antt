@@ -2,8 +2,8 @@
 use Rattle.std.proofs.Common.{◌≡◌, ℕ, ◌+◌, ◌-◌, ◌≤◌, List, [], ◌∷◌, length, take, drop, refl, sym, ap, ◌∙◌, arith, zero, suc, All}
 use Rattle.std.proofs.lemmas.List.{drop-drop, drop-take, take-take, length-take, length-drop}
 use Rattle.std.proofs.lemmas.List.Elements.{All-nil, All-cons}
-use Rattle.q_values.specs.Symbols.{cut, EndsAscend, IsPart, start_of, lowered}
-use Rattle.q_values.proofs.SymbolsLemmas.{ascends-le}
+use Rattle.q_values.specs.Arena.{cut, EndsAscend, IsPart, start_of, lowered}
+use Rattle.q_values.proofs.ArenaLemmas.{ascends-le}
 
 pub start_of-suc : (k e i : ℕ) (es : List ℕ) → start_of k (e ∷ es) (suc i) ≡ start_of e es i
 start_of-suc k e zero es = refl

@@ -1,3 +1,4 @@
+pub mod Arena
 pub mod Atom
 pub mod Bytes
 pub mod Column
@@ -8,6 +9,7 @@ pub mod Limits
 pub mod Lists
 pub mod Order
 pub mod Refusal
+pub mod Short
 pub mod Sym
 pub mod Symbols
 pub mod Table

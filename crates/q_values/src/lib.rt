@@ -20,6 +20,7 @@
 //! Reals, floats, guids, datetimes and nested columns are not built.
 #![tactic(auto)]
 
+mod arena;
 mod atom;
 mod column;
 mod copies;
@@ -28,6 +29,7 @@ mod limits;
 mod order;
 mod refusal;
 mod sequence;
+mod short;
 mod sym;
 mod symbols;
 mod time;
@@ -35,14 +37,16 @@ mod turn;
 mod value;
 mod vector;
 
+pub use arena::Arena;
 pub use atom::{Atom, Element};
 pub use column::Column;
 pub use kind::{ByteKind, IntegerKind, Kind, LongKind, Storage};
 pub use limits::Limits;
 pub use refusal::{NoMemory, VectorRefusal};
 pub use sequence::Sequence;
+pub use short::ShortSymbol;
 pub use sym::{Sym, SymRefusal};
-pub use symbols::{Symbols, SymbolsIter};
+pub use symbols::{Form, Symbols, SymbolsIter};
 pub use time::NANOSECONDS_PER_DAY;
 pub use turn::{SaveEnd, Turn};
 pub use value::{Columns, KeyedValue, Names, Pair, Places, TableValue, Text, Value, Values};

@@ -10,10 +10,14 @@
 //! values_and_literals         a symbol with a zero byte, and another kind pushed or appended
 //! type_numbers                each kind's type number, and none of the numbers between
 //! lists_of_values             lists of values and of numbers
+//! eight_bytes_are_short       symbols of up to eight bytes, and the push of a longer one
+//! forms_are_joined            lists of short symbols and of longer ones, appended, gathered and cut
 //! ```
 //!
 //! What no contract can say is left to them: that a call succeeds where memory is ample.
 #![tactic(auto)]
 
+#[cfg(test)]
+mod forms;
 #[cfg(test)]
 mod tests;

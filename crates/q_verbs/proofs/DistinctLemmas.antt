@@ -70,11 +70,11 @@ place_passed same xs places i x b t h e before any is_not passed =
     let some : list_any (λ y. same y x) (take i xs) ≡ true = sym any ∙ not_false t (sym is_not ∙ passed) in
     before ∙ sym (distinct_more same xs i x h e ∙ ap (λ c. if c then distinct same (take i xs) else distinct same (take i xs) ++ x ∷ []) some)
 
-distinct_through : {X : Type 0} (same : X → X → Bool) (atom : X → Atom) → ((x y : X) → same_atom (atom x) (atom y) ≡ same x y) → (xs : List X) → map atom (distinct same xs) ≡ distinct same_atom (map atom xs)
-distinct_through same atom e [] = refl
-distinct_through same atom e (x ∷ xs) =
-    ap (λ l. atom x ∷ l) (filtered atom (λ y. not (same x y)) (λ u. not (same_atom (atom x) u)) (λ y. ap not (e x y)) (distinct same xs))
-    ∙ ap (λ l. atom x ∷ filter (λ u. not (same_atom (atom x) u)) l) (distinct_through same atom e xs)
+distinct_through : {X W : Type 0} (alike : W → W → Bool) (same : X → X → Bool) (read : X → W) → ((x y : X) → alike (read x) (read y) ≡ same x y) → (xs : List X) → map read (distinct same xs) ≡ distinct alike (map read xs)
+distinct_through alike same read e [] = refl
+distinct_through alike same read e (x ∷ xs) =
+    ap (λ l. read x ∷ l) (filtered read (λ y. not (same x y)) (λ u. not (alike (read x) u)) (λ y. ap not (e x y)) (distinct same xs))
+    ∙ ap (λ l. read x ∷ filter (λ u. not (alike (read x) u)) l) (distinct_through alike same read e xs)
   where
     kept : {A B : Type 0} (f : A → B) (a : A) (b : Bool) (l : List A) → map f (if b then a ∷ l else l) ≡ (if b then f a ∷ map f l else map f l)
     kept f a true l = refl
@@ -86,10 +86,10 @@ distinct_through same atom e (x ∷ xs) =
         kept f a (p a) (filter p l) ∙ (λ i. if sym (d a) i then f a ∷ filtered f p q d l i else filtered f p q d l i)
 
 -- the atoms at the indices of the first of equal items
-pub atoms_distinct : {X : Type 0} (same : X → X → Bool) (atom : X → Atom) (xs ys : List X) (places : List ℕ) → ((x y : X) → same_atom (atom x) (atom y) ≡ same x y) → ys ≡ xs → gathered ys places ≡ distinct same ys → gathered (map atom xs) places ≡ distinct same_atom (map atom xs)
-atoms_distinct same atom xs ys places e same_list d =
+pub read_distinct : {X W : Type 0} (alike : W → W → Bool) (same : X → X → Bool) (read : X → W) (xs ys : List X) (places : List ℕ) → ((x y : X) → alike (read x) (read y) ≡ same x y) → ys ≡ xs → gathered ys places ≡ distinct same ys → gathered (map read xs) places ≡ distinct alike (map read xs)
+read_distinct alike same read xs ys places e same_list d =
     let on_xs : gathered xs places ≡ distinct same xs = subst (λ l. gathered l places ≡ distinct same l) same_list d in
-    sym (map-gathered atom xs places) ∙ ap (map atom) on_xs ∙ distinct_through same atom e xs
+    sym (map-gathered read xs places) ∙ ap (map read) on_xs ∙ distinct_through alike same read e xs
 
 -- a set of the items so far, with one more
 pub seen_more : {X : Type 0} (same : X → X → Bool) (xs : List X) (i : ℕ) (x q : X) (old new : Bool) → i < length xs → x ≡ get_or xs i x → old ≡ list_any (λ y. same y q) (take i xs) → new ≡ cond (same x q) true old → new ≡ list_any (λ y. same y q) (take (i + 1) xs)

@@ -14,7 +14,7 @@ ghost use Rattle.q_verbs.specs.Tests.{is_among};
 
 use crate::comparison::booleans;
 use crate::wide::Wide;
-use q_values::{Column, NoMemory, Symbols, Vector};
+use q_values::{Column, Form, NoMemory, ShortSymbol, Symbols, Vector};
 use std::alloc::{AllocError, Global};
 use std::collections::HashSet;
 use std::hash::Hash;
@@ -160,7 +160,62 @@ fn among_few_symbols(
     Ok(values)
 }
 
-fn among_symbols(alloc: Global, left: &Symbols, items: &Symbols) -> Result<Vec<bool>, AllocError>
+fn is_one_of_short(items: &[ShortSymbol], x: &ShortSymbol) -> bool
+    ensures { result ≡ list_any (λ t. is_eq (slice_cmp nat_cmp x.now t)) items.now }
+{
+    let mut found = false;
+    for item in items {
+        found |= *x == *item;
+    }
+    found
+}
+
+fn among_few_short(
+    alloc: Global,
+    left: &[ShortSymbol],
+    items: &[ShortSymbol],
+) -> Result<Vec<bool>, AllocError>
+    ensures { IfOk result (λ v. v.items
+        ≡ map (λ s. list_any (λ t. is_eq (slice_cmp nat_cmp s t)) items.now) left.now) }
+{
+    let mut values = Vec::with_capacity(alloc, left.len())?;
+    for item in left {
+        values.push_reserved(is_one_of_short(items, item));
+    }
+    Ok(values)
+}
+
+fn among_many_short(
+    alloc: Global,
+    left: &[ShortSymbol],
+    items: &[ShortSymbol],
+) -> Result<Vec<bool>, AllocError>
+    ensures { IfOk result (λ v. v.items
+        ≡ map (λ s. list_any (λ t. is_eq (slice_cmp nat_cmp s t)) items.now) left.now) }
+{
+    let set = set_of(alloc, items)?;
+    let values = among_items(alloc, left, &set)?;
+    Ok(values)
+}
+
+fn among_short(
+    alloc: Global,
+    left: &[ShortSymbol],
+    items: &[ShortSymbol],
+) -> Result<Vec<bool>, AllocError>
+    ensures { IfOk result (λ v. v.items
+        ≡ map (λ s. list_any (λ t. is_eq (slice_cmp nat_cmp s t)) items.now) left.now) }
+{
+    if items.len() <= FEW {
+        let values = among_few_short(alloc, left, items)?;
+        Ok(values)
+    } else {
+        let values = among_many_short(alloc, left, items)?;
+        Ok(values)
+    }
+}
+
+fn among_texts(alloc: Global, left: &Symbols, items: &Symbols) -> Result<Vec<bool>, AllocError>
     ensures { IfOk result (λ v. v.items
         ≡ map (λ s. list_any (λ t. is_eq (slice_cmp nat_cmp s t)) items.now) left.now) }
 {
@@ -170,6 +225,16 @@ fn among_symbols(alloc: Global, left: &Symbols, items: &Symbols) -> Result<Vec<b
     } else {
         let values = among_many_symbols(alloc, left, items)?;
         Ok(values)
+    }
+}
+
+fn among_symbols(alloc: Global, left: &Symbols, items: &Symbols) -> Result<Vec<bool>, AllocError>
+    ensures { IfOk result (λ v. v.items
+        ≡ map (λ s. list_any (λ t. is_eq (slice_cmp nat_cmp s t)) items.now) left.now) }
+{
+    match (left.form(), items.form()) {
+        (Form::Short(some), Form::Short(others)) => among_short(alloc, some, others),
+        _ => among_texts(alloc, left, items),
     }
 }
 

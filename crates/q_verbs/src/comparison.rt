@@ -14,7 +14,7 @@ ghost use Rattle.q_verbs.specs.Loops.{worth_in_64};
 
 use crate::verb::Verb;
 use crate::wide::Wide;
-use q_values::{Column, NoMemory, Symbols, Vector};
+use q_values::{Column, Form, NoMemory, ShortSymbol, Symbols, Vector};
 use std::alloc::{AllocError, Global};
 use std::cmp::Ordering;
 
@@ -126,7 +126,23 @@ fn compare_numbers<P: Relation>(
     Ok(values)
 }
 
-fn compare_symbols<P: Relation>(
+fn compare_short<P: Relation>(
+    alloc: Global,
+    left: &[ShortSymbol],
+    right: &[ShortSymbol],
+) -> Result<Vec<bool>, AllocError>
+    requires { length left.now ≡ length right.now }
+    ensures { IfOk result (λ v. v.items
+        ≡ zip2 (λ s t. P.relates (slice_cmp nat_cmp s t)) left.now right.now) }
+{
+    let mut values = Vec::with_capacity(alloc, left.len())?;
+    for i in 0..left.len() {
+        values.push_reserved(P::holds(left[i].cmp(&right[i])));
+    }
+    Ok(values)
+}
+
+fn compare_texts<P: Relation>(
     alloc: Global,
     left: &Symbols,
     right: &Symbols,
@@ -140,6 +156,21 @@ fn compare_symbols<P: Relation>(
         values.push_reserved(P::holds(left.at(i).cmp(right.at(i))));
     }
     Ok(values)
+}
+
+fn compare_symbols<P: Relation>(
+    alloc: Global,
+    left: &Symbols,
+    right: &Symbols,
+) -> Result<Vec<bool>, AllocError>
+    requires { length left.now ≡ length right.now }
+    ensures { IfOk result (λ v. v.items
+        ≡ zip2 (λ s t. P.relates (slice_cmp nat_cmp s t)) left.now right.now) }
+{
+    match (left.form(), right.form()) {
+        (Form::Short(some), Form::Short(others)) => compare_short::<P>(alloc, some, others),
+        _ => compare_texts::<P>(alloc, left, right),
+    }
 }
 
 fn compare_columns<P: Relation>(

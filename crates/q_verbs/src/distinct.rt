@@ -1,11 +1,12 @@
 //! The first of equal items.
-ghost use Rattle.std.specs.Prelude.{◌≡◌, ◌<◌, length, map, All, IfOk};
+ghost use Rattle.std.specs.Prelude.{◌≡◌, ◌<◌, length, map, All, IfOk, nat_eq};
+ghost use Rattle.std.specs.Cmp.Lexicographic.{pointwise};
 ghost use Rattle.q_values.specs.Column.{contents};
 ghost use Rattle.q_values.specs.Lists.{gathered};
 ghost use Rattle.q_verbs.specs.Lists.{distinct, same_atom};
 
 use crate::among::texts_of;
-use q_values::{Column, NoMemory, Vector};
+use q_values::{Column, Form, NoMemory, Symbols, Vector};
 use std::alloc::{AllocError, Global};
 use std::collections::HashSet;
 use std::hash::Hash;
@@ -25,6 +26,19 @@ fn first_places<T: Eq + Hash + Copy>(alloc: Global, items: &[T]) -> Result<Vec<u
     Ok(places)
 }
 
+fn first_places_of_symbols(alloc: Global, symbols: &Symbols) -> Result<Vec<usize>, AllocError>
+    ensures items { IfOk result (λ v. gathered symbols.now v.items ≡ distinct (pointwise nat_eq) symbols.now) }
+    ensures within { IfOk result (λ v. All (λ p. p < length symbols.now) v.items) }
+{
+    match symbols.form() {
+        Form::Short(items) => first_places(alloc, items),
+        Form::Long(_) => {
+            let texts = texts_of(alloc, symbols)?;
+            first_places(alloc, &texts)
+        }
+    }
+}
+
 fn first_places_of(alloc: Global, column: &Column) -> Result<Vec<usize>, NoMemory>
     ensures items { IfOk result (λ v. gathered (contents column.now).atoms v.items
         ≡ distinct same_atom (contents column.now).atoms) }
@@ -36,10 +50,7 @@ fn first_places_of(alloc: Global, column: &Column) -> Result<Vec<usize>, NoMemor
         Column::Shorts(items) => Ok(first_places(alloc, items)?),
         Column::Integers(_, items) => Ok(first_places(alloc, items)?),
         Column::Longs(_, items) => Ok(first_places(alloc, items)?),
-        Column::Symbols(symbols) => {
-            let texts = texts_of(alloc, symbols)?;
-            Ok(first_places(alloc, &texts)?)
-        }
+        Column::Symbols(symbols) => Ok(first_places_of_symbols(alloc, symbols)?),
     }
 }
 

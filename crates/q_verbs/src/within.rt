@@ -1,6 +1,7 @@
 //! Whether items lie between two atoms.
 ghost use Rattle.std.specs.Prelude.{◌≡◌, ◌≢◌, IsSome, length, map, IfOk};
 ghost use Rattle.q_values.specs.Atom.{kind_of};
+ghost use Rattle.q_values.specs.Bytes.{HasNoNul};
 ghost use Rattle.q_values.specs.Column.{contents};
 ghost use Rattle.q_values.specs.declared.atom.Atom.TheVariants as a;
 ghost use Rattle.q_values.specs.declared.kind.Kind.TheVariants as k;
@@ -12,7 +13,7 @@ ghost use Rattle.q_verbs.specs.Tests.{lies_within};
 use crate::comparison::{booleans, order_of};
 use crate::number::Number;
 use crate::wide::Wide;
-use q_values::{Atom, Column, Element, NoMemory, Symbols, Vector};
+use q_values::{Atom, Column, Element, Form, NoMemory, ShortSymbol, Symbols, Vector};
 use std::alloc::{AllocError, Global};
 
 // An atom's number in 64 bits, the least one for the null.
@@ -58,7 +59,30 @@ fn symbol_lies_between(x: &[u8], low: &[u8], high: &[u8]) -> bool
     low.cmp(x).is_le() && x.cmp(high).is_le()
 }
 
-fn within_symbols(
+fn short_lies_between(x: &ShortSymbol, low: &ShortSymbol, high: &ShortSymbol) -> bool
+    ensures { result ≡ lies_within (worth (a.Symbol low.now)) (worth (a.Symbol high.now)) (worth (a.Symbol x.now)) }
+{
+    low.cmp(x).is_le() && x.cmp(high).is_le()
+}
+
+fn within_short(
+    alloc: Global,
+    items: &[ShortSymbol],
+    low: &ShortSymbol,
+    high: &ShortSymbol,
+) -> Result<Vec<bool>, AllocError>
+    ensures { IfOk result (λ v. v.items ≡ map
+        (λ s. lies_within (worth (a.Symbol low.now)) (worth (a.Symbol high.now)) (worth (a.Symbol s)))
+        items.now) }
+{
+    let mut values = Vec::with_capacity(alloc, items.len())?;
+    for item in items {
+        values.push_reserved(short_lies_between(item, low, high));
+    }
+    Ok(values)
+}
+
+fn within_texts(
     alloc: Global,
     items: &Symbols,
     low: &[u8],
@@ -73,6 +97,24 @@ fn within_symbols(
         values.push_reserved(symbol_lies_between(items.at(i), low, high));
     }
     Ok(values)
+}
+
+fn within_symbols(
+    alloc: Global,
+    items: &Symbols,
+    low: &[u8],
+    high: &[u8],
+) -> Result<Vec<bool>, AllocError>
+    requires low { HasNoNul low.now }
+    requires high { HasNoNul high.now }
+    ensures { IfOk result (λ v. v.items ≡ map
+        (λ s. lies_within (worth (a.Symbol low.now)) (worth (a.Symbol high.now)) (worth (a.Symbol s)))
+        items.now) }
+{
+    match (items.form(), ShortSymbol::of(low), ShortSymbol::of(high)) {
+        (Form::Short(short), Some(from), Some(to)) => within_short(alloc, short, &from, &to),
+        _ => within_texts(alloc, items, low, high),
+    }
 }
 
 fn within_wide(

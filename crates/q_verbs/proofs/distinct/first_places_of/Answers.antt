@@ -1,4 +1,4 @@
-use Rattle.std.proofs.Common.{◌≡◌, ℕ, Bool, List, Bor, ap, ◌∙◌, sym, map, subst}
+use Rattle.std.proofs.Common.{refl, ◌≡◌, ℕ, Bool, List, Bor, ap, ◌∙◌, sym, map, subst}
 use Rattle.std.specs.Prelude.{nat_eq}
 use Rattle.std.specs.Ordering.{int_eq}
 use mathlib.Core.Bool.{beq}
@@ -9,35 +9,30 @@ use Rattle.q_values.specs.Lists.{gathered}
 use Rattle.q_values.specs.declared.atom.Atom.{Atom}
 use Rattle.q_values.specs.declared.atom.Atom.TheVariants as a
 use Rattle.q_verbs.specs.Lists.{distinct, same_atom}
-use Rattle.q_verbs.proofs.DistinctLemmas.{atoms_distinct, same-boolean, same-byte, same-short, same-integer, same-long, same-text}
+use Rattle.q_verbs.proofs.DistinctLemmas.{read_distinct, same-boolean, same-byte, same-short, same-integer, same-long, same-text}
 use Rattle.q_verbs.proofs.MapLemmas.{map-mapped}
 use Rattle.q_verbs.proofs.distinct.first_places_of.Goals as goal
 
 pub returns-in_ok-first_places-in-Booleans-clause-items : goal.returns-in_ok-first_places-in-Booleans-clause-items
 returns-in_ok-first_places-in-Booleans-clause-items c =
-    rw c.in-Booleans.is (atoms_distinct beq (λ b. a.Boolean b) c.in-Booleans.items.items c.deref.result.now c.in_ok-first_places-in-Booleans.field-0.items (same-boolean) c.deref.ensures.value c.in_ok-first_places-in-Booleans.ensures.items)
+    rw c.in-Booleans.is (read_distinct same_atom beq (λ b. a.Boolean b) c.in-Booleans.items.items c.deref.result.now c.in_ok-first_places-in-Booleans.field-0.items (same-boolean) c.deref.ensures.value c.in_ok-first_places-in-Booleans.ensures.items)
 
 pub returns-in_ok-first_places-in-Bytes-clause-items : goal.returns-in_ok-first_places-in-Bytes-clause-items
 returns-in_ok-first_places-in-Bytes-clause-items c =
-    rw c.in-Bytes.is (atoms_distinct eqb (byte_atom c.in-Bytes.field-0) c.in-Bytes.items.items c.deref-in-Bytes.result.now c.in_ok-first_places-in-Bytes.field-0.items (same-byte c.in-Bytes.field-0) c.deref-in-Bytes.ensures.value c.in_ok-first_places-in-Bytes.ensures.items)
+    rw c.in-Bytes.is (read_distinct same_atom eqb (byte_atom c.in-Bytes.field-0) c.in-Bytes.items.items c.deref-in-Bytes.result.now c.in_ok-first_places-in-Bytes.field-0.items (same-byte c.in-Bytes.field-0) c.deref-in-Bytes.ensures.value c.in_ok-first_places-in-Bytes.ensures.items)
 
 pub returns-in_ok-first_places-in-Shorts-clause-items : goal.returns-in_ok-first_places-in-Shorts-clause-items
 returns-in_ok-first_places-in-Shorts-clause-items c =
-    rw c.in-Shorts.is (atoms_distinct int_eq (λ x. a.Short x) c.in-Shorts.items.items c.deref-in-Shorts.result.now c.in_ok-first_places-in-Shorts.field-0.items (same-short) c.deref-in-Shorts.ensures.value c.in_ok-first_places-in-Shorts.ensures.items)
+    rw c.in-Shorts.is (read_distinct same_atom int_eq (λ x. a.Short x) c.in-Shorts.items.items c.deref-in-Shorts.result.now c.in_ok-first_places-in-Shorts.field-0.items (same-short) c.deref-in-Shorts.ensures.value c.in_ok-first_places-in-Shorts.ensures.items)
 
 pub returns-in_ok-first_places-in-Integers-clause-items : goal.returns-in_ok-first_places-in-Integers-clause-items
 returns-in_ok-first_places-in-Integers-clause-items c =
-    rw c.in-Integers.is (atoms_distinct int_eq (integer_atom c.in-Integers.field-0) c.in-Integers.items.items c.deref-in-Integers.result.now c.in_ok-first_places-in-Integers.field-0.items (same-integer c.in-Integers.field-0) c.deref-in-Integers.ensures.value c.in_ok-first_places-in-Integers.ensures.items)
+    rw c.in-Integers.is (read_distinct same_atom int_eq (integer_atom c.in-Integers.field-0) c.in-Integers.items.items c.deref-in-Integers.result.now c.in_ok-first_places-in-Integers.field-0.items (same-integer c.in-Integers.field-0) c.deref-in-Integers.ensures.value c.in_ok-first_places-in-Integers.ensures.items)
 
 pub returns-in_ok-first_places-in-Longs-clause-items : goal.returns-in_ok-first_places-in-Longs-clause-items
 returns-in_ok-first_places-in-Longs-clause-items c =
-    rw c.in-Longs.is (atoms_distinct int_eq (long_atom c.in-Longs.field-0) c.in-Longs.items.items c.deref-in-Longs.result.now c.in_ok-first_places-in-Longs.field-0.items (same-long c.in-Longs.field-0) c.deref-in-Longs.ensures.value c.in_ok-first_places-in-Longs.ensures.items)
+    rw c.in-Longs.is (read_distinct same_atom int_eq (long_atom c.in-Longs.field-0) c.in-Longs.items.items c.deref-in-Longs.result.now c.in_ok-first_places-in-Longs.field-0.items (same-long c.in-Longs.field-0) c.deref-in-Longs.ensures.value c.in_ok-first_places-in-Longs.ensures.items)
 
-pub returns-in_ok-first_places-in-Symbols-clause-items : goal.returns-in_ok-first_places-in-Symbols-clause-items
-returns-in_ok-first_places-in-Symbols-clause-items c =
-    let eq : Bor (List ℕ) → Bor (List ℕ) → Bool = λ x y. pointwise nat_eq x.now y.now in
-    let atom : Bor (List ℕ) → Atom = λ t. a.Symbol t.now in
-    let texts = c.in_ok-texts-in-Symbols.texts.items in
-    let atoms : map atom texts ≡ map (λ (s : List ℕ). a.Symbol s) c.in-Symbols.symbols = sym (map-mapped (λ (s : List ℕ). a.Symbol s) (λ (t : Bor (List ℕ)). t.now) texts) ∙ ap (map (λ (s : List ℕ). a.Symbol s)) c.in_ok-texts-in-Symbols.ensures in
-    let found = atoms_distinct eq atom texts c.deref-in-Symbols.result.now c.in_ok-first_places-in-Symbols.field-0.items (λ x y. same-text x.now y.now) c.deref-in-Symbols.ensures.value c.in_ok-first_places-in-Symbols.ensures.items in
-    rw c.in-Symbols.is (subst (λ l. gathered l c.in_ok-first_places-in-Symbols.field-0.items ≡ distinct same_atom l) atoms found)
+pub returns-in_ok-first_places_of_symbols-in-Symbols-clause-items : goal.returns-in_ok-first_places_of_symbols-in-Symbols-clause-items
+returns-in_ok-first_places_of_symbols-in-Symbols-clause-items c =
+    rw c.in-Symbols.is (read_distinct same_atom (pointwise nat_eq) (λ (s : List ℕ). a.Symbol s) c.in-Symbols.symbols c.in-Symbols.symbols c.in_ok-first_places_of_symbols-in-Symbols.field-0.items (same-text) refl c.in_ok-first_places_of_symbols-in-Symbols.ensures.items)

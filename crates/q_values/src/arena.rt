@@ -1,0 +1,210 @@
+//! Symbols of any length in one arena: all their bytes in order, and the offset at which each ends.
+ghost use Rattle.std.specs.Prelude.{◌≡◌, ◌<◌, ◌+◌, ◌-◌, ◌≤◌, ◌^◌, vec_len, vec_capacity, [], ◌∷◌, ◌++◌, length, take, drop, ◌==◌};
+ghost use Rattle.std.specs.Prelude.{Some, map, slice_get, option_copied, OnOk, OnErr, IfOk, All};
+ghost use Rattle.std.specs.List.{sum_by};
+ghost use Rattle.q_values.specs.Bytes.{HasNoNul};
+ghost use Rattle.q_values.specs.Lists.{gathered};
+ghost use Rattle.q_values.specs.Order.{IsOrder};
+ghost use Rattle.std.specs.Ordering.{nat_cmp};
+ghost use Rattle.std.specs.Cmp.Lexicographic.{slice_cmp};
+ghost use Rattle.q_values.specs.Arena.{EndsAscend, IsPiece, IsPart, start_of, moved, lowered};
+
+use crate::order::order_of_items;
+use crate::refusal::NoMemory;
+use crate::short::ShortSymbol;
+use std::alloc::Global;
+use std::marker::Model;
+
+/// A list of symbols in two blocks of memory, however many they are.
+#[derive(Drop)]
+pub struct Arena {
+    // The bytes of all symbols, in order. None is 0.
+    bytes: Vec<u8>,
+    // For each symbol the offset after its last byte. They never fall, and the last is the length of the bytes.
+    ends: Vec<usize>,
+}
+
+impl Model for Arena {
+    ghost use Rattle.std.specs.Prelude.{ℕ, List};
+    ghost use Rattle.q_values.specs.Arena.{cut, IsArena};
+
+    ghost Value = { List (List ℕ) };
+
+    ghost view = { λ s. cut 0 s.bytes.items s.ends.items };
+
+    ghost invariant = { λ s. IsArena s.bytes.items s.ends.items };
+}
+
+impl Arena {
+    /// No symbols, which takes no memory.
+    pub fn new(alloc: Global) -> Arena
+        ensures { result ≡ [] }
+    {
+        Arena {
+            bytes: Vec::new(alloc),
+            ends: Vec::new(alloc),
+        }
+    }
+
+    /// The same symbols.
+    pub fn of_short(alloc: Global, symbols: &[ShortSymbol]) -> Result<Arena, NoMemory>
+        ensures { IfOk result (λ arena. arena ≡ symbols.now) }
+    {
+        let mut arena = Arena::new(alloc);
+        for symbol in symbols {
+            arena.push(symbol.bytes())?;
+        }
+        Ok(arena)
+    }
+
+    /// The number of symbols.
+    pub fn len(&self) -> usize
+        ensures { result ≡ length self.now }
+    {
+        self.ends.len()
+    }
+
+    /// The number of bytes of all symbols together.
+    pub fn bytes_len(&self) -> usize
+        ensures total { result ≡ sum_by length self.now }
+        ensures no_nul { All HasNoNul self.now }
+    {
+        self.bytes.len()
+    }
+
+    /// Lends the bytes of the symbol at the index `i`.
+    pub fn at(&self, i: usize) -> &[u8]
+        requires { i < length self.now }
+        ensures value { slice_get self.now i ≡ Some result.now }
+        ensures no_nul { HasNoNul result.now }
+    {
+        let (start, end) = span_of(&self.bytes, &self.ends, i);
+        &self.bytes[start..end]
+    }
+
+    /// Puts a symbol of these bytes at the end. A refused call changes nothing.
+    pub fn push(&mut self, symbol: &[u8]) -> Result<(), NoMemory>
+        requires { HasNoNul symbol.now }
+        ensures ok { OnOk result (self.new ≡ self.old ++ symbol.now ∷ []) }
+        ensures err { OnErr result (self.new ≡ self.old) }
+    {
+        self.ends.reserve(1)?;
+        self.bytes.extend_from_slice(symbol)?;
+        let end = self.bytes.len();
+        self.ends.push_reserved(end);
+        Ok(())
+    }
+
+    /// Appends the `n` symbols of the others from the index `from` on. A refused call changes nothing.
+    pub fn append_part(&mut self, other: &Arena, from: usize, n: usize) -> Result<(), NoMemory>
+        requires { from + n ≤ length other.now }
+        ensures ok { OnOk result (self.new ≡ self.old ++ take n (drop from other.now)) }
+        ensures err { OnErr result (self.new ≡ self.old) }
+    {
+        let (start, end) = bounds_of(&other.bytes, &other.ends, from, n);
+        self.ends.reserve(n)?;
+        let base = self.bytes.len();
+        self.bytes.extend_from_slice(&other.bytes[start..end])?;
+        push_moved(&mut self.ends, &other.ends[from..][..n], start, base);
+        Ok(())
+    }
+
+    /// Makes room for `n` more symbols, and none for their bytes. It changes no symbol.
+    pub fn reserve(&mut self, n: usize) -> Result<(), NoMemory>
+        ensures { self.new ≡ self.old }
+    {
+        Ok(self.ends.reserve(n)?)
+    }
+
+    /// Keeps the first `n` symbols, where there are more.
+    pub fn truncate(&mut self, n: usize)
+        ensures { self.new ≡ take n self.old }
+    {
+        if n < self.len() {
+            let end = start_of_symbol(&self.ends, n);
+            self.bytes.truncate(end);
+            self.ends.truncate(n);
+        }
+    }
+
+    /// A copy of the symbols at these indices, in their order.
+    pub fn gather(&self, alloc: Global, places: &[usize]) -> Result<Arena, NoMemory>
+        requires { All (λ i. i < length self.now) places.now }
+        ensures { IfOk result (λ s. s ≡ gathered self.now places.now) }
+    {
+        let mut found = Arena::new(alloc);
+        found.ends.reserve(places.len())?;
+        for place in places {
+            found.push(self.at(*place))?;
+        }
+        Ok(found)
+    }
+
+    /// A copy of the `n` symbols from the index `from` on.
+    pub fn take(&self, alloc: Global, from: usize, n: usize) -> Result<Arena, NoMemory>
+        requires { from + n ≤ length self.now }
+        ensures { IfOk result (λ s. s ≡ take n (drop from self.now)) }
+    {
+        let mut found = Arena::new(alloc);
+        found.append_part(self, from, n)?;
+        Ok(found)
+    }
+
+    /// The indices of the symbols in ascending order of their bytes, ties by index.
+    pub fn order(&self, alloc: Global) -> Result<Vec<usize>, NoMemory>
+        ensures { IfOk result (λ places. IsOrder (slice_cmp nat_cmp) self.now places.items) }
+    {
+        let texts = self.texts(alloc)?;
+        let places = order_of_items(alloc, &texts)?;
+        Ok(places)
+    }
+
+    // The bytes of each symbol.
+    fn texts(&self, alloc: Global) -> Result<Vec<&[u8]>, NoMemory>
+        ensures { IfOk result (λ v. map (λ t. t.now) v.items ≡ self.now) }
+    {
+        let mut texts = Vec::with_capacity(alloc, self.len())?;
+        for i in 0..self.len() {
+            texts.push(self.at(i))?;
+        }
+        Ok(texts)
+    }
+}
+
+// Where the symbol i starts and ends.
+fn span_of(bytes: &[u8], ends: &[usize], i: usize) -> (usize, usize)
+    requires ascends { EndsAscend 0 bytes.now ends.now }
+    requires within { i < length ends.now }
+    ensures { IsPiece 0 bytes.now ends.now i result.0 result.1 }
+{
+    (start_of_symbol(ends, i), ends[i])
+}
+
+// The offset at which the symbol i starts; after the last symbol, where the bytes end.
+fn start_of_symbol(ends: &[usize], i: usize) -> usize
+    requires { i ≤ length ends.now }
+    ensures { result ≡ start_of 0 ends.now i }
+{
+    if i == 0 { 0 } else { ends[i - 1] }
+}
+
+// The offsets at which the `n` symbols from the index `from` on start and end.
+fn bounds_of(bytes: &[u8], ends: &[usize], from: usize, n: usize) -> (usize, usize)
+    requires ascends { EndsAscend 0 bytes.now ends.now }
+    requires within { from + n ≤ length ends.now }
+    ensures { IsPart bytes.now ends.now from n result.0 result.1 }
+{
+    (start_of_symbol(ends, from), start_of_symbol(ends, from + n))
+}
+
+// Appends these ends for bytes that were copied from the offset `start` to the offset `base`.
+fn push_moved(ends: &mut Vec<usize>, more: &[usize], start: usize, base: usize)
+    requires room { vec_len ends.old + length more.now ≤ vec_capacity ends.old }
+    requires after { All (λ end. start ≤ end) more.now }
+    requires fits { All (λ end. base + (end - start) < 2 ^ 64) more.now }
+    ensures { ends.new.items ≡ ends.old.items ++ moved base (lowered start more.now) }
+{
+    for end in more {
+        ends.push_reserved(base + (*end - start));
+    }
+}
