@@ -1,7 +1,8 @@
 //! Schema texts with their expected outcomes.
 
+use day_rows::Schema;
 use q_values::Kind;
-use schema_text::{BUILT_IN, SchemaRefusal, read_schema};
+use schema_text::{BUILT_IN, SchemaRefusal, built_in_schema, read_schema};
 use std::alloc::Global;
 use std::process::Abort;
 use std::test::Fail;
@@ -32,20 +33,26 @@ fn outcome_of(alloc: Global, text: &[u8]) -> Outcome {
     }
 }
 
+fn assert_is_built_in(rt: &impl Abort, schema: &Schema) {
+    assert_eq!(rt; schema.len(), 2);
+    let quote = schema.at(0);
+    let trade = schema.at(1);
+    assert!(rt; quote.table.bytes() == b"quote".as_slice());
+    assert!(rt; trade.table.bytes() == b"trade".as_slice());
+    assert_eq!(rt; quote.names.len(), 6);
+    assert_eq!(rt; trade.names.len(), 4);
+    assert!(rt; trade.names.at(2).bytes() == b"price".as_slice());
+    let kinds = [Kind::Timespan, Kind::Symbol, Kind::Long, Kind::Long];
+    assert_eq!(rt; trade.kinds.as_slice(), kinds.as_slice());
+}
+
 fn assert_built_in(rt: &impl Abort, alloc: Global) {
     match read_schema(alloc, BUILT_IN) {
-        Ok(schema) => {
-            assert_eq!(rt; schema.len(), 2);
-            let quote = schema.at(0);
-            let trade = schema.at(1);
-            assert!(rt; quote.table.bytes() == b"quote".as_slice());
-            assert!(rt; trade.table.bytes() == b"trade".as_slice());
-            assert_eq!(rt; quote.names.len(), 6);
-            assert_eq!(rt; trade.names.len(), 4);
-            assert!(rt; trade.names.at(2).bytes() == b"price".as_slice());
-            let kinds = [Kind::Timespan, Kind::Symbol, Kind::Long, Kind::Long];
-            assert_eq!(rt; trade.kinds.as_slice(), kinds.as_slice());
-        }
+        Ok(schema) => assert_is_built_in(rt, &schema),
+        Err(_) => assert!(rt; false),
+    }
+    match built_in_schema(alloc) {
+        Ok(schema) => assert_is_built_in(rt, &schema),
         Err(_) => assert!(rt; false),
     }
 }
@@ -75,6 +82,10 @@ fn schema_refusals(rt: HostRuntime) -> Result<(), Fail> {
         (
             b"t:([]time:`timespan$();sym:`symbol$();x:`float$())".as_slice(),
             Outcome::BadKind(41),
+        ),
+        (
+            b"t:([]time:`g#`timespan$();sym:`g#`g#`symbol$())".as_slice(),
+            Outcome::BadKind(34),
         ),
         (
             b"t:([]sym:`symbol$();time:`timespan$())".as_slice(),
