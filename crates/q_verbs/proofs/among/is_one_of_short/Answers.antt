@@ -1,4 +1,4 @@
-use Rattle.std.proofs.Common.{◌<◌, ◌||◌, sym, ◌∙◌, length}
+use Rattle.std.proofs.Common.{◌||◌, sym, ◌∙◌}
 use Rattle.std.specs.Ordering.{is_eq, nat_cmp}
 use Rattle.std.specs.Cmp.Lexicographic.{slice_cmp}
 use Rattle.q_verbs.proofs.AmongLemmas.{any_more_at, text_ties}

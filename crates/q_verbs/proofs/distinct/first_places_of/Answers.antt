@@ -1,16 +1,13 @@
-use Rattle.std.proofs.Common.{refl, ◌≡◌, ℕ, Bool, List, Bor, ap, ◌∙◌, sym, map, subst}
+use Rattle.std.proofs.Common.{refl, ℕ, List}
 use Rattle.std.specs.Prelude.{nat_eq}
 use Rattle.std.specs.Ordering.{int_eq}
 use mathlib.Core.Bool.{beq}
 use lib.Dec.{eqb}
 use lib.Pointwise.{pointwise}
 use Rattle.q_values.specs.Column.{byte_atom, integer_atom, long_atom}
-use Rattle.q_values.specs.Lists.{gathered}
-use Rattle.q_values.specs.declared.atom.Atom.{Atom}
 use Rattle.q_values.specs.declared.atom.Atom.TheVariants as a
-use Rattle.q_verbs.specs.Lists.{distinct, same_atom}
+use Rattle.q_verbs.specs.Lists.{same_atom}
 use Rattle.q_verbs.proofs.DistinctLemmas.{read_distinct, same-boolean, same-byte, same-short, same-integer, same-long, same-text}
-use Rattle.q_verbs.proofs.MapLemmas.{map-mapped}
 use Rattle.q_verbs.proofs.distinct.first_places_of.Goals as goal
 
 pub returns-in_ok-first_places-in-Booleans-clause-items : goal.returns-in_ok-first_places-in-Booleans-clause-items
