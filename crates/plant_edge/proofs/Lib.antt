@@ -1,2 +1,3 @@
 pub mod ArgumentsLemmas
+pub mod SentLemmas
 pub mod TimestampLemmas

@@ -20,6 +20,7 @@ mod arguments;
 mod link;
 mod outside;
 mod recorder;
+mod retry;
 
 pub use arguments::clock_of;
 pub use link::StandardLink;

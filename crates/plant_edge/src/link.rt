@@ -1,11 +1,23 @@
 //! A link over a reader and a writer.
+ghost use Rattle.std.specs.Prelude.{◌≡◌};
+ghost use Rattle.std.specs.IoError.{error_kind};
+ghost use Rattle.plant_edge.specs.Link.{Means};
+
+use crate::retry::{is_timeout, read_waiting, write_waiting};
 use outside_api::{Got, Link, LinkFault};
+use std::io;
 use std::io::{ErrorKind, Read, Write};
+use std::time::Clock;
 
 /// The link of a reader and a writer, such as standard input and output. It counts its faults and its read timeouts, and
 /// keeps no bytes. Each count saturates at 2^64 - 1.
+///
+/// Where a call would block, it sleeps for a moment and is tried again; a read times out after 50 milliseconds. A call
+/// that a signal interrupted is tried again at once.
 #[derive(Drop)]
-pub struct StandardLink<I, O> {
+pub struct StandardLink<'a, R, I, O> {
+    /// By its clock a call sleeps that would block.
+    rt: &'a R,
     /// Where bytes are read from.
     input: I,
     /// Where bytes are written to.
@@ -20,15 +32,16 @@ pub struct StandardLink<I, O> {
     idles: u64,
 }
 
-impl<I: Read, O: Write> StandardLink<I, O> {
+impl<'a, R: Clock, I: Read, O: Write> StandardLink<'a, R, I, O> {
     ghost use Rattle.outside_api.specs.Outside.{IsFresh};
     ghost use Rattle.plant_edge.specs.Link.{link_shown};
 
     /// A link that reads from `input` and writes to `output`, its counts 0.
-    pub fn new(input: I, output: O) -> StandardLink<I, O>
+    pub fn new(rt: &'a R, input: I, output: O) -> StandardLink<'a, R, I, O>
         ensures { IsFresh (link_shown result) }
     {
         StandardLink {
+            rt,
             input,
             output,
             ended: false,
@@ -39,43 +52,36 @@ impl<I: Read, O: Write> StandardLink<I, O> {
     }
 }
 
-impl<I: Read, O: Write> Link for StandardLink<I, O> {
-    ghost use Rattle.std.specs.Prelude.{OnOk};
-    ghost use Rattle.std.specs.Io.KnownBytes.{Appends};
+impl<'a, R: Clock, I: Read, O: Write> Link for StandardLink<'a, R, I, O> {
     ghost use Rattle.outside_api.specs.Link.{Reads, Writes};
-    ghost use Rattle.plant_edge.specs.Link.{link_shown, Came, coming_by, sent_by};
+    ghost use Rattle.plant_edge.specs.Link.{link_shown, Came, Sent, coming_by, sent_by};
 
     ghost shown = { link_shown };
 
     fn read(&mut self, buf: &mut [u8]) -> Got
         ensures reads { Reads (link_shown self.old) (link_shown self.new) buf.new result }
-        ensures came { Came (coming_by I.remaining self.old) (coming_by I.remaining self.new) buf.new result }
+        ensures came { Came self.old.ended (coming_by I.remaining self.old) (coming_by I.remaining self.new) buf.new result }
     {
         if self.ended {
             return Got::End;
         }
-        match self.input.read(buf) {
-            Ok(0) if !buf.is_empty() => {
-                self.ended = true;
-                Got::End
-            }
-            Ok(count) => Got::Bytes(count),
-            Err(error) if is_idle(error.kind()) => {
-                self.idles = self.idles.saturating_add(1);
-                Got::Idle
-            }
-            Err(_) => {
-                self.read_faults = self.read_faults.saturating_add(1);
-                Got::Failed
-            }
+        let room = buf.len();
+        let read = read_waiting(self.rt, &mut self.input, buf);
+        let got = got_of(read, room);
+        match got {
+            Got::Bytes(_) => {}
+            Got::End => self.ended = true,
+            Got::Idle => self.idles = self.idles.saturating_add(1),
+            Got::Failed => self.read_faults = self.read_faults.saturating_add(1),
         }
+        got
     }
 
     fn write(&mut self, bytes: &[u8]) -> Result<(), LinkFault>
         ensures writes { Writes (link_shown self.old) (link_shown self.new) bytes.now result }
-        ensures sent { OnOk result (Appends (sent_by O.contents self.old) (sent_by O.contents self.new) bytes.now) }
+        ensures sent { Sent (sent_by O.contents self.old) (sent_by O.contents self.new) bytes.now result }
     {
-        if self.output.write_all(bytes).is_ok() && self.output.flush().is_ok() {
+        if write_waiting(self.rt, &mut self.output, bytes).is_ok() {
             return Ok(());
         }
         self.write_faults = self.write_faults.saturating_add(1);
@@ -83,10 +89,15 @@ impl<I: Read, O: Write> Link for StandardLink<I, O> {
     }
 }
 
-/// Whether an error means that the read timed out.
-fn is_idle(kind: ErrorKind) -> bool {
-    matches!(
-        kind,
-        ErrorKind::Interrupted | ErrorKind::WouldBlock | ErrorKind::TimedOut
-    )
+/// What the result of a read into a buffer of `room` bytes means to a link: a fault only where the read failed, a timeout
+/// only where it timed out, the end only where it gave no byte though there was room.
+fn got_of(read: io::Result<usize>, room: usize) -> Got
+    ensures { Means (λ error. error_kind error ≡ ErrorKind.TimedOut) read room result }
+{
+    match read {
+        Ok(0) if 0 < room => Got::End,
+        Ok(count) => Got::Bytes(count),
+        Err(error) if is_timeout(error.kind()) => Got::Idle,
+        Err(_) => Got::Failed,
+    }
 }

@@ -5,6 +5,7 @@ use outside_api::{MakeFault, Outside};
 use outside_mem::NoGate;
 use std::io;
 use std::io::{Input, Printer, Write};
+use std::time::Clock;
 
 /// The devices of a program over its runtime: standard input and output are its link, and warnings go to a writer, which
 /// is standard error. What passes through them isn't kept.
@@ -16,14 +17,14 @@ pub struct StandardOutside<'a, R, E> {
     pub errors: E,
 }
 
-impl<'a, R: Input + Print, E: Write + Drop> Outside for StandardOutside<'a, R, E> {
+impl<'a, R: Input + Print + Clock, E: Write + Drop> Outside for StandardOutside<'a, R, E> {
     ghost use Rattle.std.specs.Prelude.{◌≡◌};
     ghost use Rattle.std.specs.Option.{option_map};
     ghost use Rattle.outside_api.specs.Outside.{handed_back};
     ghost use Rattle.plant_edge.specs.Link.{link_shown};
     ghost use Rattle.plant_edge.specs.Outside.{silent_outside, silent_recorder};
 
-    type Link = StandardLink<R::Reader, Printer<'a, R>>;
+    type Link = StandardLink<'a, R, R::Reader, Printer<'a, R>>;
 
     type Gate = NoGate;
 
@@ -32,7 +33,7 @@ impl<'a, R: Input + Print, E: Write + Drop> Outside for StandardOutside<'a, R, E
     ghost seen = { λ _. silent_outside };
 
     fn standard(&mut self) -> Result<Self::Link, MakeFault> {
-        Ok(StandardLink::new(self.rt.reader(), io::writer(self.rt)))
+        Ok(StandardLink::new(self.rt, self.rt.reader(), io::writer(self.rt)))
     }
 
     fn gate(&mut self) -> NoGate {

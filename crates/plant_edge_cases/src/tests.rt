@@ -5,9 +5,12 @@ use q_values::{NoMemory, Turn};
 use std::alloc::Global;
 use std::io;
 use std::io::{ErrorKind, Read, Write};
+use std::sync::atomic::AtomicU64;
+use std::sync::atomic::Ordering::SeqCst;
 use std::test::Fail;
+use std::time::{Clock, Duration};
 
-/// Gives an interruption, a fault, one byte and the end, in this order.
+/// Gives an interruption, a timeout, a fault, one byte and the end, in this order.
 #[derive(Drop)]
 struct FaultyReader {
     reads: u32,
@@ -18,8 +21,9 @@ impl Read for FaultyReader {
         self.reads = self.reads.saturating_add(1);
         match (self.reads, buf) {
             (1, _) => Err(io::Error::from(ErrorKind::Interrupted)),
-            (2, _) => Err(io::Error::from(ErrorKind::BrokenPipe)),
-            (3, [first, ..]) => {
+            (2, _) => Err(io::Error::from(ErrorKind::TimedOut)),
+            (3, _) => Err(io::Error::from(ErrorKind::BrokenPipe)),
+            (4, [first, ..]) => {
                 *first = 7;
                 Ok(1)
             }
@@ -54,7 +58,7 @@ fn write_one<L: Link>(link: &mut L) -> Result<(), LinkFault> {
 
 #[test]
 fn idle_and_link_faults(rt: HostRuntime) {
-    let mut link = StandardLink::new(FaultyReader { reads: 0 }, FullWriter);
+    let mut link = StandardLink::new(&rt, FaultyReader { reads: 0 }, FullWriter);
     let wanted = [
         (Got::Idle, 0),
         (Got::Failed, 0),
@@ -66,6 +70,99 @@ fn idle_and_link_faults(rt: HostRuntime) {
         assert_eq!(rt; read_one(&mut link), (got, byte));
     }
     assert!(rt; write_one(&mut link).is_err());
+}
+
+/// Would block a number of times, and then gives one byte at each read.
+#[derive(Drop)]
+struct LateReader {
+    blocked: u32,
+}
+
+impl Read for LateReader {
+    fn read(&mut self, buf: &mut [u8]) -> io::Result<usize> {
+        if self.blocked > 0 {
+            self.blocked -= 1;
+            return Err(io::Error::from(ErrorKind::WouldBlock));
+        }
+        match buf {
+            [first, ..] => {
+                *first = 7;
+                Ok(1)
+            }
+            [] => Ok(0),
+        }
+    }
+}
+
+/// Takes one byte at a time. Before each it is interrupted once, and then would block once.
+#[derive(Drop)]
+struct SlowWriter {
+    calls: u32,
+}
+
+impl Write for SlowWriter {
+    fn write(&mut self, buf: &[u8]) -> io::Result<usize> {
+        self.calls = self.calls.wrapping_add(1);
+        match self.calls % 3 {
+            1 => Err(io::Error::from(ErrorKind::Interrupted)),
+            2 => Err(io::Error::from(ErrorKind::WouldBlock)),
+            _ => Ok(buf.len().min(1)),
+        }
+    }
+
+    fn flush(&mut self) -> io::Result<()> {
+        Ok(())
+    }
+}
+
+/// A clock that counts how often it was asked to sleep a millisecond, and doesn't sleep.
+#[derive(Drop)]
+struct CountingClock {
+    sleeps: AtomicU64,
+}
+
+impl Clock for CountingClock {
+    fn monotonic(&self) -> io::Result<Duration> {
+        Ok(Duration::from_millis(0))
+    }
+
+    fn since_1970(&self) -> io::Result<Duration> {
+        Ok(Duration::from_millis(0))
+    }
+
+    fn sleep(&self, duration: Duration) {
+        if duration == Duration::from_millis(1) {
+            self.sleeps.fetch_add(1, SeqCst);
+        }
+    }
+}
+
+fn counting_clock() -> CountingClock {
+    CountingClock {
+        sleeps: AtomicU64::new(0),
+    }
+}
+
+// Fails with a body that answers `Idle` at the first read that would block, and with one that tries again without a pause.
+#[test]
+fn a_read_that_would_block_waits_and_times_out(rt: HostRuntime) {
+    let clock = counting_clock();
+    let mut link = StandardLink::new(&clock, LateReader { blocked: 55 }, FullWriter);
+    assert_eq!(rt; read_one(&mut link), (Got::Idle, 0));
+    assert_eq!(rt; clock.sleeps.load(SeqCst), 50);
+    assert_eq!(rt; read_one(&mut link), (Got::Bytes(1), 7));
+    assert_eq!(rt; clock.sleeps.load(SeqCst), 55);
+}
+
+// Fails with a body that gives up at the first write that would block, and with one that tries again without a pause.
+#[test]
+fn a_write_that_would_block_waits(rt: HostRuntime) {
+    let clock = counting_clock();
+    let mut link = StandardLink::new(&clock, LateReader { blocked: 0 }, SlowWriter { calls: 0 });
+    for _ in 0..5u32 {
+        assert!(rt; write_one(&mut link).is_ok());
+    }
+    assert_eq!(rt; clock.sleeps.load(SeqCst), 5);
 }
 
 fn use_once<O: Outside>(outside: &mut O) -> bool {
