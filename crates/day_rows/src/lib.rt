@@ -4,7 +4,8 @@
 //! what such a list means, as rows in an order, and has the two forms in which the updates of one date are kept.
 //!
 //! - [`OpenDay`] is the date that is still written. It keeps its updates in blocks of at least 1,024 rows, each with the
-//!   columns of its rows and a mark for each update, and reads a column in the order of arrival. Copies share the blocks.
+//!   columns of its rows and a mark for each update, and reads a column in the order of arrival. Copies share the blocks
+//!   that are full, and copy the rows after them.
 //! - [`ClosedDay`] is a date that has ended. It has the blocks, and for each table the order of its rows, by symbol and
 //!   then by arrival: no row is kept twice.
 //! - [`Schema`] names the tables of a plant and their columns. Contracts know of it that it is sorted by name, that its
@@ -15,7 +16,7 @@
 //! ```text
 //! let mut day = OpenDay::new(alloc, &schema, 8_767)?;       // 2024.01.02
 //! if day.admits(&entries) {
-//!     day.reserve(&entries)?;                               // may run out of memory; changes no row
+//!     day.reserve(&entries)?;                               // copies the rows; may run out of memory, and then changes nothing
 //!     day.push(entry);                                      // the first of `entries`; takes no memory
 //! }
 //! let prices = day.column(alloc, 1, 2, 0, day.rows(1))?;    // table 1, column 2, by arrival
