@@ -1,5 +1,6 @@
 //! Blocks: the columns of consecutive updates, and a mark for each update.
-ghost use Rattle.std.specs.Prelude.{◌≡◌, ℕ, ◌<◌, ◌≤◌, ◌+◌, ◌^◌, ◌++◌, [], ◌∷◌, ◌==◌, if◌then◌else◌, length, map, take, drop, replicate, slice_get, vec_len, IfOk, IfErr, OnOk, OnErr, MatchOption};
+ghost use Rattle.std.specs.Prelude.{◌≡◌, ℕ, ◌<◌, ◌≤◌, ◌+◌, ◌^◌, ◌++◌, [], ◌∷◌, ◌==◌, if◌then◌else◌};
+ghost use Rattle.std.specs.Prelude.{length, map, take, drop, replicate, slice_get, vec_len, IfOk, IfErr, OnOk, OnErr, MatchOption};
 ghost use Rattle.std.specs.List.{AllByRecursion, sum_by};
 ghost use Rattle.day_rows.specs.Blocks.{IsBlock, mark_of, rows_marked, atoms_at, columns_with, tables_with};
 ghost use Rattle.day_rows.specs.Day.{IsUpdate, entry_rows, total_rows};

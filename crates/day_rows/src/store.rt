@@ -189,8 +189,10 @@ impl Store {
         requires few { length kinds.now ≤ 64 }
         requires sealed { sealed ≤ length self.now.blocks.items }
         requires within { n ≤ length (get_or self.now.blocks.items sealed self.now.last) }
-        requires updates { AllByRecursion (IsUpdate kinds.now) (flat_map (λ block. block) (take sealed self.now.blocks.items) ++ take n (get_or self.now.blocks.items sealed self.now.last)) }
-        requires bounded { total_rows (flat_map (λ block. block) (take sealed self.now.blocks.items) ++ take n (get_or self.now.blocks.items sealed self.now.last)) ≤ 4294967295 }
+        requires updates { AllByRecursion (IsUpdate kinds.now)
+            (flat_map (λ block. block) (take sealed self.now.blocks.items) ++ take n (get_or self.now.blocks.items sealed self.now.last)) }
+        requires bounded { total_rows
+            (flat_map (λ block. block) (take sealed self.now.blocks.items) ++ take n (get_or self.now.blocks.items sealed self.now.last)) ≤ 4294967295 }
         ensures { IfOk result (λ entries. entries.items
             ≡ flat_map (λ block. block) (take sealed self.now.blocks.items) ++ take n (get_or self.now.blocks.items sealed self.now.last)) }
     {

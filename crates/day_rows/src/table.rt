@@ -45,7 +45,8 @@ fn shorten(columns: &mut Vec<Vector>, more: &[Vector], n: usize)
     requires some { n ≤ length more.now }
     requires wide { length more.now ≤ length columns.old.items }
     ensures { (column : ℕ) → atoms_of (slice_get columns.new.items column)
-        ≡ take (length (atoms_of (slice_get columns.old.items column)) - length (atoms_of (slice_get (take n more.now) column))) (atoms_of (slice_get columns.old.items column)) }
+        ≡ take (length (atoms_of (slice_get columns.old.items column)) - length (atoms_of (slice_get (take n more.now) column)))
+        (atoms_of (slice_get columns.old.items column)) }
 {
     for i in 0..n {
         let left = columns[i].len().saturating_sub(more[i].len());

@@ -69,7 +69,8 @@ fn add_rows(counts: &mut Vec<u32>, entry: &Entry)
     requires table { (mark_of entry.now).table < length counts.old.items }
     requires rows { entry_rows entry.now ≤ 4294967295 }
     requires fits { get_or counts.old.items (mark_of entry.now).table 0 + (mark_of entry.now).rows ≤ 4294967295 }
-    ensures { counts.new.items ≡ set counts.old.items (mark_of entry.now).table (get_or counts.old.items (mark_of entry.now).table 0 + (mark_of entry.now).rows) }
+    ensures { counts.new.items ≡ set counts.old.items (mark_of entry.now).table
+        (get_or counts.old.items (mark_of entry.now).table 0 + (mark_of entry.now).rows) }
 {
     let mark = mark_of(entry);
     let index = mark.table as usize;

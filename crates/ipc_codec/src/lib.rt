@@ -9,6 +9,7 @@
 //!   [`DecodeRefusal`] with the offset of the first fault.
 //! - [`measure`] returns the same length or the same refusal, and allocates nothing.
 //! - [`encode`] appends the canonical encoding of a value.
+//! - [`encoded_length`] returns the length of that encoding, and allocates nothing.
 //! - [`Order`] is the byte order, which a message's header says.
 //!
 //! ```text

@@ -5,6 +5,7 @@ use std::process::Abort;
 use std::test::Fail;
 
 const SHORT: [&[u8]; 4] = [b"eightbyt", b"", b"\xff\x80", b"eightby"];
+
 const LONG: [&[u8]; 3] = [b"ninebytes", b"a", b"eightbyts"];
 
 fn symbols(alloc: Global, texts: &[&[u8]]) -> Result<Symbols, Fail> {

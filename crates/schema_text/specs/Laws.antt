@@ -10,7 +10,7 @@ use Rattle.schema_text.specs.declared.refusal.SchemaRefusal.{SchemaRefusal}
 -- a text has one reading: it spells one schema and has no fault, or has one fault and spells no schema
 abbrev pub OneReading : Type 0
 OneReading =
-  (text : List ℕ)
+    (text : List ℕ)
     → (some : Result (List Shape) SchemaRefusal) × IsText text some × ((other : Result (List Shape) SchemaRefusal) → IsText text other → other ≡ some)
 
 -- the text that is built in is the schema that is built in

@@ -108,6 +108,12 @@ fn schema_refusals(rt: HostRuntime) -> Result<(), Fail> {
     ] {
         assert_eq!(rt; outcome_of(alloc, text), outcome);
     }
+    Ok(())
+}
+
+#[test]
+fn most_columns(rt: HostRuntime) -> Result<(), Fail> {
+    let alloc = rt.alloc();
     assert_eq!(rt;
         outcome_of(alloc, &wide_table(alloc, 46)?),
         Outcome::Tables(1)

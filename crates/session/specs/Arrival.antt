@@ -66,5 +66,6 @@ Arrives old new before after (r.Outside sync) = (new ≡ old) × ((k : ℕ) × H
 Arrives old new before after (r.Skipped sync) = (new ≡ old) × ((t : Tree) × HoldsMessage before.framer sync t) × (after ≡ heard_by before)
 Arrives old new before after (r.Bad code at) = (new ≡ old) × HoldsFault before.framer code at × (after ≡ before)
 Arrives old new before after r.Idle = (new ≡ record old { idles = counted old.idles 1 }) × (old.ended ≡ false) × Waits before after
-Arrives old new before after (r.Ended between) = HasGivenAll old × (new ≡ record old { ended = true }) × (IsTrue between ↔ (before.framer.held ≡ [])) × Waits before after
+Arrives old new before after (r.Ended between) =
+    HasGivenAll old × (new ≡ record old { ended = true }) × (IsTrue between ↔ (before.framer.held ≡ [])) × Waits before after
 Arrives old new before after r.Failed = (new ≡ record old { read_faults = counted old.read_faults 1 }) × (old.ended ≡ false) × Waits before after
