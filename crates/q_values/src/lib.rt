@@ -1,10 +1,10 @@
 //! The values of the plant: kdb+ atoms, vectors, tables and general values, and what the crates above agree on beside
 //! them: the limits of a plant and the turns of a session.
 //!
-//! A [`Vector`] is a column: atoms of one [`Kind`], stored in a `Vec` of the kind's own width, or in one arena where they
-//! are symbols. To its callers, and in contracts, it is a kind and a list of [`Atom`]s; code that loops over a column
-//! matches on [`Vector::column`] and works on the typed slice. A [`Value`] is what a message holds: an atom, a vector, a
-//! list, a dictionary, a table, a keyed table, the identity `(::)` or an error.
+//! A [`Vector`] is a column: atoms of one [`Kind`], stored in a `Vec` of the kind's own width. Symbols take eight bytes
+//! each, or share one arena where some are longer. To its callers, and in contracts, it is a kind and a list of
+//! [`Atom`]s; code that loops over a column matches on [`Vector::column`] and works on the typed slice. A [`Value`] is
+//! what a message holds: an atom, a vector, a list, a dictionary, a table, a keyed table, the identity `(::)` or an error.
 //!
 //! ```text
 //! let mut sizes = Vector::new(alloc, Kind::Long);

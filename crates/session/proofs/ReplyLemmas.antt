@@ -53,22 +53,8 @@ pub more_than_one_day_is : (limits : Limits) (made : List ℕ) → made ≡ fixe
 unfolding written
 more_than_one_day_is limits made e = e
 
-pub length-response : (t : Tree) → length (response t) ≡ 8 + length (written t)
-length-response t = rw length-append refl
-
 -- a response that is longer than the limit
 pub too_long : (limits : Limits) (t : Tree) (n : ℕ) → n ≡ saturated (length (response t)) → limits.reply < n → 1 ∷ 2 ∷ 0 ∷ 0 ∷ 15 ∷ 0 ∷ 0 ∷ 0 ∷ 128 ∷ 108 ∷ 105 ∷ 109 ∷ 105 ∷ 116 ∷ 0 ∷ [] ≡ reply limits t
 too_long limits t n e long =
     let longer : ltb limits.reply (length (response t)) ≡ true = lt-ltb _ _ (omega arith) in
     rw (longer, response-limit) refl
-
--- a response that is not
-pub short_enough : (limits : Limits) (t : Tree) (n : ℕ) → limits.reply ≤ 2147483647 → n ≡ saturated (length (response t)) → n ≤ limits.reply → n ≡ length (response t)
-short_enough limits t n most e short = omega arith
-
-pub within_limit : (limits : Limits) (t : Tree) (n : ℕ) (bytes : List ℕ) → limits.reply ≤ 2147483647 → n ≡ saturated (length (response t)) → n ≤ limits.reply
-    → bytes ≡ ((1 ∷ 2 ∷ 0 ∷ 0 ∷ []) ++ to_le_bytes w32 n) ++ written t → bytes ≡ reply limits t
-within_limit limits t n bytes most e short made =
-    let exact : n ≡ 8 + length (written t) = short_enough limits t n most e short ∙ length-response t in
-    let fits : ltb limits.reply (length (response t)) ≡ false = le-ltb _ _ (omega (arith, short_enough limits t n most e short)) in
-    made ∙ rw (fits, exact) refl
