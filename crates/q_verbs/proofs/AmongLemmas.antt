@@ -57,12 +57,6 @@ any_more_at p xs i x h e =
     ∙ list_any-append p (take i xs) (get_or xs i x ∷ [])
     ∙ ap (λ b. list_any p (take i xs) || b) (or_false (p (get_or xs i x)) ∙ ap p (sym e))
 
-pub any_more_at : {X : Type 0} (p : X → Bool) (xs : List X) (i : ℕ) (x : X) → i < length xs → x ≡ get_or xs i x → list_any p (take (i + 1) xs) ≡ (list_any p (take i xs) || p x)
-any_more_at p xs i x h e =
-    ap (list_any p) (take_more xs i x h)
-    ∙ list_any-append p (take i xs) (get_or xs i x ∷ [])
-    ∙ ap (λ b. list_any p (take i xs) || b) (or_false (p (get_or xs i x)) ∙ ap p (sym e))
-
 any-mapped : {X W : Type 0} (p : W → Bool) (g : X → W) (items : List X) → list_any (λ y. p (g y)) items ≡ list_any p (map g items)
 any-mapped p g [] = refl
 any-mapped p g (y ∷ ys) = ap (λ b. p (g y) || b) (any-mapped p g ys)
