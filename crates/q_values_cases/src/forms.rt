@@ -1,12 +1,10 @@
-//! Symbols of at most eight bytes, longer ones, and lists of both.
+//! Symbols of at most eight bytes, and the push of a longer one.
 use q_values::{Form, Sym, Symbols};
 use std::alloc::Global;
 use std::process::Abort;
 use std::test::Fail;
 
 const SHORT: [&[u8]; 4] = [b"eightbyt", b"", b"\xff\x80", b"eightby"];
-
-const LONG: [&[u8]; 3] = [b"ninebytes", b"a", b"eightbyts"];
 
 fn symbols(alloc: Global, texts: &[&[u8]]) -> Result<Symbols, Fail> {
     let mut found = Symbols::new(alloc);
@@ -45,34 +43,5 @@ fn eight_bytes_are_short(rt: HostRuntime) -> Result<(), Fail> {
         &[b"eightbyt", b"", b"\xff\x80", b"eightby", b"ninebytes"],
     );
     assert_eq!(&rt; some.order(alloc)?.as_slice(), &[1, 3, 0, 4, 2][..]);
-    Ok(())
-}
-
-#[test]
-fn forms_are_joined(rt: HostRuntime) -> Result<(), Fail> {
-    let alloc = rt.alloc();
-    let mut some = symbols(alloc, &SHORT)?;
-    some.append(&symbols(alloc, &LONG)?)?;
-    some.append_part(&symbols(alloc, &SHORT)?, 1, 2)?;
-    let all: [&[u8]; 9] = [
-        b"eightbyt",
-        b"",
-        b"\xff\x80",
-        b"eightby",
-        b"ninebytes",
-        b"a",
-        b"eightbyts",
-        b"",
-        b"\xff\x80",
-    ];
-    assert_texts(&rt, &some, &all);
-    assert_texts(
-        &rt,
-        &some.gather(alloc, &[6, 0, 8])?,
-        &[b"eightbyts", b"eightbyt", b"\xff\x80"],
-    );
-    assert_texts(&rt, &some.take(alloc, 3, 2)?, &[b"eightby", b"ninebytes"]);
-    some.truncate(5);
-    assert_texts(&rt, &some, &all[..5]);
     Ok(())
 }

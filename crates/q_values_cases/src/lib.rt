@@ -11,7 +11,6 @@
 //! type_numbers                each kind's type number, and none of the numbers between
 //! lists_of_values             lists of values and of numbers
 //! eight_bytes_are_short       symbols of up to eight bytes, and the push of a longer one
-//! forms_are_joined            lists of short symbols and of longer ones, appended, gathered and cut
 //! ```
 //!
 //! What no contract can say is left to them: that a call succeeds where memory is ample.
