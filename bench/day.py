@@ -43,11 +43,12 @@ def memory(program, state, rows, size, runs):
 
 
 def show_times(measured):
-    print(f"{'rows':>11} {'update':>7} {'log ns':>7} {'loop ns':>8} {'copy us':>8} {'roll ms':>8} {'symbols':>8} {'sort':>7} {'loop sort':>10}", end=" ")
+    print(f"{'rows':>11} {'update':>7} {'make ns':>8} {'log ns':>7} {'loop ns':>8} {'copy us':>8} {'roll ms':>8} {'symbols':>8} {'sort':>7} {'loop sort':>10}", end=" ")
     print(f"{'read ms':>8} {'copy ms':>8} {'ratio':>6} {'ended ms':>9}")
     for (rows, size), best in measured.items():
         roll = best["day", "order"] + best["day", "close"]
-        print(f"{rows:11,} {size:7,} {best['day', 'log'] / rows:7.1f} {best['loop', 'log'] / rows:8.1f} {best['day', 'copy'] / 1e3:8.1f}", end=" ")
+        log, loop_log = ((best[who, "log"] - best[who, "make"]) / rows for who in ("day", "loop"))
+        print(f"{rows:11,} {size:7,} {best['day', 'make'] / rows:8.1f} {log:7.1f} {loop_log:8.1f} {best['day', 'copy'] / 1e3:8.1f}", end=" ")
         print(f"{roll / 1e6:8.2f} {best['day', 'symbols'] / 1e6:8.2f} {best['day', 'sort'] / 1e6:7.2f} {best['loop', 'sort'] / 1e6:10.2f}", end=" ")
         read, copied = best["day", "read"], best["loop", "read"]
         print(f"{read / 1e6:8.3f} {copied / 1e6:8.3f} {read / copied:6.2f} {best['day', 'ended'] / 1e6:9.2f}")

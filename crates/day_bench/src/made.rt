@@ -58,3 +58,14 @@ pub fn update(alloc: Global, symbols: &Vector, first: u32, size: u32) -> Result<
         columns,
     })
 }
+
+/// Makes updates of `size` rows, `rows` rows together, and drops each at once. Returns how many it made.
+pub fn make(alloc: Global, rows: u32, size: u32) -> Result<u32> {
+    let symbols = symbols(alloc, size)?;
+    let mut made = 0u32;
+    for i in 0..rows.checked_div(size).unwrap_or(0) {
+        let _entry = update(alloc, &symbols, i.wrapping_mul(size), size)?;
+        made = made.wrapping_add(1);
+    }
+    Ok(made)
+}

@@ -7,7 +7,8 @@
 //! ```text
 //! day_bench timed ROWS SIZE
 //!
-//! day log NANOSECONDS ROWS        `OpenDay::reserve` and `push` of ROWS rows, in updates of SIZE rows
+//! day make NANOSECONDS UPDATES    making and dropping updates of SIZE rows, ROWS rows together
+//! day log NANOSECONDS ROWS        the same with `OpenDay::reserve` and `push` of each
 //! day copy NANOSECONDS BLOCKS     `OpenDay::copy`
 //! day read NANOSECONDS ROWS       a whole column of longs of the open date
 //! day symbols NANOSECONDS ROWS    the whole column of symbols of the open date

@@ -1,8 +1,9 @@
 //! The steps of a date, timed in nanoseconds: one line for each time, with the step, its nanoseconds and a number.
-ghost use Rattle.std.specs.Prelude.{◌≡◌};
+ghost use Rattle.std.specs.Prelude.{◌≡◌, OnOk};
 ghost use Rattle.day_bench.specs.Trades.{HasTrades};
 
-use crate::day::{begun, column, ended_column, fill_timed};
+use crate::day::{begun, column, ended_column, fill};
+use crate::made::make;
 use anyhow::Result;
 use day_rows::{ClosedDay, OpenDay};
 use std::alloc::Global;
@@ -94,12 +95,32 @@ fn open_timed<R: Clock + Print>(rt: &R, alloc: Global, day: &OpenDay) -> Result<
     Ok(())
 }
 
+// Logs `rows` rows in updates of `size` rows, after making the same updates without logging them.
+fn fill_timed<R: Clock + Print>(
+    rt: &R,
+    alloc: Global,
+    day: &mut OpenDay,
+    rows: u32,
+    size: u32,
+) -> Result<()>
+    ensures { OnOk result (day.new.day.kinds ≡ day.old.day.kinds) }
+{
+    let start = Instant::now(rt)?;
+    let made = make(alloc, rows, size)?;
+    let nanos = start.elapsed(rt)?.as_nanos();
+    println!(rt; "day make {nanos} {made}")?;
+    let start = Instant::now(rt)?;
+    fill(alloc, day, rows, size)?;
+    let nanos = start.elapsed(rt)?.as_nanos();
+    println!(rt; "day log {nanos} {rows}")?;
+    Ok(())
+}
+
 /// Logs `rows` rows in updates of `size` rows, and times each step. The day is ended through a copy, which shares its blocks.
 pub fn report<R: Clock + Print + AllocGlobal>(rt: &R, rows: u32, size: u32) -> Result<()> {
     let alloc = rt.alloc();
     let mut day = begun(alloc)?;
-    let nanos = fill_timed(rt, alloc, &mut day, rows, size)?;
-    println!(rt; "day log {nanos} {rows}")?;
+    fill_timed(rt, alloc, &mut day, rows, size)?;
     open_timed(rt, alloc, &day)?;
     for _ in 0..ROUNDS {
         end_timed(rt, alloc, day.copy(alloc)?)?;
