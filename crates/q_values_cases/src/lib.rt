@@ -6,11 +6,17 @@
 //!
 //! ```text
 //! orders_and_cuts_each_kind   order, take and gather of each kind of column
-//! appends_parts               append and append_part, of symbols too
-//! values_and_literals         a symbol with a zero byte, and another kind pushed or appended
+//! appends_symbols             append and append_part of symbols
+//! appends_longs               append_part of numbers
+//! refusals                    a symbol with a zero byte, and another kind pushed or appended
 //! type_numbers                each kind's type number, and none of the numbers between
-//! lists_of_values             lists of values and of numbers
+//! lists_of_values             lists of values
+//! lists_of_numbers            lists of numbers
+//! atoms_of_a_vector           the atom at an index, and after the last
 //! eight_bytes_are_short       symbols of up to eight bytes, and the push of a longer one
+//! parts_between_forms         append_part and gather of symbols of at most eight bytes and of longer ones
+//! eight_bytes_are_read        symbols read from eight bytes
+//! many_long_symbols           100,000 symbols of 5 to 20 bytes: push, order and gather
 //! ```
 //!
 //! What no contract can say is left to them: that a call succeeds where memory is ample.

@@ -1,7 +1,7 @@
 //! Tests with values from outside.
 use q_values::{
-    Atom, ByteKind, Column, IntegerKind, Kind, Limits, LongKind, NoMemory, Sequence, Storage, Sym,
-    SymRefusal, Symbols, Value, Values, Vector, VectorRefusal,
+    Atom, ByteKind, Column, IntegerKind, Kind, Limits, LongKind, NoMemory, Places, Sequence,
+    Storage, Sym, SymRefusal, Symbols, Value, Values, Vector, VectorRefusal,
 };
 use std::alloc::Global;
 use std::process::Abort;
@@ -38,79 +38,94 @@ fn symbols(alloc: Global, items: &[&str]) -> Result<Vector, Fail> {
     Ok(found)
 }
 
-fn are_same_symbols(some: &Symbols, other: &Symbols) -> bool {
-    if some.len() != other.len() {
-        return false;
-    }
-    (0..some.len()).all(|i| some.at(i) == other.at(i))
+/// The stable order of a vector, its items 1 and 2, and its items 3, 0 and 0.
+#[derive(Drop)]
+struct Cuts {
+    order: Places,
+    part: Vector,
+    picked: Vector,
 }
 
-fn are_same(some: &Vector, other: &Vector) -> bool {
-    match (some.column(), other.column()) {
-        (Column::Booleans(a), Column::Booleans(b)) => a == b,
-        (Column::Bytes(k, a), Column::Bytes(l, b)) => k == l && a == b,
-        (Column::Shorts(a), Column::Shorts(b)) => a == b,
-        (Column::Integers(k, a), Column::Integers(l, b)) => k == l && a == b,
-        (Column::Longs(k, a), Column::Longs(l, b)) => k == l && a == b,
-        (Column::Symbols(a), Column::Symbols(b)) => are_same_symbols(a, b),
+fn cuts_of(rt: &impl Abort, alloc: Global, vector: &Vector) -> Result<Cuts, Fail> {
+    assert!(rt; vector.len() > 3);
+    let order = vector.order(alloc)?;
+    let part = vector.take(alloc, 1, 2)?;
+    let picked = vector.gather(alloc, &[3, 0, 0])?;
+    Ok(Cuts {
+        order,
+        part,
+        picked,
+    })
+}
+
+fn are_booleans(vector: &Vector, items: &[bool]) -> bool {
+    matches!(vector.column(), Column::Booleans(found) if found.as_slice() == items)
+}
+
+fn are_bytes(vector: &Vector, kind: ByteKind, items: &[u8]) -> bool {
+    matches!(vector.column(), Column::Bytes(k, found) if *k == kind && found.as_slice() == items)
+}
+
+fn are_shorts(vector: &Vector, items: &[i16]) -> bool {
+    matches!(vector.column(), Column::Shorts(found) if found.as_slice() == items)
+}
+
+fn are_integers(vector: &Vector, kind: IntegerKind, items: &[i32]) -> bool {
+    matches!(vector.column(), Column::Integers(k, found) if *k == kind && found.as_slice() == items)
+}
+
+fn are_longs(vector: &Vector, kind: LongKind, items: &[i64]) -> bool {
+    matches!(vector.column(), Column::Longs(k, found) if *k == kind && found.as_slice() == items)
+}
+
+fn are_texts(symbols: &Symbols, items: &[&str]) -> bool {
+    if symbols.len() != items.len() {
+        return false;
+    }
+    (0..items.len()).all(|i| symbols.get(i) == Some(items[i].as_bytes()))
+}
+
+fn are_symbols(vector: &Vector, items: &[&str]) -> bool {
+    match vector.column() {
+        Column::Symbols(symbols) => are_texts(symbols, items),
         _ => false,
     }
 }
 
-fn assert_order(
-    rt: &impl Abort,
-    alloc: Global,
-    vector: &Vector,
-    order: &[usize],
-) -> Result<(), Fail> {
-    let places = vector.order(alloc)?;
-    assert_eq!(rt; places.as_slice(), order);
-    Ok(())
-}
-
-fn assert_part(rt: &impl Abort, alloc: Global, vector: &Vector, part: &Vector) -> Result<(), Fail> {
-    assert!(rt; vector.len() > 2);
-    assert!(rt; are_same(&vector.take(alloc, 1, 2)?, part));
-    Ok(())
-}
-
-fn assert_picked(
-    rt: &impl Abort,
-    alloc: Global,
-    vector: &Vector,
-    picked: &Vector,
-) -> Result<(), Fail> {
-    assert!(rt; vector.len() > 3);
-    assert!(rt; are_same(&vector.gather(alloc, &[3, 0, 0])?, picked));
-    Ok(())
-}
-
 fn assert_booleans(rt: &impl Abort, alloc: Global) -> Result<(), Fail> {
     let vector = booleans(alloc, &[true, false, true, false, true, false])?;
-    assert_order(rt, alloc, &vector, &[1, 3, 5, 0, 2, 4])?;
-    assert_part(rt, alloc, &vector, &booleans(alloc, &[false, true])?)?;
-    assert_picked(rt, alloc, &vector, &booleans(alloc, &[false, true, true])?)
+    let cuts = cuts_of(rt, alloc, &vector)?;
+    assert_eq!(rt; cuts.order.as_slice(), &[1, 3, 5, 0, 2, 4][..]);
+    assert!(rt; are_booleans(&cuts.part, &[false, true]));
+    assert!(rt; are_booleans(&cuts.picked, &[false, true, true]));
+    Ok(())
 }
 
 fn assert_bytes(rt: &impl Abort, alloc: Global, kind: ByteKind) -> Result<(), Fail> {
     let vector = bytes(alloc, kind, &[3, 0, 3, 1, 255, 254])?;
-    assert_order(rt, alloc, &vector, &[1, 3, 0, 2, 5, 4])?;
-    assert_part(rt, alloc, &vector, &bytes(alloc, kind, &[0, 3])?)?;
-    assert_picked(rt, alloc, &vector, &bytes(alloc, kind, &[1, 3, 3])?)
+    let cuts = cuts_of(rt, alloc, &vector)?;
+    assert_eq!(rt; cuts.order.as_slice(), &[1, 3, 0, 2, 5, 4][..]);
+    assert!(rt; are_bytes(&cuts.part, kind, &[0, 3]));
+    assert!(rt; are_bytes(&cuts.picked, kind, &[1, 3, 3]));
+    Ok(())
 }
 
 fn assert_shorts(rt: &impl Abort, alloc: Global) -> Result<(), Fail> {
     let vector = shorts(alloc, &[3, i16::MIN, 3, 1, i16::MAX, -32767])?;
-    assert_order(rt, alloc, &vector, &[1, 5, 3, 0, 2, 4])?;
-    assert_part(rt, alloc, &vector, &shorts(alloc, &[i16::MIN, 3])?)?;
-    assert_picked(rt, alloc, &vector, &shorts(alloc, &[1, 3, 3])?)
+    let cuts = cuts_of(rt, alloc, &vector)?;
+    assert_eq!(rt; cuts.order.as_slice(), &[1, 5, 3, 0, 2, 4][..]);
+    assert!(rt; are_shorts(&cuts.part, &[i16::MIN, 3]));
+    assert!(rt; are_shorts(&cuts.picked, &[1, 3, 3]));
+    Ok(())
 }
 
 fn assert_integers(rt: &impl Abort, alloc: Global, kind: IntegerKind) -> Result<(), Fail> {
     let vector = integers(alloc, kind, &[3, i32::MIN, 3, 1, i32::MAX, -2147483647])?;
-    assert_order(rt, alloc, &vector, &[1, 5, 3, 0, 2, 4])?;
-    assert_part(rt, alloc, &vector, &integers(alloc, kind, &[i32::MIN, 3])?)?;
-    assert_picked(rt, alloc, &vector, &integers(alloc, kind, &[1, 3, 3])?)
+    let cuts = cuts_of(rt, alloc, &vector)?;
+    assert_eq!(rt; cuts.order.as_slice(), &[1, 5, 3, 0, 2, 4][..]);
+    assert!(rt; are_integers(&cuts.part, kind, &[i32::MIN, 3]));
+    assert!(rt; are_integers(&cuts.picked, kind, &[1, 3, 3]));
+    Ok(())
 }
 
 fn assert_longs(rt: &impl Abort, alloc: Global, kind: LongKind) -> Result<(), Fail> {
@@ -119,29 +134,19 @@ fn assert_longs(rt: &impl Abort, alloc: Global, kind: LongKind) -> Result<(), Fa
         kind,
         &[3, i64::MIN, 3, 1, i64::MAX, -9223372036854775807],
     )?;
-    assert_order(rt, alloc, &vector, &[1, 5, 3, 0, 2, 4])?;
-    assert_part(rt, alloc, &vector, &longs(alloc, kind, &[i64::MIN, 3])?)?;
-    assert_picked(rt, alloc, &vector, &longs(alloc, kind, &[1, 3, 3])?)
+    let cuts = cuts_of(rt, alloc, &vector)?;
+    assert_eq!(rt; cuts.order.as_slice(), &[1, 5, 3, 0, 2, 4][..]);
+    assert!(rt; are_longs(&cuts.part, kind, &[i64::MIN, 3]));
+    assert!(rt; are_longs(&cuts.picked, kind, &[1, 3, 3]));
+    Ok(())
 }
 
 fn assert_symbols(rt: &impl Abort, alloc: Global) -> Result<(), Fail> {
     let vector = symbols(alloc, &["b", "", "b", "a", "zz", "ab"])?;
-    assert_order(rt, alloc, &vector, &[1, 3, 5, 0, 2, 4])?;
-    assert_part(rt, alloc, &vector, &symbols(alloc, &["", "b"])?)?;
-    assert_picked(rt, alloc, &vector, &symbols(alloc, &["a", "b", "b"])?)
-}
-
-fn assert_integer_kinds(rt: &impl Abort, alloc: Global) -> Result<(), Fail> {
-    for kind in [
-        IntegerKind::Integer,
-        IntegerKind::Month,
-        IntegerKind::Date,
-        IntegerKind::Minute,
-        IntegerKind::Second,
-        IntegerKind::Time,
-    ] {
-        assert_integers(rt, alloc, kind)?;
-    }
+    let cuts = cuts_of(rt, alloc, &vector)?;
+    assert_eq!(rt; cuts.order.as_slice(), &[1, 3, 5, 0, 2, 4][..]);
+    assert!(rt; are_symbols(&cuts.part, &["", "b"]));
+    assert!(rt; are_symbols(&cuts.picked, &["a", "b", "b"]));
     Ok(())
 }
 
@@ -153,50 +158,30 @@ fn orders_and_cuts_each_kind(rt: HostRuntime) -> Result<(), Fail> {
     assert_bytes(&rt, alloc, ByteKind::Byte)?;
     assert_bytes(&rt, alloc, ByteKind::Character)?;
     assert_shorts(&rt, alloc)?;
-    assert_integer_kinds(&rt, alloc)?;
+    assert_integers(&rt, alloc, IntegerKind::Integer)?;
+    assert_integers(&rt, alloc, IntegerKind::Month)?;
+    assert_integers(&rt, alloc, IntegerKind::Date)?;
+    assert_integers(&rt, alloc, IntegerKind::Minute)?;
+    assert_integers(&rt, alloc, IntegerKind::Second)?;
+    assert_integers(&rt, alloc, IntegerKind::Time)?;
     assert_longs(&rt, alloc, LongKind::Long)?;
     assert_longs(&rt, alloc, LongKind::Timestamp)?;
     assert_longs(&rt, alloc, LongKind::Timespan)?;
     assert_symbols(&rt, alloc)
 }
 
-fn assert_refusals(rt: &impl Abort, alloc: Global) -> Result<(), Fail> {
+#[test]
+fn refusals(rt: HostRuntime) -> Result<(), Fail> {
+    let alloc = rt.alloc();
+    assert!(&rt; matches!(&Sym::of(alloc, &[0x61, 0]), Err(SymRefusal::HasNul(1))));
+    let dates = integers(alloc, IntegerKind::Date, &[1])?;
     let mut vector = longs(alloc, LongKind::Long, &[3, i64::MIN, 3, 1])?;
-    assert_eq!(rt;
+    assert_eq!(&rt;
         vector.push(Atom::Integer(7)),
         Err(VectorRefusal::KindMismatch)
     );
-    let dates = integers(alloc, IntegerKind::Date, &[1])?;
-    assert_eq!(rt; vector.append(&dates), Err(VectorRefusal::KindMismatch));
-    assert!(rt;
-        are_same(
-            &vector,
-            &longs(alloc, LongKind::Long, &[3, i64::MIN, 3, 1])?
-        )
-    );
-    Ok(())
-}
-
-#[test]
-fn values_and_literals(rt: HostRuntime) -> Result<(), Fail> {
-    let alloc = rt.alloc();
-    assert!(rt; matches!(&Sym::of(alloc, &[0x61, 0]), Err(SymRefusal::HasNul(1))));
-    assert_refusals(&rt, alloc)?;
-    let vector = longs(alloc, LongKind::Long, &[3, i64::MIN, 3, 1])?;
-    assert_order(&rt, alloc, &vector, &[1, 3, 0, 2])?;
-    assert_part(
-        &rt,
-        alloc,
-        &vector,
-        &longs(alloc, LongKind::Long, &[i64::MIN, 3])?,
-    )?;
-    assert_eq!(rt; vector.len(), 4);
-    assert!(rt;
-        are_same(
-            &vector.gather(alloc, &[3, 0])?,
-            &longs(alloc, LongKind::Long, &[1, 3])?
-        )
-    );
+    assert_eq!(&rt; vector.append(&dates), Err(VectorRefusal::KindMismatch));
+    assert!(&rt; are_longs(&vector, LongKind::Long, &[3, i64::MIN, 3, 1]));
     Ok(())
 }
 
@@ -209,28 +194,28 @@ fn append_three(rt: &impl Abort, vector: &mut Vector, more: &Vector) -> Result<(
 }
 
 #[test]
-fn appends_parts(rt: HostRuntime) -> Result<(), Fail> {
+fn appends_symbols(rt: HostRuntime) -> Result<(), Fail> {
     let alloc = rt.alloc();
+    let more = symbols(alloc, &["zz", "cd", "", "e", "f"])?;
     let mut joined = symbols(alloc, &["b"])?;
-    joined.append(&symbols(alloc, &["", "a"])?)?;
-    assert!(rt; are_same(&joined, &symbols(alloc, &["b", "", "a"])?));
-    append_three(
-        &rt,
-        &mut joined,
-        &symbols(alloc, &["zz", "cd", "", "e", "f"])?,
-    )?;
-    assert!(rt; are_same(&joined, &symbols(alloc, &["b", "", "a", "cd", "", "e"])?));
-    assert_eq!(rt; joined.len(), 6);
-    assert!(rt;
-        matches!(&joined.at(alloc, 3)?, Atom::Symbol(name) if name.bytes() == b"cd".as_slice())
+    append_three(&rt, &mut joined, &more)?;
+    assert!(&rt; are_symbols(&joined, &["b", "cd", "", "e"]));
+    joined.append(&more)?;
+    assert!(&rt; are_symbols(&joined, &["b", "cd", "", "e", "zz", "cd", "", "e", "f"]));
+    assert_eq!(&rt; joined.len(), 9);
+    assert!(&rt;
+        matches!(&joined.at(alloc, 1)?, Atom::Symbol(name) if name.bytes() == b"cd".as_slice())
     );
-    let mut numbers = longs(alloc, LongKind::Long, &[7])?;
-    append_three(
-        &rt,
-        &mut numbers,
-        &longs(alloc, LongKind::Long, &[1, 2, 3, 4, 5])?,
-    )?;
-    assert!(rt; are_same(&numbers, &longs(alloc, LongKind::Long, &[7, 2, 3, 4])?));
+    Ok(())
+}
+
+#[test]
+fn appends_longs(rt: HostRuntime) -> Result<(), Fail> {
+    let alloc = rt.alloc();
+    let more = longs(alloc, LongKind::Long, &[1, 2, 3, 4, 5])?;
+    let mut joined = longs(alloc, LongKind::Long, &[7])?;
+    append_three(&rt, &mut joined, &more)?;
+    assert!(&rt; are_longs(&joined, LongKind::Long, &[7, 2, 3, 4]));
     Ok(())
 }
 
@@ -273,19 +258,31 @@ fn lists_of_values(rt: HostRuntime) -> Result<(), Fail> {
     let mut values = Values::new(alloc);
     values.push(Value::Atom(Atom::Minute(570)))?;
     values.push(Value::Identity)?;
-    assert_eq!(rt; values.len(), 2);
-    assert!(rt; matches!(values.at(1), Value::Identity));
-    assert!(rt; values.get(2).is_none());
-    assert_eq!(rt; values.iter().count(), 2);
-    let mut numbers: Sequence<u32> = Sequence::new(alloc);
-    assert!(rt; numbers.is_empty());
+    assert_eq!(&rt; values.len(), 2);
+    assert!(&rt; matches!(values.get(0), Some(Value::Atom(Atom::Minute(570)))));
+    assert!(&rt; matches!(values.at(1), Value::Identity));
+    assert!(&rt; values.get(2).is_none());
+    assert_eq!(&rt; values.iter().count(), 2);
+    Ok(())
+}
+
+#[test]
+fn lists_of_numbers(rt: HostRuntime) -> Result<(), Fail> {
+    let mut numbers: Sequence<u32> = Sequence::new(rt.alloc());
+    assert!(&rt; numbers.is_empty());
     numbers.push(4)?;
-    assert_eq!(rt; numbers.as_slice(), [4].as_slice());
-    assert_eq!(rt; numbers.get(0), Some(&4));
-    assert_eq!(rt; numbers.iter().count(), 1);
-    assert_eq!(rt; Limits::standard().symbol, 256);
+    assert_eq!(&rt; numbers.as_slice(), [4].as_slice());
+    assert_eq!(&rt; numbers.get(0), Some(&4));
+    assert_eq!(&rt; numbers.iter().count(), 1);
+    assert_eq!(&rt; Limits::standard().symbol, 256);
+    Ok(())
+}
+
+#[test]
+fn atoms_of_a_vector(rt: HostRuntime) -> Result<(), Fail> {
+    let alloc = rt.alloc();
     let sizes = longs(alloc, LongKind::Long, &[3])?;
-    assert!(rt; matches!(sizes.get(alloc, 0)?, Some(Atom::Long(3))));
-    assert!(rt; sizes.get(alloc, 1)?.is_none());
+    assert!(&rt; matches!(sizes.get(alloc, 0)?, Some(Atom::Long(3))));
+    assert!(&rt; sizes.get(alloc, 1)?.is_none());
     Ok(())
 }
