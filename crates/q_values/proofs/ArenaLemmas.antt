@@ -92,3 +92,7 @@ sum-cut from bytes (e ∷ es) h =
 pub no_nul-cut : (from : ℕ) (bytes ends : List ℕ) → HasNoNul bytes → All HasNoNul (cut from bytes ends)
 no_nul-cut from bytes [] h = All-nil HasNoNul
 no_nul-cut from bytes (e ∷ es) h = All-cons HasNoNul (take (e - from) (drop from bytes)) (cut e bytes es) (All-take (λ b. 0 < b) (e - from) (drop from bytes) (All-drop (λ b. 0 < b) from bytes h)) (no_nul-cut e bytes es h)
+
+-- where bytes end, less their number
+pub base_before : (last count more : ℕ) → last ≡ count + more → last - more ≡ count
+base_before last count more is = omega (arith, is)

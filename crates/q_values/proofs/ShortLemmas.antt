@@ -10,6 +10,11 @@ use Rattle.std.specs.Cmp.{nat_cmp_is, ranks, unsigned_ties}
 use Rattle.std.specs.Cmp.Lexicographic.{slice_cmp, pointwise, lists_ties}
 use Rattle.std.proofs.lemmas.List.Elements.{All-nil, All-cons, All-head, All-tail}
 use Rattle.q_values.specs.Bytes.{HasNoNul}
+use Rattle.std.specs.Simd.Lanes.{mask_l, top, zip2, sel_l}
+use Rattle.std.specs.Int.Count.{count_trailing_zeros}
+use Rattle.std.specs.List.{prefix_len, range_with_len}
+use Rattle.std.proofs.lemmas.Simd.{bitmask_splat, first_set_mask_l, tops_compared, trailing_mask_l}
+use Rattle.std.proofs.Common.{eqb, ltb, not, map, replicate, ◌%◌}
 use Rattle.q_values.specs.Short.{IsShort, IsFilled, text_of, filled, number_above, number_of}
 
 pub length-filled : (n : ℕ) (text : List ℕ) → length (filled n text) ≡ n
@@ -157,7 +162,7 @@ filled_over n [] short = refl
 filled_over zero (b ∷ text) short = absurd (omega arith)
 filled_over (suc n) (b ∷ text) short = ap (λ l. b ∷ l) (filled_over n text (omega (arith, short)))
 
-bytes-text_of : (bytes : List ℕ) → AreBytes bytes → AreBytes (text_of bytes)
+pub bytes-text_of : (bytes : List ℕ) → AreBytes bytes → AreBytes (text_of bytes)
 bytes-text_of [] of_bytes = All-nil (λ b. b < 256)
 bytes-text_of (zero ∷ bytes) of_bytes = All-nil (λ b. b < 256)
 bytes-text_of (suc b ∷ bytes) of_bytes =
@@ -179,3 +184,48 @@ IsFilled-filled text no_nul short of_bytes = record {
   full = ap (filled 8) (sym (text_of-filled 8 text no_nul short));
   digits = bytes-filled 8 text of_bytes;
 }
+
+prefix-text_of : (bytes : List ℕ) → prefix_len (λ b. not (eqb b 0)) bytes ≡ length (text_of bytes)
+prefix-text_of [] = refl
+prefix-text_of (zero ∷ bytes) = refl
+prefix-text_of (suc b ∷ bytes) =
+    let other : eqb (suc b) 0 ≡ false = grind (arith, nat_tests) in
+    rw other (omega (arith, prefix-text_of bytes))
+
+-- what a comparison of eight bytes with 0 sets
+abbrev pub nul_bits : List ℕ → ℕ
+nul_bits bytes = mask_l (map (top 7) (zip2 (λ a b. cond (eqb a b) 255 0) bytes (replicate 8 0))) % 18446744073709551616
+
+-- no bit is set where no byte is 0
+pub none_set : (bytes : List ℕ) (m : ℕ) → length bytes ≡ 8 → m ≡ nul_bits bytes → m ≡ 0 → 8 ≡ length (text_of bytes)
+none_set bytes m long is none =
+    let mask : mask_l (map (λ b. eqb b 0) bytes) ≡ 0 = sym (bitmask_splat w8 eqb bytes 8 0 long (omega arith)) ∙ sym is ∙ none in
+    (rw mask at (first_set_mask_l (λ b. eqb b 0) bytes 8 long (omega arith))) ∙ prefix-text_of bytes
+
+-- the lowest bit that is set shows the first 0
+pub lowest_set : (bytes : List ℕ) (m : ℕ) → length bytes ≡ 8 → m ≡ nul_bits bytes → (m ≡ 0 → ⊥) → count_trailing_zeros 64 m ≡ length (text_of bytes)
+lowest_set bytes m long is some =
+    let mask : m ≡ mask_l (map (λ b. eqb b 0) bytes) = is ∙ bitmask_splat w8 eqb bytes 8 0 long (omega arith) in
+    let set : 0 < mask_l (map (λ b. eqb b 0) bytes) = omega (arith, mask, some) in
+    ap (count_trailing_zeros 64) mask ∙ trailing_mask_l (λ b. eqb b 0) 64 bytes (omega (arith, long)) set ∙ prefix-text_of bytes
+
+-- a lane that the text does not reach is 0
+unkept : (i n : ℕ) (bytes : List ℕ) → n ≤ i → sel_l (zip2 ltb (range_with_len i (length bytes)) (replicate (length bytes) n)) bytes (replicate (length bytes) 0) ≡ filled (length bytes) []
+unkept i n [] above = refl
+unkept i n (b ∷ bytes) above =
+    let not_below : ltb i n ≡ false = grind (arith, nat_tests) in
+    rw not_below (ap (λ l. 0 ∷ l) (unkept (i + 1) n bytes (omega (arith, above))))
+
+-- the lanes before the first 0 are kept
+kept : (i n : ℕ) (bytes : List ℕ) → n ≡ i + length (text_of bytes) → sel_l (zip2 ltb (range_with_len i (length bytes)) (replicate (length bytes) n)) bytes (replicate (length bytes) 0) ≡ filled (length bytes) (text_of bytes)
+kept i n [] is = refl
+kept i n (zero ∷ bytes) is = unkept i n (zero ∷ bytes) (omega (arith, is))
+kept i n (suc b ∷ bytes) is =
+    let below : ltb i n ≡ true = grind (arith, nat_tests) in
+    rw below (ap (λ l. suc b ∷ l) (kept (i + 1) n bytes (omega (arith, is))))
+
+-- eight bytes of which the lanes before the first 0 are kept
+pub before : (bytes : List ℕ) (n : ℕ) → length bytes ≡ 8 → n ≡ length (text_of bytes)
+    → sel_l (map (top 7) (zip2 (λ a b. cond (ltb a b) 255 0) (range_with_len 0 8) (replicate 8 n))) bytes (replicate 8 0) ≡ filled 8 (text_of bytes)
+before bytes n long is =
+    ap (λ lanes. sel_l lanes bytes (replicate 8 0)) (tops_compared w8 ltb (range_with_len 0 8) (replicate 8 n)) ∙ (rw long at (kept 0 n bytes (omega (arith, is))))

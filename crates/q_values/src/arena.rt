@@ -1,6 +1,7 @@
-//! Symbols of any length in one arena: all their bytes in order, and the offset at which each ends.
+//! Symbols of any length in one arena: all their bytes in order, and the offset at which each ends. An offset has four
+//! bytes, so that an arena has at most 4,294,967,295 bytes.
 ghost use Rattle.std.specs.Prelude.{◌≡◌, ◌<◌, ◌+◌, ◌-◌, ◌≤◌, ◌^◌, vec_len, vec_capacity, [], ◌∷◌, ◌++◌, length, take, drop, ◌==◌};
-ghost use Rattle.std.specs.Prelude.{Some, map, slice_get, option_copied, OnOk, OnErr, IfOk, All};
+ghost use Rattle.std.specs.Prelude.{Some, map, slice_get, option_copied, OnOk, OnErr, IfOk, All, min};
 ghost use Rattle.std.specs.List.{sum_by};
 ghost use Rattle.q_values.specs.Bytes.{HasNoNul};
 ghost use Rattle.q_values.specs.Lists.{gathered};
@@ -11,17 +12,18 @@ ghost use Rattle.q_values.specs.Arena.{EndsAscend, IsPiece, IsPart, start_of, mo
 
 use crate::order::order_of_items;
 use crate::refusal::NoMemory;
-use crate::short::ShortSymbol;
+use crate::short::{ShortSymbol, bytes_in};
 use std::alloc::Global;
 use std::marker::Model;
 
-/// A list of symbols in two blocks of memory, however many they are.
+/// A list of symbols in two blocks of memory, however many they are. A call that would bring their bytes above
+/// 4,294,967,295 answers `NoMemory`.
 #[derive(Drop)]
 pub struct Arena {
     // The bytes of all symbols, in order. None is 0.
     bytes: Vec<u8>,
     // For each symbol the offset after its last byte. They never fall, and the last is the length of the bytes.
-    ends: Vec<usize>,
+    ends: Vec<u32>,
 }
 
 impl Model for Arena {
@@ -46,11 +48,21 @@ impl Arena {
         }
     }
 
+    // No symbols, with room for this many of them and of their bytes.
+    fn with_capacity(alloc: Global, count: usize, bytes: usize) -> Result<Arena, NoMemory>
+        ensures { IfOk result (λ arena. arena ≡ []) }
+    {
+        Ok(Arena {
+            bytes: Vec::with_capacity(alloc, bytes)?,
+            ends: Vec::with_capacity(alloc, count)?,
+        })
+    }
+
     /// The same symbols.
     pub fn of_short(alloc: Global, symbols: &[ShortSymbol]) -> Result<Arena, NoMemory>
         ensures { IfOk result (λ arena. arena ≡ symbols.now) }
     {
-        let mut arena = Arena::new(alloc);
+        let mut arena = Arena::with_capacity(alloc, symbols.len(), bytes_in(symbols))?;
         for symbol in symbols {
             arena.push(symbol.bytes())?;
         }
@@ -88,9 +100,9 @@ impl Arena {
         ensures ok { OnOk result (self.new ≡ self.old ++ symbol.now ∷ []) }
         ensures err { OnErr result (self.new ≡ self.old) }
     {
+        let end = end_after(self.bytes.len(), symbol.len())?;
         self.ends.reserve(1)?;
         self.bytes.extend_from_slice(symbol)?;
-        let end = self.bytes.len();
         self.ends.push_reserved(end);
         Ok(())
     }
@@ -102,9 +114,11 @@ impl Arena {
         ensures err { OnErr result (self.new ≡ self.old) }
     {
         let (start, end) = bounds_of(&other.bytes, &other.ends, from, n);
+        let last = end_after(self.bytes.len(), (end - start) as usize)?;
         self.ends.reserve(n)?;
-        let base = self.bytes.len();
-        self.bytes.extend_from_slice(&other.bytes[start..end])?;
+        self.bytes
+            .extend_from_slice(&other.bytes[start as usize..end as usize])?;
+        let base = last - (end - start);
         push_moved(&mut self.ends, &other.ends[from..][..n], start, base);
         Ok(())
     }
@@ -122,7 +136,7 @@ impl Arena {
     {
         if n < self.len() {
             let end = start_of_symbol(&self.ends, n);
-            self.bytes.truncate(end);
+            self.bytes.truncate(end as usize);
             self.ends.truncate(n);
         }
     }
@@ -132,8 +146,7 @@ impl Arena {
         requires { All (λ i. i < length self.now) places.now }
         ensures { IfOk result (λ s. s ≡ gathered self.now places.now) }
     {
-        let mut found = Arena::new(alloc);
-        found.ends.reserve(places.len())?;
+        let mut found = Arena::with_capacity(alloc, places.len(), self.bytes_at(places))?;
         for place in places {
             found.push(self.at(*place))?;
         }
@@ -159,6 +172,18 @@ impl Arena {
         Ok(places)
     }
 
+    // The number of bytes of the symbols at these indices together, or `usize::MAX` where it is more.
+    fn bytes_at(&self, places: &[usize]) -> usize
+        requires { All (λ i. i < length self.now) places.now }
+        ensures { result ≡ min (sum_by length (gathered self.now places.now)) 18446744073709551615 }
+    {
+        let mut total = 0usize;
+        for place in places {
+            total = total.saturating_add(self.at(*place).len());
+        }
+        total
+    }
+
     // The bytes of each symbol.
     fn texts(&self, alloc: Global) -> Result<Vec<&[u8]>, NoMemory>
         ensures { IfOk result (λ v. map (λ t. t.now) v.items ≡ self.now) }
@@ -171,17 +196,27 @@ impl Arena {
     }
 }
 
+// Where `more` bytes end that come after this many others.
+fn end_after(count: usize, more: usize) -> Result<u32, NoMemory>
+    ensures { IfOk result (λ end. end ≡ count + more) }
+{
+    match count.checked_add(more) {
+        Some(end) if end <= u32::MAX as usize => Ok(end as u32),
+        _ => Err(NoMemory),
+    }
+}
+
 // Where the symbol i starts and ends.
-fn span_of(bytes: &[u8], ends: &[usize], i: usize) -> (usize, usize)
+fn span_of(bytes: &[u8], ends: &[u32], i: usize) -> (usize, usize)
     requires ascends { EndsAscend 0 bytes.now ends.now }
     requires within { i < length ends.now }
     ensures { IsPiece 0 bytes.now ends.now i result.0 result.1 }
 {
-    (start_of_symbol(ends, i), ends[i])
+    (start_of_symbol(ends, i) as usize, ends[i] as usize)
 }
 
 // The offset at which the symbol i starts; after the last symbol, where the bytes end.
-fn start_of_symbol(ends: &[usize], i: usize) -> usize
+fn start_of_symbol(ends: &[u32], i: usize) -> u32
     requires { i ≤ length ends.now }
     ensures { result ≡ start_of 0 ends.now i }
 {
@@ -189,7 +224,7 @@ fn start_of_symbol(ends: &[usize], i: usize) -> usize
 }
 
 // The offsets at which the `n` symbols from the index `from` on start and end.
-fn bounds_of(bytes: &[u8], ends: &[usize], from: usize, n: usize) -> (usize, usize)
+fn bounds_of(bytes: &[u8], ends: &[u32], from: usize, n: usize) -> (u32, u32)
     requires ascends { EndsAscend 0 bytes.now ends.now }
     requires within { from + n ≤ length ends.now }
     ensures { IsPart bytes.now ends.now from n result.0 result.1 }
@@ -198,10 +233,10 @@ fn bounds_of(bytes: &[u8], ends: &[usize], from: usize, n: usize) -> (usize, usi
 }
 
 // Appends these ends for bytes that were copied from the offset `start` to the offset `base`.
-fn push_moved(ends: &mut Vec<usize>, more: &[usize], start: usize, base: usize)
+fn push_moved(ends: &mut Vec<u32>, more: &[u32], start: u32, base: u32)
     requires room { vec_len ends.old + length more.now ≤ vec_capacity ends.old }
     requires after { All (λ end. start ≤ end) more.now }
-    requires fits { All (λ end. base + (end - start) < 2 ^ 64) more.now }
+    requires fits { All (λ end. base + (end - start) < 2 ^ 32) more.now }
     ensures { ends.new.items ≡ ends.old.items ++ moved base (lowered start more.now) }
 {
     for end in more {

@@ -2,15 +2,18 @@
 ghost use Rattle.std.specs.Prelude.{◌≡◌, ◌<◌, length, min, All, MatchOption};
 ghost use Rattle.std.specs.List.{sum_by};
 ghost use Rattle.q_values.specs.Bytes.{HasNoNul};
-ghost use Rattle.q_values.specs.Short.{IsShort, number_of};
+ghost use Rattle.q_values.specs.Short.{IsShort, number_of, text_of, filled};
 
-use crate::sym::first_nul;
 use std::cmp::Ordering;
 use std::hash::{Hash, Hasher};
 use std::marker::Model;
+use std::simd::prelude::*;
 
 /// The most bytes of a short symbol.
 const LENGTH: usize = 8;
+
+// The index of each of the eight bytes.
+const LANES: [u8; LENGTH] = [0, 1, 2, 3, 4, 5, 6, 7];
 
 /// A symbol of at most eight bytes. It has no zero byte, so the zeros after it show its length. The eight bytes, read as
 /// a big-endian number, compare as the symbols do.
@@ -50,6 +53,25 @@ impl ShortSymbol {
         Some(ShortSymbol { bytes })
     }
 
+    /// The symbol whose bytes are those before the first 0, or all eight where none is 0.
+    pub fn before_nul(bytes: &[u8; LENGTH]) -> ShortSymbol
+        ensures { result ≡ text_of bytes.now }
+    {
+        let lanes = u8x8::from_array(*bytes);
+        let length = u8x8::splat(count_before_nul(bytes) as u8);
+        let kept = u8x8::from_array(LANES).simd_lt(length);
+        ShortSymbol {
+            bytes: kept.select(lanes, u8x8::splat(0)).to_array(),
+        }
+    }
+
+    /// Its bytes, and then zeros up to eight.
+    pub fn padded(&self) -> [u8; LENGTH]
+        ensures { result ≡ filled 8 self.now }
+    {
+        self.bytes
+    }
+
     /// Lends its bytes.
     pub fn bytes(&self) -> &[u8]
         ensures value { result.now ≡ self.now }
@@ -63,10 +85,7 @@ impl ShortSymbol {
         ensures value { result ≡ length self.now }
         ensures short { IsShort self.now }
     {
-        match first_nul(&self.bytes) {
-            Some(n) => n,
-            None => LENGTH,
-        }
+        count_before_nul(&self.bytes)
     }
 
     /// The number whose big-endian bytes are the symbol's, and then zeros.
@@ -75,6 +94,20 @@ impl ShortSymbol {
         ensures short { IsShort self.now }
     {
         u64::from_be_bytes(self.bytes)
+    }
+}
+
+// The number of bytes before the first 0, or all eight where none is 0.
+fn count_before_nul(bytes: &[u8; LENGTH]) -> usize
+    ensures { result ≡ length (text_of bytes.now) }
+{
+    let nuls = u8x8::from_array(*bytes)
+        .simd_eq(u8x8::splat(0))
+        .to_bitmask();
+    if nuls == 0 {
+        LENGTH
+    } else {
+        nuls.trailing_zeros() as usize
     }
 }
 

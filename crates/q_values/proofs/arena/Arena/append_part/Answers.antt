@@ -2,7 +2,7 @@ use Rattle.std.proofs.Common.{arith, refl, ◌≡◌, ◌<◌, ◌-◌, length, 
 use Rattle.std.proofs.lemmas.List.Elements.{All-append, All-take, All-drop}
 use Rattle.std.proofs.lemmas.List.{take_rest}
 use Rattle.q_values.specs.Arena.{moved, lowered}
-use Rattle.q_values.proofs.ArenaLemmas.{cut-append, ascends-append, length-cut}
+use Rattle.q_values.proofs.ArenaLemmas.{base_before, cut-append, ascends-append, length-cut}
 use Rattle.q_values.proofs.arena.Arena.append_part.Goals as goal
 
 pub bounds_of-start-requires-clause-within : goal.bounds_of-start-requires-clause-within
@@ -14,7 +14,8 @@ invariant_of-self-2 c =
     let start = c.bounds_of-start.result.0 in
     let end = c.bounds_of-start.result.1 in
     let own = c.self.inside.bytes.items in
-    let base_is : c.len-base.result ≡ length own = omega (arith, c.self.inside.bytes.ok) in
+    let count_is : c.len.result ≡ length own = omega (arith, c.self.inside.bytes.ok) in
+    let base_is = base_before _ _ _ c.in_ok-last.ensures ∙ count_is in
     let bytes_are : c.extend_from_slice.new.self.items ≡ own ++ take (end - start) (drop start c.other.inside.bytes.items) =
     c.in_ok-extend_from_slice.ensures.items ∙ ap (λ b. own ++ take (end - start) (drop start b)) c.deref-3.ensures.value in
     let ends_are : c.push_moved.new.ends.items ≡ c.self.inside.ends.items ++ moved (length own) (lowered start (take c.args.n (drop c.args.from c.other.inside.ends.items))) =
@@ -30,7 +31,8 @@ returns-clause-ok c =
     let start = c.bounds_of-start.result.0 in
     let end = c.bounds_of-start.result.1 in
     let own = c.self.inside.bytes.items in
-    let base_is : c.len-base.result ≡ length own = omega (arith, c.self.inside.bytes.ok) in
+    let count_is : c.len.result ≡ length own = omega (arith, c.self.inside.bytes.ok) in
+    let base_is = base_before _ _ _ c.in_ok-last.ensures ∙ count_is in
     let bytes_are : c.extend_from_slice.new.self.items ≡ own ++ take (end - start) (drop start c.other.inside.bytes.items) =
     c.in_ok-extend_from_slice.ensures.items ∙ ap (λ b. own ++ take (end - start) (drop start b)) c.deref-3.ensures.value in
     let ends_are : c.push_moved.new.ends.items ≡ c.self.inside.ends.items ++ moved (length own) (lowered start (take c.args.n (drop c.args.from c.other.inside.ends.items))) =
