@@ -30,7 +30,7 @@ abbrev pub advanced : AccessView → List Entry → List Entry → ℕ → ℕ �
 advanced access gained made asked ticked =
     record access { seen = access.seen ++ gained; mine = access.mine ++ made; snapshots = counted access.snapshots asked; ticks = counted access.ticks ticked }
 
--- how the access changed while these turns were noted, these entries made, and so many snapshots and ticks asked for
+-- how the access changed while these turns were noted, these entries made, and this many snapshots and ticks asked for
 pub record Advances (a b : AccessView) (turns : List Turn) (made : List Entry) (asked ticked : ℕ) : Type 0 where
   pub gained : List Entry
   pub after : b ≡ advanced a gained made asked ticked

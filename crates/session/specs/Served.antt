@@ -55,7 +55,7 @@ abbrev pub entry_turns : ℕ → ℤ → List Entry → List Turn
 entry_turns place now [] = []
 entry_turns place now (entry ∷ entries) = entry_turn place now entry ∷ entry_turns (place + 1) now entries
 
--- the access was asked for so many snapshots, and for so many ticks
+-- the access was asked for this many snapshots, and for this many ticks
 abbrev pub AsksFor : ℕ → ℕ → Deed → Type 0
 AsksFor snapshots ticks deed = (deed.snapshots ≡ snapshots) × (deed.ticks ≡ ticks)
 
