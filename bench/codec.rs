@@ -36,6 +36,31 @@ fn longs(count: u32) -> Vec<u8> {
     out
 }
 
+fn digit(n: u32, place: u32) -> u8 {
+    b'0' + (n / place % 10) as u8
+}
+
+fn short_symbols(count: u32) -> Vec<u8> {
+    let mut out = Vec::new();
+    put_head(&mut out, 11, count);
+    for i in 0..count {
+        out.extend_from_slice(&[b'S', digit(i, 100), digit(i, 10), digit(i, 1), 0]);
+    }
+    out
+}
+
+fn long_symbols(count: u32) -> Vec<u8> {
+    let mut out = Vec::new();
+    put_head(&mut out, 11, count);
+    for i in 0..count {
+        let more = (i.wrapping_mul(2_654_435_761) / 268_435_456) as usize;
+        out.extend_from_slice(&[digit(i, 10_000), digit(i, 1_000), digit(i, 100), digit(i, 10), digit(i, 1)]);
+        out.extend_from_slice(&[b'x'; 15][..more]);
+        out.push(0);
+    }
+    out
+}
+
 const NAMES: &[u8] = b"b\0c\x0b\0\x04\0\0\0time\0sym\0price\0size\0";
 
 fn trades(rows: u32) -> Vec<u8> {
@@ -128,4 +153,6 @@ fn main() {
     let table = trades(words[0]);
     report("table", &table, &table[..front], 4);
     report("longs", &longs(words[1]), &[], 1);
+    report("short", &short_symbols(words[2]), &[], 1);
+    report("long", &long_symbols(words[2]), &[], 1);
 }

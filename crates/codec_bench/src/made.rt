@@ -1,4 +1,5 @@
 //! The objects that are timed, as bytes.
+ghost use Rattle.std.specs.Prelude.{◌<◌};
 
 use std::alloc::{AllocError, Global};
 
@@ -31,6 +32,36 @@ fn put_symbols(out: &mut Vec<u8>, count: u32) -> Result<(), AllocError> {
 pub fn longs(alloc: Global, count: u32) -> Result<Vec<u8>, AllocError> {
     let mut out = Vec::new(alloc);
     put_numbers(&mut out, 7, count, 1_000_003)?;
+    Ok(out)
+}
+
+// The digit of this place: 1, 10, 100 ..
+fn digit(n: u32, place: u32) -> u8
+    requires { 0 < place }
+{
+    b'0' + (n / place % 10) as u8
+}
+
+/// The bytes of a vector of `count` symbols of four bytes: a thousand of them, over and over.
+pub fn short_symbols(alloc: Global, count: u32) -> Result<Vec<u8>, AllocError> {
+    let mut out = Vec::new(alloc);
+    put_head(&mut out, 11, count)?;
+    for i in 0..count {
+        out.extend_from_slice(&[b'S', digit(i, 100), digit(i, 10), digit(i, 1), 0])?;
+    }
+    Ok(out)
+}
+
+/// The bytes of a vector of `count` symbols of 5 to 20 bytes: five digits, and up to 15 letters more.
+pub fn long_symbols(alloc: Global, count: u32) -> Result<Vec<u8>, AllocError> {
+    let mut out = Vec::new(alloc);
+    put_head(&mut out, 11, count)?;
+    for i in 0..count {
+        let more = (i.wrapping_mul(2_654_435_761) / 268_435_456) as usize;
+        out.extend_from_slice(&[digit(i, 10_000), digit(i, 1_000), digit(i, 100), digit(i, 10), digit(i, 1)])?;
+        out.extend_from_slice(&[b'x'; 15][..more])?;
+        out.push(0)?;
+    }
     Ok(out)
 }
 

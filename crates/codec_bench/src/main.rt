@@ -1,11 +1,12 @@
-//! Times `ipc_codec` and `ipc_frame` over a table of trades and over a vector of longs. `bench/codec.py` runs it, and sets
-//! its times beside those of a copy of the same bytes and of the same loops in Rust.
+//! Times `ipc_codec` and `ipc_frame` over a table of trades, a vector of longs, and two of symbols: of four bytes, and of
+//! 5 to 20. `bench/codec.py` runs it, and sets its times beside those of a copy of the same bytes and of the same loops in
+//! Rust.
 //!
-//! `made` makes the two objects as bytes; `timed` times each call over them, five times, and prints one line for each
+//! `made` makes the objects as bytes; `timed` times each call over them, five times, and prints one line for each
 //! time: the object, the call, nanoseconds, and the number of bytes that were read or written.
 //!
 //! ```text
-//! codec_bench ROWS [LONGS]
+//! codec_bench ROWS [LONGS [SYMBOLS]]
 //!
 //! table measure NANOSECONDS BYTES
 //! table decode NANOSECONDS BYTES
@@ -23,7 +24,8 @@
 //! NAME BYTES
 //! ```
 //!
-//! It tests nothing: the numbers of bytes are printed so that no call can be left out by the compiler. It takes no
+//! What was decoded and encoded again has to be the same bytes. The numbers of bytes are printed so that no call can be
+//! left out by the compiler. It takes no
 //! object from a file, and times neither sockets nor sessions.
 #![tactic(auto)]
 
@@ -52,6 +54,11 @@ fn main(rt: HostRuntime) -> Result<()> {
     if let Some(count) = arguments.next() {
         let count = count.as_str().parse::<u32>()?;
         timed::report(&rt, "longs", &made::longs(rt.alloc(), count)?)?;
+    }
+    if let Some(count) = arguments.next() {
+        let count = count.as_str().parse::<u32>()?;
+        timed::report(&rt, "short", &made::short_symbols(rt.alloc(), count)?)?;
+        timed::report(&rt, "long", &made::long_symbols(rt.alloc(), count)?)?;
     }
     Ok(())
 }

@@ -33,6 +33,9 @@ fn codec_timed<R: Clock + Print>(rt: &R, alloc: Global, name: &str, object: &[u8
     let nanos = start.elapsed(rt)?.as_nanos();
     let count = out.len();
     println!(rt; "{name} encode {nanos} {count}")?;
+    if out.as_slice() != object {
+        bail!("other bytes");
+    }
     Ok(())
 }
 

@@ -7,12 +7,8 @@ use Rattle.ipc_codec.specs.declared.fault.Fault.{Fault}
 use Rattle.ipc_codec.specs.declared.fault.Stop.{Stop}
 use Rattle.ipc_codec.specs.declared.fault.Stop.TheVariants as s
 use Rattle.ipc_codec.specs.declared.order.Order.{Order}
+use Rattle.ipc_codec.specs.Front.{with_front}
 use Rattle.ipc_codec.specs.Reading.{◌>>=◌, Stops, text_at, texts_at, column_at, columns_at, items_at}
-
--- what is read after a front
-abbrev pub with_front : {X : Type 0} → List X → Result (List X × List ℕ) Fault → Result (List X × List ℕ) Fault
-with_front front (Ok x) = Ok (front ++ x.0, x.1)
-with_front front (Err e) = Err e
 
 regroup : {X : Type 0} (front : List X) (x : X) (r : Result (List X × List ℕ) Fault) → with_front front (r >>= λ others. Ok (x ∷ others.0, others.1)) ≡ with_front (front ++ x ∷ []) r
 regroup front x (Ok r) = rw (append_assoc front (x ∷ []) r.0) refl

@@ -1,7 +1,8 @@
-use Rattle.std.proofs.Common.{nat_eq, ◌≡◌, ℕ, zero, suc, ◌+◌, ◌-◌, ◌<◌, ◌≤◌, Bool, true, false, List, [], ◌∷◌, length, get_or, take, drop, Result, Ok, Err, refl, sym, ◌∙◌, arith}
+use Rattle.std.proofs.Common.{nat_eq, ◌≡◌, ℕ, zero, suc, ◌+◌, ◌-◌, ◌<◌, ◌≤◌, Bool, true, false, List, [], ◌∷◌, length, get_or, take, drop, Result, Ok, Err, refl, sym, ap, ◌∙◌, arith}
 use Rattle.std.specs.Prelude.{◌&&◌}
 use Rattle.std.proofs.lemmas.List.Elements.{All-head, All-tail}
 use Rattle.q_values.specs.Bytes.{HasNoNul}
+use Rattle.q_values.specs.Short.{text_of}
 use Rattle.ipc_codec.specs.declared.fault.Fault.{Fault}
 use Rattle.ipc_codec.specs.declared.fault.Fault.TheVariants.{Truncated, BadType, BadShape, NotBuilt, TooDeep}
 use Rattle.q_values.specs.Tree.{Tree}
@@ -143,3 +144,22 @@ refused-placed order bytes (BadType left) h = rw h refl
 refused-placed order bytes (BadShape left) h = rw h refl
 refused-placed order bytes (NotBuilt left) h = rw h refl
 refused-placed order bytes (TooDeep left) h = rw h refl
+
+-- the text before the first 0 of the first bytes, where a 0 stands after it
+text_at-first : (n : ℕ) (bytes : List ℕ) → get_or bytes (length (text_of (take n bytes))) 0 ≡ 0 → length (text_of (take n bytes)) < length bytes
+    → text_at bytes ≡ Ok (text_of (take n bytes), drop (length (text_of (take n bytes)) + 1) bytes)
+unfolding text_at
+text_at-first n [] here within = absurd (omega (arith, within))
+text_at-first zero (zero ∷ bytes) here within = refl
+text_at-first zero (suc b ∷ bytes) here within = absurd (omega (arith, here))
+text_at-first (suc n) (zero ∷ bytes) here within = refl
+text_at-first (suc n) (suc b ∷ bytes) here within =
+    let rest = text_at-first n bytes here (omega (arith, within)) in
+    let e : suc (length (text_of (take n bytes))) + 1 ≡ suc (length (text_of (take n bytes)) + 1) = omega arith in
+    rw (rest, e) refl
+
+pub text_at-short : (bytes eight text : List ℕ) (n : ℕ) → eight ≡ take 8 bytes → text ≡ text_of eight → n ≡ length text → n < length bytes → get_or bytes n 0 ≡ 0 → text_at bytes ≡ Ok (text, drop (n + 1) bytes)
+text_at-short bytes eight text n eight_is text_is n_is within here =
+    let is : text ≡ text_of (take 8 bytes) = text_is ∙ ap text_of eight_is in
+    let at : n ≡ length (text_of (take 8 bytes)) = n_is ∙ ap length is in
+    rw (at, is) (text_at-first 8 bytes (rw at at here) (rw at at within))

@@ -5,6 +5,13 @@ use Rattle.std.proofs.lemmas.List.{take_all, take-append-le, length-append, take
 use Rattle.std.specs.Prelude.{if◌then◌else◌, slice_get, Some, OnOk}
 use Rattle.std.proofs.lemmas.List.{append-nil}
 use Rattle.byteorder.specs.Endian.{little_bytes}
+use Rattle.std.proofs.Common.{set}
+use Rattle.std.proofs.Math.Seq.{take-append-add, take-add}
+use Rattle.std.proofs.lemmas.Grind.{take-set_at, flat_map-append}
+use Rattle.std.proofs.lemmas.List.{length-take, length-drop}
+use borrow.Rule.Slice.PartMut.{put_mid}
+use Rattle.q_values.specs.Short.{filled}
+use Rattle.q_values.proofs.ShortLemmas.{length-filled}
 use Rattle.q_values.specs.Column.{byte_atom, integer_atom, long_atom}
 use Rattle.q_values.specs.declared.atom.Atom.{Atom}
 use Rattle.q_values.specs.declared.atom.Atom.TheVariants as a
@@ -104,3 +111,33 @@ flat_map-more f (y ∷ xs) (suc i) x e =
 pub ok_then : {A E P Q : Type 0} (r : Result A E) → (P → Q) → OnOk r P → OnOk r Q
 ok_then (Ok x) step h = step h
 ok_then (Err e) step h = tt
+
+take-filled : (k : ℕ) (text : List ℕ) → length text ≤ k → take (length text) (filled k text) ≡ text
+take-filled zero [] short = refl
+take-filled zero (b ∷ text) short = absurd (omega (arith, short))
+take-filled (suc k) [] short = refl
+take-filled (suc k) (b ∷ text) short = ap (λ l. b ∷ l) (take-filled k text (omega (arith, short)))
+
+-- a text is written as eight bytes, and then a 0 after its own
+pub block-more : (block eight text : List ℕ) (end k n : ℕ) → end + 9 ≤ length block → k ≡ 8 → eight ≡ filled 8 text → length text ≤ 8 → n ≡ length text
+    → take (end + n + 1) (set (put_mid end k block eight) (end + n) 0) ≡ take end block ++ text_bytes text
+block-more block eight text end k n room k_is eight_is short n_is =
+    let whole = put_mid end k block eight in
+    let back = drop k (drop end block) in
+    let size : length eight ≡ 8 = ap length eight_is ∙ length-filled 8 text in
+    let front_size : length (take end block) ≡ end = omega (arith, length-take end block, room) in
+    let inside : end + n < length whole =
+    omega (arith, length-append (take end block) (eight ++ back), length-append eight back, length-drop k (drop end block), length-drop end block, front_size, size, k_is, room, short, n_is) in
+    let text_is : take n (eight ++ back) ≡ text =
+    take-append-le n eight back (omega (arith, size, short, n_is)) ∙ ap (take n) eight_is ∙ rw n_is (take-filled 8 text short) in
+    let kept : take (end + n) whole ≡ take end block ++ text =
+    ap (λ i. take (i + n) whole) (sym front_size) ∙ take-append-add (take end block) (eight ++ back) n ∙ ap (λ l. take end block ++ l) text_is in
+    take-set_at whole (end + n) (end + n + 1) 0 (omega arith) inside ∙ ap (λ l. l ++ 0 ∷ []) kept ∙ append_assoc (take end block) text (0 ∷ [])
+
+-- as many more items as a part has
+pub flat_map-part : {X : Type 0} (f : X → List ℕ) (xs : List X) (at count k : ℕ) (initial old new : List ℕ) → k ≡ count → new ≡ old ++ flat_map f (take k (drop at xs)) → old ≡ initial ++ flat_map f (take at xs) → new ≡ initial ++ flat_map f (take (at + count) xs)
+flat_map-part f xs at count k initial old new k_is new_is old_is =
+    let part = take k (drop at xs) in
+    let items : take (at + count) xs ≡ take at xs ++ part = take-add at count xs ∙ ap (λ i. take at xs ++ take i (drop at xs)) (sym k_is) in
+    let bytes : flat_map f (take (at + count) xs) ≡ flat_map f (take at xs) ++ flat_map f part = ap (flat_map f) items ∙ flat_map-append f (take at xs) part in
+    new_is ∙ ap (λ l. l ++ flat_map f part) old_is ∙ append_assoc initial (flat_map f (take at xs)) (flat_map f part) ∙ ap (λ l. initial ++ l) (sym bytes)

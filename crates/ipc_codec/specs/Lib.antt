@@ -1,6 +1,7 @@
 pub mod Types
 pub mod Numbers
 pub mod Reading
+pub mod Front
 pub mod Extent
 pub mod Written
 pub mod Appends

@@ -1,5 +1,6 @@
 //! The parts that objects share: counts, texts, and the type bytes within a table.
-ghost use Rattle.std.specs.Prelude.{◌≡◌, ◌<◌, ◌^◌, ◌≤◌, length, IfOk, position, IfNone, ◌==◌};
+ghost use Rattle.std.specs.Prelude.{◌≡◌, ◌<◌, ◌^◌, ◌≤◌, length, IfOk, Ok, position, IfNone, ◌==◌};
+ghost use Rattle.std.specs.Option.{IfSome};
 ghost use Rattle.q_values.specs.Bytes.{HasNoNul};
 ghost use Rattle.ipc_codec.specs.Numbers.{number};
 ghost use Rattle.ipc_codec.specs.Reading.{Finds, count_at, text_at, part_at};
@@ -7,6 +8,7 @@ ghost use Rattle.ipc_codec.specs.Reading.{Finds, count_at, text_at, part_at};
 use crate::fault::Fault;
 use crate::order::Order;
 use byteorder::{BigEndian, ByteOrder, LittleEndian};
+use q_values::ShortSymbol;
 
 fn number_of(bytes: &[u8], order: Order) -> u32
     requires { 4 ≤ length bytes.now }
@@ -55,6 +57,24 @@ pub fn text_of(bytes: &[u8]) -> Result<(&[u8], &[u8]), Fault>
     match first_nul(bytes) {
         None => Err(Fault::Truncated),
         Some(end) => Ok((&bytes[..end], &bytes[end + 1..])),
+    }
+}
+
+/// Reads a text of at most eight bytes that ends with a 0, where at least nine bytes are left; returns it without the 0,
+/// and the bytes after the 0.
+pub fn short_text_of(bytes: &[u8]) -> Option<(ShortSymbol, &[u8])>
+    ensures found { IfSome result (λ x. text_at bytes.now ≡ Ok (x.0, x.1.now)) }
+    ensures shorter { IfSome result (λ x. length x.1.now < length bytes.now) }
+{
+    if bytes.len() <= 8 {
+        return None;
+    }
+    let symbol = ShortSymbol::before_nul(bytes.first_chunk()?);
+    let end = symbol.len();
+    if bytes[end] == 0 {
+        Some((symbol, &bytes[end + 1..]))
+    } else {
+        None
     }
 }
 

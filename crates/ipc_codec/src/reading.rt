@@ -2,7 +2,7 @@
 //! `room` is the number of levels that may still be opened; `left` the number of bytes from the type byte of the
 //! current object on, from which the offset of a fault follows. A list is made with the room that its count asks for, and
 //! with no more than the bytes that are left can fill: an object has two bytes at least, a column six, a text one.
-ghost use Rattle.std.specs.Prelude.{◌≡◌, ◌<◌, ◌^◌, ◌≤◌, ℕ, length, take, map, nat_eq, Ok, IfOk, IfErr};
+ghost use Rattle.std.specs.Prelude.{◌≡◌, ◌<◌, ◌^◌, ◌≤◌, ◌-◌, ℕ, length, take, map, nat_eq, Ok, IfOk, IfErr};
 ghost use Rattle.q_values.specs.Bytes.{HasNoNul};
 ghost use Rattle.q_values.specs.Column.{contents};
 ghost use Rattle.q_values.specs.Table.{rows_of};
@@ -10,6 +10,7 @@ ghost use Rattle.q_values.specs.Tree.{Tree, tree, trees, items_of, keyed, identi
 ghost use Rattle.ipc_codec.specs.Reading.{Gives, Finds, RefusesObject, texts_at, elements_at, vector_at, atom_at, column_at, columns_at};
 ghost use Rattle.ipc_codec.specs.Reading.{have_equal_lengths, names_at, list_of_columns_at, grid_at, shaped, extent, checked, joined, identity_at};
 ghost use Rattle.ipc_codec.specs.Reading.{items_at, list_at, dictionary_at, object_by, object_at, object_of};
+ghost use Rattle.ipc_codec.specs.Front.{with_front};
 ghost use Rattle.ipc_codec.specs.Spells.{Spells};
 ghost use Rattle.ipc_codec.specs.Decoded.{Reads};
 ghost use Rattle.ipc_codec.specs.Written.{IsPlain, AtomsFit};
@@ -17,12 +18,12 @@ ghost use Rattle.ipc_codec.specs.Written.{IsPlain, AtomsFit};
 use crate::elements::{column_of, element_of};
 use crate::fault::{Fault, Stop};
 use crate::form::{Form, form_of_byte};
-use crate::heads::{count_of, part_of, text_of};
+use crate::heads::{count_of, part_of, short_text_of, text_of};
 use crate::order::Order;
 use crate::refusal::DecodeRefusal;
 use q_values::{
-    Atom, Column, KeyedValue, Kind, NoMemory, Pair, Sequence, Sym, Symbols, TableValue, Text,
-    Value, Values, Vector,
+    Atom, Column, KeyedValue, Kind, NoMemory, Pair, Sequence, ShortSymbol, Sym, Symbols,
+    TableValue, Text, Value, Values, Vector,
 };
 use std::alloc::Global;
 
@@ -40,12 +41,38 @@ fn text_copied(alloc: Global, text: &[u8]) -> Result<Text, NoMemory>
     Ok(Text::from_vec(Vec::from_slice(alloc, text)?))
 }
 
+// The texts of at most eight bytes that come first, and the bytes after them.
+fn short_symbols_of(
+    alloc: Global,
+    bytes: &[u8],
+    count: usize,
+) -> Result<(Vec<ShortSymbol>, &[u8]), NoMemory>
+    ensures within { IfOk result (λ x. length x.0.items ≤ count) }
+    ensures others { IfOk result (λ x.
+        with_front x.0.items (texts_at (count - length x.0.items) x.1.now) ≡ texts_at count bytes.now) }
+{
+    let mut found = Vec::with_capacity(alloc, count.min(bytes.len()))?;
+    let mut rest = bytes;
+    for _ in 0..count {
+        let Some(read) = short_text_of(rest) else {
+            break;
+        };
+        found.push_reserved(read.0);
+        rest = read.1;
+    }
+    Ok((found, rest))
+}
+
+// Texts of any length: from the first on that has more than eight bytes, or near the end of the bytes, they are read
+// one by one.
 fn symbols_of(alloc: Global, bytes: &[u8], count: usize) -> Result<(Symbols, &[u8]), Stop>
     ensures { Gives (λ x. (x.0, x.1.now)) result (texts_at count bytes.now) }
 {
-    let mut symbols = Symbols::with_capacity(alloc, count.min(bytes.len()))?;
-    let mut rest = bytes;
-    for _ in 0..count {
+    let (short, after) = short_symbols_of(alloc, bytes, count)?;
+    let left = count - short.len();
+    let mut symbols = Symbols::from_short(alloc, short);
+    let mut rest = after;
+    for _ in 0..left {
         let (text, after) = text_of(rest)?;
         symbols.push(text)?;
         rest = after;

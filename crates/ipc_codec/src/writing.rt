@@ -1,5 +1,5 @@
 //! Writing values in their canonical encoding.
-ghost use Rattle.std.specs.Prelude.{◌≡◌, ◌++◌, ◌∷◌, ◌≤◌, ◌<◌, ◌^◌, [], length, drop, map, if◌then◌else◌, OnOk, OnErr, All};
+ghost use Rattle.std.specs.Prelude.{◌≡◌, ◌++◌, ◌∷◌, ◌≤◌, ◌<◌, ◌^◌, [], length, take, drop, map, if◌then◌else◌, OnOk, OnErr, All};
 ghost use Rattle.std.specs.Int.{w16, w32, w64, cast_unsigned};
 ghost use Rattle.std.specs.List.{flat_map};
 ghost use Rattle.byteorder.specs.Endian.{little_bytes};
@@ -12,7 +12,16 @@ ghost use Rattle.ipc_codec.specs.Written.{head, text_bytes, element_bytes, vecto
 
 use crate::lengths::encoded_length;
 use byteorder::{ByteOrder, LittleEndian};
-use q_values::{Atom, Column, Element, NoMemory, Sym, Symbols, TableValue, Value, Values, Vector};
+use q_values::{
+    Atom, Column, Element, Form, NoMemory, ShortSymbol, Sym, Symbols, TableValue, Value, Values,
+    Vector,
+};
+
+// How many short symbols are written at a time.
+const BLOCK: usize = 64;
+
+// The most bytes that they take: eight and a 0 for each.
+const BLOCK_BYTES: usize = 576;
 
 // A type byte, the attribute byte 0 and a count.
 fn put_head(out: &mut Vec<u8>, code: u8, count: usize) -> Result<(), NoMemory>
@@ -91,8 +100,41 @@ fn put_text(out: &mut Vec<u8>, text: &[u8]) -> Result<(), NoMemory>
     Ok(())
 }
 
+// Writes short symbols, each with the 0 that ends it, at the front of the block; returns how many bytes they take. Each
+// is written as eight bytes, of which the next one overwrites those that aren't its own.
+fn fill_block(block: &mut [u8; BLOCK_BYTES], symbols: &[ShortSymbol]) -> usize
+    requires { length symbols.now ≤ 64 }
+    ensures within { result ≤ 576 }
+    ensures value { take result block.new ≡ flat_map text_bytes symbols.now }
+{
+    let mut end = 0;
+    for symbol in symbols {
+        block[end..end + 8].copy_from_slice(&symbol.padded());
+        end += symbol.len();
+        block[end] = 0;
+        end += 1;
+    }
+    end
+}
+
 #[tactic(auto, using(crate::proofs::WritingLemmas::begins))]
-fn put_symbols(out: &mut Vec<u8>, symbols: &Symbols) -> Result<(), NoMemory>
+fn put_short_symbols(out: &mut Vec<u8>, symbols: &[ShortSymbol]) -> Result<(), NoMemory>
+    ensures ok { OnOk result (out.new.items ≡ out.old.items ++ flat_map text_bytes symbols.now) }
+    ensures err { OnErr result (Begins out.old.items out.new.items) }
+{
+    let mut block = [0u8; BLOCK_BYTES];
+    let mut at = 0;
+    while at < symbols.len() {
+        let count = (symbols.len() - at).min(BLOCK);
+        let end = fill_block(&mut block, &symbols[at..at + count]);
+        out.extend_from_slice(&block[..end])?;
+        at += count;
+    }
+    Ok(())
+}
+
+#[tactic(auto, using(crate::proofs::WritingLemmas::begins))]
+fn put_texts(out: &mut Vec<u8>, symbols: &Symbols) -> Result<(), NoMemory>
     ensures ok { OnOk result (out.new.items ≡ out.old.items ++ flat_map text_bytes symbols.now) }
     ensures err { OnErr result (Begins out.old.items out.new.items) }
 {
@@ -100,6 +142,16 @@ fn put_symbols(out: &mut Vec<u8>, symbols: &Symbols) -> Result<(), NoMemory>
         put_text(out, symbols.at(i))?;
     }
     Ok(())
+}
+
+fn put_symbols(out: &mut Vec<u8>, symbols: &Symbols) -> Result<(), NoMemory>
+    ensures ok { OnOk result (out.new.items ≡ out.old.items ++ flat_map text_bytes symbols.now) }
+    ensures err { OnErr result (Begins out.old.items out.new.items) }
+{
+    match symbols.form() {
+        Form::Short(items) => put_short_symbols(out, items),
+        Form::Long(_) => put_texts(out, symbols),
+    }
 }
 
 #[tactic(auto, using(crate::proofs::WritingLemmas::elements))]

@@ -68,3 +68,30 @@ fn nothing_behind_an_object_is_read(rt: HostRuntime) -> Result<(), Fail> {
     assert_eq!(rt; count, 2);
     Ok(())
 }
+
+// A vector of 100,000 symbols as bytes: of none to eight bytes, but for the last one, which is given with its 0.
+fn symbols_object(alloc: Global, last: &[u8]) -> Result<Vec<u8>, Fail> {
+    let mut out = Vec::from_slice(alloc, b"\x0b\0")?;
+    out.extend_from_slice(&100_000u32.to_le_bytes())?;
+    for i in 1..100_000u32 {
+        out.extend_from_slice(&b"abcdefgh"[..(i % 9) as usize])?;
+        out.push(0)?;
+    }
+    out.extend_from_slice(last)?;
+    Ok(out)
+}
+
+fn symbols_are_kept(alloc: Global, last: &[u8]) -> Result<bool, Fail> {
+    let object = symbols_object(alloc, last)?;
+    let (count, out) = written_again(alloc, &object, Order::Little)?;
+    Ok(count == object.len() && out.as_slice() == object.as_slice())
+}
+
+#[test]
+fn many_symbols(rt: HostRuntime) -> Result<(), Fail> {
+    assert!(rt; symbols_are_kept(rt.alloc(), b"\0")?);
+    assert!(rt; symbols_are_kept(rt.alloc(), b"eightbyt\0")?);
+    assert!(rt; symbols_are_kept(rt.alloc(), b"ninebytes\0")?);
+    assert!(rt; symbols_are_kept(rt.alloc(), b"more than eight bytes\0")?);
+    Ok(())
+}

@@ -1,6 +1,6 @@
 use Rattle.std.proofs.Common.{◌≡◌, ◌-◌}
 use Rattle.ipc_codec.specs.Reading.{columns_at}
-use Rattle.ipc_codec.proofs.FrontLemmas.{with_front}
+use Rattle.ipc_codec.specs.Front.{with_front}
 use Rattle.ipc_codec.proofs.reading.columns_of.Given as goal
 
 abbrev pub invariant-loop : goal.invariant-loop

@@ -2,7 +2,7 @@ use Rattle.std.proofs.Common.{append_assoc, take}
 use Rattle.std.specs.List.{flat_map}
 use Rattle.ipc_codec.specs.Written.{text_bytes}
 use Rattle.ipc_codec.proofs.WritingLemmas.{flat_map-more}
-use Rattle.ipc_codec.proofs.writing.put_symbols.Goals as goal
+use Rattle.ipc_codec.proofs.writing.put_texts.Goals as goal
 
 pub loop-i-preserved : goal.loop-i-preserved
 loop-i-preserved c =
