@@ -183,17 +183,17 @@ impl Ordered for ShortSymbol {
 fn order_in_16(x: &i16, y: &i16) -> Ordering
     ensures { result ≡ worth_cmp (numeric (number_in w16 x.now)) (numeric (number_in w16 y.now)) }
 {
-    let some = *x;
-    let other = *y;
-    some.cmp(&other)
+    let left = *x;
+    let right = *y;
+    left.cmp(&right)
 }
 
 fn order_in_32(x: &i32, y: &i32) -> Ordering
     ensures { result ≡ worth_cmp (numeric (number_in w32 x.now)) (numeric (number_in w32 y.now)) }
 {
-    let some = *x;
-    let other = *y;
-    some.cmp(&other)
+    let first = *x;
+    let second = *y;
+    first.cmp(&second)
 }
 
 /// The order of two numbers of 64 bits, where the least one is the null.
