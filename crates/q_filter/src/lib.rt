@@ -12,6 +12,8 @@
 //! combines no conditions: `&` of two columns of booleans is a verb of `q_verbs`.
 #![tactic(auto)]
 
+#[cfg(test)]
+mod cases;
 mod filter;
 
 pub use filter::places_where;

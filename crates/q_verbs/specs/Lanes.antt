@@ -1,5 +1,5 @@
 -- The items of a side as the loops read them.
-use Rattle.std.specs.Prelude.{ℕ, ℤ, List, map, replicate}
+use Rattle.std.specs.Prelude.{ℕ, List, map, replicate}
 use Rattle.q_values.specs.Column.{byte_kind, byte_atom, integer_kind, integer_atom, long_kind, long_atom}
 use Rattle.q_values.specs.declared.atom.Atom.{Atom}
 use Rattle.q_values.specs.declared.atom.Atom.TheVariants as a

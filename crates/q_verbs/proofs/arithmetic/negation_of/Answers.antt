@@ -1,10 +1,10 @@
-use Rattle.std.proofs.Common.{◌≡◌, ℤ, neg_ℤ, option_map, List, map, ap, sym, ◌∙◌}
+use Rattle.std.proofs.Common.{◌≡◌, ℤ, neg_ℤ, option_map, List, map, ap, ◌∙◌}
 use Rattle.std.specs.Int.{w32}
 use Rattle.q_values.specs.Contents.{Contents}
 use Rattle.q_values.specs.Column.{integer_atom, integer_kind}
 use Rattle.q_values.specs.declared.atom.Atom.{Atom}
 use Rattle.q_values.specs.declared.kind.Kind.{Kind}
-use Rattle.q_verbs.specs.Numbers.{Worth, numeric, number_in, worth, written}
+use Rattle.q_verbs.specs.Numbers.{Worth, numeric, number_in, written}
 use Rattle.q_verbs.proofs.SideLemmas.{worth-mapped}
 use Rattle.q_verbs.proofs.WorthLemmas.{worth-integer}
 use Rattle.q_verbs.proofs.WrittenLemmas.{negated-atoms}

@@ -9,7 +9,7 @@ use Rattle.q_values.specs.declared.kind.Kind.{Kind}
 use Rattle.q_values.specs.declared.kind.Kind.TheVariants as k
 use Rattle.q_verbs.specs.Lanes.{lane_items}
 use Rattle.q_verbs.specs.Numbers.{number_in, worth, worth_cmp}
-use Rattle.q_verbs.specs.Sides.{side_kind, spread}
+use Rattle.q_verbs.specs.Sides.{spread}
 use Rattle.q_verbs.proofs.ChoiceLemmas.{chosen_atoms}
 use Rattle.q_verbs.proofs.KindLemmas.{byte_kind-same, integer_kind-same, long_kind-same}
 use Rattle.q_verbs.proofs.WorthLemmas.{worth-byte, worth-integer, worth-long}

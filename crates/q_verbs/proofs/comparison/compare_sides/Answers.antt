@@ -2,7 +2,6 @@ use Rattle.std.proofs.Common.{ℕ, ℤ, pos, Bool, List, Some, refl, if◌then�
 use Rattle.std.specs.Int.{w16, w32}
 use Rattle.std.specs.Simd.Lanes.{zip2}
 use Rattle.q_values.specs.Column.{byte_atom, integer_atom}
-use Rattle.q_values.specs.declared.atom.Atom.{Atom}
 use Rattle.q_values.specs.declared.atom.Atom.TheVariants as a
 use Rattle.q_verbs.specs.Lanes.{lane_items, text_items}
 use Rattle.q_verbs.specs.Numbers.{Worth, numeric, number_in, worth, worth_cmp}
