@@ -8,7 +8,6 @@ use Rattle.std.proofs.lemmas.List.{take_more, drop_more}
 use Rattle.std.proofs.lemmas.List.Elements.{filter-append}
 use Rattle.q_values.specs.Lists.{gathered}
 use Rattle.q_values.proofs.ListLemmas.{gathered-append, map-gathered}
-use Rattle.q_values.specs.declared.atom.Atom.{Atom}
 use Rattle.q_values.specs.Column.{byte_atom, integer_atom, long_atom}
 use Rattle.q_values.specs.declared.atom.Atom.TheVariants as a
 use Rattle.q_values.specs.declared.kind.ByteKind.{ByteKind}

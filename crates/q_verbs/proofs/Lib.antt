@@ -16,3 +16,4 @@ pub mod WorthLemmas
 pub mod WrapLemmas
 pub mod WrittenLemmas
 pub mod ZipLemmas
+pub mod SideLemmas

@@ -16,9 +16,9 @@ use Rattle.q_values.specs.declared.kind.IntegerKind.TheVariants as i
 use Rattle.q_values.specs.declared.kind.LongKind.{LongKind}
 use Rattle.q_values.specs.declared.kind.LongKind.TheVariants as l
 use Rattle.q_verbs.specs.declared.verb.Verb.{Verb}
-use Rattle.q_verbs.specs.Numbers.{worth, number_in, reduced, written}
+use Rattle.q_verbs.specs.Numbers.{Worth, numeric, worth, reduced, written}
 use Rattle.q_verbs.specs.Places.{Operation, operation, of_both, difference_of}
-use Rattle.q_verbs.specs.Loops.{computed, given, worth_in_64}
+use Rattle.q_verbs.specs.Loops.{computed, given}
 use Rattle.q_verbs.proofs.WrapLemmas.{int_wrap-16, int_wrap-32}
 use Rattle.q_verbs.proofs.ZipLemmas.{map-zip2, zip2_same, zip2_through}
 
@@ -47,41 +47,43 @@ long-written l.Long n = refl
 long-written l.Timestamp n = refl
 long-written l.Timespan n = refl
 
--- the results of a loop over two columns of 64 bits, as atoms
-pub shorts-given : (f : Operation) (xs ys : List ℤ) → map (λ x. a.Short x) (zip2 (λ x y. reduced w16 (computed f x y)) xs ys) ≡ zip2 (λ x y. given k.Short f (worth_in_64 x) (worth_in_64 y)) xs ys
-shorts-given f xs ys =
-    map-zip2 (λ x. a.Short x) (λ x y. reduced w16 (computed f x y)) xs ys
-    ∙ zip2_same (λ x y. a.Short (reduced w16 (computed f x y))) (λ x y. given k.Short f (worth_in_64 x) (worth_in_64 y)) xs ys (λ x y. ap (λ n. a.Short n) (reduced-16 (of_both f (number_in w64 x) (number_in w64 y))))
+-- the results of a loop over items, as atoms
+pub shorts-given : {X : Type 0} (number : X → Option ℤ) (f : Operation) (xs ys : List X) → map (λ x. a.Short x) (zip2 (λ x y. reduced w16 (computed f (number x) (number y))) xs ys) ≡ zip2 (λ x y. given k.Short f (numeric (number x)) (numeric (number y))) xs ys
+shorts-given number f xs ys =
+    map-zip2 (λ x. a.Short x) (λ x y. reduced w16 (computed f (number x) (number y))) xs ys
+    ∙ zip2_same (λ x y. a.Short (reduced w16 (computed f (number x) (number y)))) (λ x y. given k.Short f (numeric (number x)) (numeric (number y))) xs ys (λ x y. ap (λ n. a.Short n) (reduced-16 (of_both f (number x) (number y))))
 
-pub integers-given : (kind : IntegerKind) (f : Operation) (xs ys : List ℤ) → map (integer_atom kind) (zip2 (λ x y. reduced w32 (computed f x y)) xs ys) ≡ zip2 (λ x y. given (integer_kind kind) f (worth_in_64 x) (worth_in_64 y)) xs ys
-integers-given kind f xs ys =
-    map-zip2 (integer_atom kind) (λ x y. reduced w32 (computed f x y)) xs ys
-    ∙ zip2_same (λ x y. integer_atom kind (reduced w32 (computed f x y))) (λ x y. given (integer_kind kind) f (worth_in_64 x) (worth_in_64 y)) xs ys (λ x y. ap (integer_atom kind) (reduced-32 (of_both f (number_in w64 x) (number_in w64 y))) ∙ integer-written kind (of_both f (number_in w64 x) (number_in w64 y)))
+pub integers-given : {X : Type 0} (number : X → Option ℤ) (kind : IntegerKind) (f : Operation) (xs ys : List X) → map (integer_atom kind) (zip2 (λ x y. reduced w32 (computed f (number x) (number y))) xs ys) ≡ zip2 (λ x y. given (integer_kind kind) f (numeric (number x)) (numeric (number y))) xs ys
+integers-given number kind f xs ys =
+    map-zip2 (integer_atom kind) (λ x y. reduced w32 (computed f (number x) (number y))) xs ys
+    ∙ zip2_same (λ x y. integer_atom kind (reduced w32 (computed f (number x) (number y)))) (λ x y. given (integer_kind kind) f (numeric (number x)) (numeric (number y))) xs ys (λ x y. ap (integer_atom kind) (reduced-32 (of_both f (number x) (number y))) ∙ integer-written kind (of_both f (number x) (number y)))
 
-pub longs-given : (kind : LongKind) (f : Operation) (xs ys : List ℤ) → map (long_atom kind) (zip2 (λ x y. reduced w64 (computed f x y)) xs ys) ≡ zip2 (λ x y. given (long_kind kind) f (worth_in_64 x) (worth_in_64 y)) xs ys
-longs-given kind f xs ys =
-    map-zip2 (long_atom kind) (λ x y. reduced w64 (computed f x y)) xs ys
-    ∙ zip2_same (λ x y. long_atom kind (reduced w64 (computed f x y))) (λ x y. given (long_kind kind) f (worth_in_64 x) (worth_in_64 y)) xs ys (λ x y. ap (long_atom kind) (reduced-64 (of_both f (number_in w64 x) (number_in w64 y))) ∙ long-written kind (of_both f (number_in w64 x) (number_in w64 y)))
+pub longs-given : {X : Type 0} (number : X → Option ℤ) (kind : LongKind) (f : Operation) (xs ys : List X) → map (long_atom kind) (zip2 (λ x y. reduced w64 (computed f (number x) (number y))) xs ys) ≡ zip2 (λ x y. given (long_kind kind) f (numeric (number x)) (numeric (number y))) xs ys
+longs-given number kind f xs ys =
+    map-zip2 (long_atom kind) (λ x y. reduced w64 (computed f (number x) (number y))) xs ys
+    ∙ zip2_same (λ x y. long_atom kind (reduced w64 (computed f (number x) (number y)))) (λ x y. given (long_kind kind) f (numeric (number x)) (numeric (number y))) xs ys (λ x y. ap (long_atom kind) (reduced-64 (of_both f (number x) (number y))) ∙ long-written kind (of_both f (number x) (number y)))
 
--- columns that are worth what the atoms are worth have the results of the atoms
-pub values-given : (kind left right left' right' : Kind) (verb : Verb) (xs ys : List ℤ) (us vs : List Atom) → left ≡ left' → right ≡ right' → map worth_in_64 xs ≡ map worth us → map worth_in_64 ys ≡ map worth vs → zip2 (λ x y. given kind (operation verb left right) (worth_in_64 x) (worth_in_64 y)) xs ys ≡ zip2 (λ x y. given kind (operation verb left' right') (worth x) (worth y)) us vs
-values-given kind left right left' right' verb xs ys us vs p q d e =
-    ap (λ l. zip2 (λ x y. given kind (operation verb l right) (worth_in_64 x) (worth_in_64 y)) xs ys) p
-    ∙ ap (λ r. zip2 (λ x y. given kind (operation verb left' r) (worth_in_64 x) (worth_in_64 y)) xs ys) q
-    ∙ zip2_through (given kind (operation verb left' right')) worth_in_64 worth xs ys us vs d e
+-- items that are worth what the atoms are worth have the results of the atoms
+pub values-given : {X : Type 0} (own : X → Worth) (kind left right left' right' : Kind) (verb : Verb) (xs ys : List X) (us vs : List Atom) → left ≡ left' → right ≡ right' → map own xs ≡ map worth us → map own ys ≡ map worth vs → zip2 (λ x y. given kind (operation verb left right) (own x) (own y)) xs ys ≡ zip2 (λ x y. given kind (operation verb left' right') (worth x) (worth y)) us vs
+values-given own kind left right left' right' verb xs ys us vs p q d e =
+    ap (λ l. zip2 (λ x y. given kind (operation verb l right) (own x) (own y)) xs ys) p
+    ∙ ap (λ r. zip2 (λ x y. given kind (operation verb left' r) (own x) (own y)) xs ys) q
+    ∙ zip2_through (given kind (operation verb left' right')) own worth xs ys us vs d e
 
 from_nothing : (n : Option ℤ) → of_both difference_of (Some (pos 0)) n ≡ option_map neg_ℤ n
 from_nothing None = refl
 from_nothing (Some z) = let e : pos 0 -ℤ z ≡ neg_ℤ z = omega (arith, ints) in ap (λ y. Some y) e
 
 -- what is left of nothing is the number negated
-pub negated-given : (kind : Kind) (n : ℕ) (zeros xs : List ℤ) (us : List Atom) → zeros ≡ replicate n (pos 0) → length xs ≡ n → map worth_in_64 xs ≡ map worth us → zip2 (λ x y. given kind difference_of (worth_in_64 x) (worth_in_64 y)) zeros xs ≡ map (λ u. written kind (option_map neg_ℤ (worth u).number)) us
-negated-given kind n zeros xs us z l e =
-    ap (λ zs. zip2 (λ x y. given kind difference_of (worth_in_64 x) (worth_in_64 y)) zs xs) z
-    ∙ zip2_splat_left (λ x y. given kind difference_of (worth_in_64 x) (worth_in_64 y)) (pos 0) n xs l
-    ∙ map_alike (λ y. given kind difference_of (worth_in_64 (pos 0)) (worth_in_64 y)) (λ y. written kind (option_map neg_ℤ (worth_in_64 y).number)) xs (λ y. ap (written kind) (from_nothing (number_in w64 y)))
-    ∙ map_through (λ w. written kind (option_map neg_ℤ w.number)) worth_in_64 worth xs us e
+pub negated-given : {X : Type 0} (number : X → Option ℤ) (kind : Kind) (zero : X) (n : ℕ) (xs : List X) → number zero ≡ Some (pos 0) → length xs ≡ n → zip2 (λ x y. given kind difference_of (numeric (number x)) (numeric (number y))) (replicate n zero) xs ≡ map (λ x. written kind (option_map neg_ℤ (number x))) xs
+negated-given number kind zero n xs z l =
+    zip2_splat_left (λ x y. given kind difference_of (numeric (number x)) (numeric (number y))) zero n xs l
+    ∙ map_alike (λ y. given kind difference_of (numeric (number zero)) (numeric (number y))) (λ y. written kind (option_map neg_ℤ (number y))) xs (λ y. ap (λ m. written kind (of_both difference_of m (number y))) z ∙ ap (written kind) (from_nothing (number y)))
   where
     map_alike : {X Y : Type 0} (f g : X → Y) (ys : List X) → ((y : X) → f y ≡ g y) → map f ys ≡ map g ys
     map_alike f g [] d = refl
     map_alike f g (y ∷ ys) d = λ i. d y i ∷ map_alike f g ys d i
+
+-- numbers that are worth what the atoms are worth, negated
+pub negated-atoms : {X : Type 0} (own : X → Worth) (kind : Kind) (xs : List X) (us : List Atom) → map own xs ≡ map worth us → map (λ x. written kind (option_map neg_ℤ (own x).number)) xs ≡ map (λ u. written kind (option_map neg_ℤ (worth u).number)) us
+negated-atoms own kind xs us e = map_through (λ w. written kind (option_map neg_ℤ w.number)) own worth xs us e

@@ -7,3 +7,5 @@ pub mod Laws
 pub mod Like
 pub mod Lists
 pub mod Tests
+pub mod Lanes
+pub mod Sides

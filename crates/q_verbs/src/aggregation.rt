@@ -1,5 +1,5 @@
 //! Verbs that make one atom of a column.
-ghost use Rattle.std.specs.Prelude.{◌≡◌, IsTrue, IsSome, IfOk, unwrap_or, map, length, pos, Some, if◌then◌else◌};
+ghost use Rattle.std.specs.Prelude.{◌≡◌, ◌≢◌, ◌<◌, IsTrue, IsSome, IfOk, is_ok, unwrap_or, map, length, pos, Some, slice_get, if◌then◌else◌};
 ghost use Rattle.q_values.specs.declared.atom.Atom.{Atom};
 ghost use Rattle.q_values.specs.declared.kind.Kind.{Kind};
 ghost use Rattle.q_values.specs.declared.kind.Kind.TheVariants as k;
@@ -12,7 +12,7 @@ use crate::ends::{greatest_of, lowest_of, null_atom};
 use crate::kinds::result_kind1;
 use crate::totals::{chosen_of_column, total_atom, total_of};
 use crate::verb::Verb1;
-use q_values::{Atom, Kind, NoMemory, Vector};
+use q_values::{Atom, Element, Kind, NoMemory, Vector};
 use std::alloc::Global;
 
 // The number of items.
@@ -40,7 +40,8 @@ trait Extreme: Relation {
 
     // That value, for a kind.
     fn end_of(alloc: Global, kind: Kind) -> Result<Atom, NoMemory>
-        ensures { IfOk result (λ x. x ≡ end kind) };
+        ensures value { IfOk result (λ x. x ≡ end kind) }
+        ensures ok { kind ≢ k.Symbol → IsTrue (is_ok result) };
 }
 
 // `min`
@@ -68,7 +69,8 @@ impl Extreme for AtLeast {
 // The item that the relation chooses of all but the nulls, or else the end of the kind.
 fn chosen_or_end<P: Extreme>(alloc: Global, x: &Vector) -> Result<Atom, NoMemory>
     requires { IsTrue (is_number x.now.kind) }
-    ensures { IfOk result (λ atom. atom ≡ unwrap_or
+    ensures ok { IsTrue (is_ok result) }
+    ensures value { IfOk result (λ atom. atom ≡ unwrap_or
         (chosen_of number_of (λ a b. if P.relates (worth_cmp (worth a) (worth b)) then a else b) x.now.atoms)
         (P.end x.now.kind)) }
 {
@@ -78,36 +80,69 @@ fn chosen_or_end<P: Extreme>(alloc: Global, x: &Vector) -> Result<Atom, NoMemory
     }
 }
 
+// The item at the index, which is no symbol.
+fn number_at(x: &Vector, i: usize) -> Atom
+    requires number { x.now.kind ≢ k.Symbol }
+    requires within { i < length x.now.atoms }
+    ensures { slice_get x.now.atoms i ≡ Some result }
+{
+    let _kind = x.kind();
+    match x.element(i) {
+        Element::Boolean(bit) => Atom::Boolean(bit),
+        Element::Byte(kind, byte) => kind.atom(byte),
+        Element::Short(number) => Atom::Short(*number),
+        Element::Integer(kind, number) => kind.atom(number),
+        Element::Long(kind, number) => kind.atom(number),
+        Element::Symbol(_) => unreachable!(),
+    }
+}
+
+// The item at the index. Only a symbol is allocated.
+fn item_at(alloc: Global, x: &Vector, i: usize) -> Result<Atom, NoMemory>
+    requires { i < length x.now.atoms }
+    ensures value { IfOk result (λ atom. slice_get x.now.atoms i ≡ Some atom) }
+    ensures ok { x.now.kind ≢ k.Symbol → IsTrue (is_ok result) }
+{
+    if x.kind() == Kind::Symbol {
+        x.at(alloc, i)
+    } else {
+        Ok(number_at(x, i))
+    }
+}
+
 // The first item, or the null.
 fn first(alloc: Global, x: &Vector) -> Result<Atom, NoMemory>
-    ensures { IfOk result (λ atom. atom ≡ unwrap_or (first_of x.now.atoms) (null_of x.now.kind)) }
+    ensures value { IfOk result (λ atom. atom ≡ unwrap_or (first_of x.now.atoms) (null_of x.now.kind)) }
+    ensures ok { x.now.kind ≢ k.Symbol → IsTrue (is_ok result) }
 {
     if x.len() == 0 {
         null_atom(alloc, x.kind())
     } else {
-        x.at(alloc, 0)
+        item_at(alloc, x, 0)
     }
 }
 
 // The last item, or the null.
 fn last(alloc: Global, x: &Vector) -> Result<Atom, NoMemory>
-    ensures { IfOk result (λ atom. atom ≡ unwrap_or (last_of x.now.atoms) (null_of x.now.kind)) }
+    ensures value { IfOk result (λ atom. atom ≡ unwrap_or (last_of x.now.atoms) (null_of x.now.kind)) }
+    ensures ok { x.now.kind ≢ k.Symbol → IsTrue (is_ok result) }
 {
     if x.len() == 0 {
         null_atom(alloc, x.kind())
     } else {
-        let atom = x.at(alloc, x.len() - 1)?;
-        Ok(atom)
+        item_at(alloc, x, x.len() - 1)
     }
 }
 
 /// The verb's result for a column, an atom of the kind that [`crate::result_kind1`] says (KX, Reference card). `sum`,
 /// `min` and `max` skip nulls, and a sum wraps at the width of its kind. Without items, a sum is 0, `min` the greatest
-/// value of the kind, `max` that value negated (0 for a boolean or a byte), and `first` and `last` are the null.
+/// value of the kind, `max` that value negated (0 for a boolean or a byte), and `first` and `last` are the null. Only the
+/// first or the last of symbols is allocated.
 pub fn aggregate(alloc: Global, verb: Verb1, x: &Vector) -> Result<Atom, NoMemory>
     requires verb { IsTrue (is_aggregate verb) }
     requires row { IsSome (result_kind1_of verb x.now.kind) }
-    ensures { IfOk result (λ atom. atom ≡ aggregate_of verb x.now.kind x.now.atoms) }
+    ensures value { IfOk result (λ atom. atom ≡ aggregate_of verb x.now.kind x.now.atoms) }
+    ensures ok { x.now.kind ≢ k.Symbol → IsTrue (is_ok result) }
 {
     match verb {
         Verb1::Count => Ok(count(x)),

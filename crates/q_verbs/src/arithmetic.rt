@@ -4,77 +4,125 @@ ghost use Rattle.std.specs.Simd.Lanes.{zip2};
 ghost use Rattle.q_values.specs.Column.{contents, integer_kind, long_kind};
 ghost use Rattle.q_values.specs.declared.kind.Kind.TheVariants as k;
 ghost use Rattle.q_verbs.specs.Kinds.{is_computed};
-ghost use Rattle.q_verbs.specs.Numbers.{worth, written};
+ghost use Rattle.q_verbs.specs.Lanes.{lane_items};
+ghost use Rattle.q_verbs.specs.Numbers.{numeric, number_in, worth, written};
+ghost use Rattle.std.specs.Int.{w32};
 ghost use Rattle.q_verbs.specs.Places.{operation, computes};
-ghost use Rattle.q_verbs.specs.Loops.{computed, given, worth_in_64};
+ghost use Rattle.q_verbs.specs.Loops.{computed, given};
+ghost use Rattle.q_verbs.specs.Sides.{side_kind, spread};
 
+use crate::cells::Cells;
 use crate::kinds::have;
-use crate::number::Reduced;
+use crate::lane::{Lane, zip_lanes};
+use crate::number::{Number, Reduced};
 use crate::operation::{
-    DaysAndSpan, Difference, Greater, Lesser, Multiple, Product, Quotient, Remainder, SpanAndDays,
-    Sum, apply_all,
+    Computed, DaysAndSpan, Difference, Greater, Lesser, Multiple, Product, Quotient, Remainder,
+    SpanAndDays, Sum,
 };
+use crate::side::Side;
 use crate::verb::Verb;
-use crate::wide::Wide;
+use crate::wide::{Wide, WideSide};
 use q_values::{Column, IntegerKind, Kind, LongKind, NoMemory, Storage, Vector};
 use std::alloc::{AllocError, Global};
 
-// A verb, the numbers of its two sides, and the kinds of the columns that they come from.
+// A verb, the numbers of its two sides, and the kinds of the sides that they come from.
 #[derive(Drop)]
-struct Task<'a> {
+struct Task<'a, T: Number> {
     verb: Verb,
     left_kind: Kind,
     right_kind: Kind,
-    left: &'a [i64],
-    right: &'a [i64],
+    // The number of items of each side.
+    count: usize,
+    left: Lane<'a, T>,
+    right: Lane<'a, T>,
 }
 
-impl Task<'_> {
-    fn values<T: Reduced>(&self, alloc: Global) -> Result<Vec<T>, AllocError>
+impl<T: Number> Task<'_, T> {
+    fn values<U: Reduced>(&self, alloc: Global) -> Result<Vec<U>, AllocError>
         requires verb { IsTrue (computes self.now.verb) }
-        requires length { length self.now.left.now ≡ length self.now.right.now }
+        requires left { length (lane_items self.now.count self.now.left) ≡ self.now.count }
+        requires right { length (lane_items self.now.count self.now.right) ≡ self.now.count }
         ensures { IfOk result (λ v. v.items ≡ zip2
-            (λ x y. T.of (computed (operation self.now.verb self.now.left_kind self.now.right_kind) x y))
-            self.now.left.now self.now.right.now) }
+            (λ x y. U.of (computed (operation self.now.verb self.now.left_kind self.now.right_kind)
+            (T.number x) (T.number y)))
+            (lane_items self.now.count self.now.left) (lane_items self.now.count self.now.right)) }
     {
         match self.verb {
             Verb::Add => self.sums(alloc),
-            Verb::Sub => apply_all::<Difference, T>(alloc, self.left, self.right),
-            Verb::Mul => apply_all::<Product, T>(alloc, self.left, self.right),
-            Verb::Div => apply_all::<Quotient, T>(alloc, self.left, self.right),
-            Verb::Mod => apply_all::<Remainder, T>(alloc, self.left, self.right),
-            Verb::Xbar => apply_all::<Multiple, T>(alloc, self.left, self.right),
-            Verb::Lesser => apply_all::<Lesser, T>(alloc, self.left, self.right),
-            Verb::Greater => apply_all::<Greater, T>(alloc, self.left, self.right),
+            Verb::Sub => zip_lanes::<Computed<Difference>, T, U>(
+                alloc,
+                self.count,
+                &self.left,
+                &self.right,
+            ),
+            Verb::Mul => zip_lanes::<Computed<Product>, T, U>(
+                alloc,
+                self.count,
+                &self.left,
+                &self.right,
+            ),
+            Verb::Div => zip_lanes::<Computed<Quotient>, T, U>(
+                alloc,
+                self.count,
+                &self.left,
+                &self.right,
+            ),
+            Verb::Mod => zip_lanes::<Computed<Remainder>, T, U>(
+                alloc,
+                self.count,
+                &self.left,
+                &self.right,
+            ),
+            Verb::Xbar => zip_lanes::<Computed<Multiple>, T, U>(
+                alloc,
+                self.count,
+                &self.left,
+                &self.right,
+            ),
+            Verb::Lesser => zip_lanes::<Computed<Lesser>, T, U>(
+                alloc,
+                self.count,
+                &self.left,
+                &self.right,
+            ),
+            Verb::Greater => zip_lanes::<Computed<Greater>, T, U>(
+                alloc,
+                self.count,
+                &self.left,
+                &self.right,
+            ),
             _ => unreachable!(),
         }
     }
 
-    fn sums<T: Reduced>(&self, alloc: Global) -> Result<Vec<T>, AllocError>
+    fn sums<U: Reduced>(&self, alloc: Global) -> Result<Vec<U>, AllocError>
         requires verb { self.now.verb ≡ Verb.Add }
-        requires length { length self.now.left.now ≡ length self.now.right.now }
+        requires left { length (lane_items self.now.count self.now.left) ≡ self.now.count }
+        requires right { length (lane_items self.now.count self.now.right) ≡ self.now.count }
         ensures { IfOk result (λ v. v.items ≡ zip2
-            (λ x y. T.of (computed (operation self.now.verb self.now.left_kind self.now.right_kind) x y))
-            self.now.left.now self.now.right.now) }
+            (λ x y. U.of (computed (operation self.now.verb self.now.left_kind self.now.right_kind)
+            (T.number x) (T.number y)))
+            (lane_items self.now.count self.now.left) (lane_items self.now.count self.now.right)) }
     {
         if have(Kind::Date, Kind::Timespan, self.left_kind, self.right_kind) {
-            apply_all::<DaysAndSpan, T>(alloc, self.left, self.right)
+            zip_lanes::<Computed<DaysAndSpan>, T, U>(alloc, self.count, &self.left, &self.right)
         } else if have(Kind::Timespan, Kind::Date, self.left_kind, self.right_kind) {
-            apply_all::<SpanAndDays, T>(alloc, self.left, self.right)
+            zip_lanes::<Computed<SpanAndDays>, T, U>(alloc, self.count, &self.left, &self.right)
         } else {
-            apply_all::<Sum, T>(alloc, self.left, self.right)
+            zip_lanes::<Computed<Sum>, T, U>(alloc, self.count, &self.left, &self.right)
         }
     }
 
     fn shorts(&self, alloc: Global) -> Result<Column, NoMemory>
         requires verb { IsTrue (computes self.now.verb) }
-        requires length { length self.now.left.now ≡ length self.now.right.now }
+        requires left { length (lane_items self.now.count self.now.left) ≡ self.now.count }
+        requires right { length (lane_items self.now.count self.now.right) ≡ self.now.count }
         ensures { IfOk result (λ c. contents c ≡ record {
           kind = k.Short;
           atoms = zip2
               (λ x y. given k.Short (operation self.now.verb self.now.left_kind self.now.right_kind)
-              (worth_in_64 x) (worth_in_64 y))
-              self.now.left.now self.now.right.now;
+              (numeric (T.number x)) (numeric (T.number y)))
+              (lane_items self.now.count self.now.left) (lane_items self.now.count self.now.right);
         }) }
     {
         Ok(Column::Shorts(self.values(alloc)?))
@@ -82,13 +130,14 @@ impl Task<'_> {
 
     fn integers(&self, alloc: Global, kind: IntegerKind) -> Result<Column, NoMemory>
         requires verb { IsTrue (computes self.now.verb) }
-        requires length { length self.now.left.now ≡ length self.now.right.now }
+        requires left { length (lane_items self.now.count self.now.left) ≡ self.now.count }
+        requires right { length (lane_items self.now.count self.now.right) ≡ self.now.count }
         ensures { IfOk result (λ c. contents c ≡ record {
           kind = integer_kind kind;
           atoms = zip2
               (λ x y. given (integer_kind kind) (operation self.now.verb self.now.left_kind self.now.right_kind)
-              (worth_in_64 x) (worth_in_64 y))
-              self.now.left.now self.now.right.now;
+              (numeric (T.number x)) (numeric (T.number y)))
+              (lane_items self.now.count self.now.left) (lane_items self.now.count self.now.right);
         }) }
     {
         Ok(Column::Integers(kind, self.values(alloc)?))
@@ -96,13 +145,14 @@ impl Task<'_> {
 
     fn longs(&self, alloc: Global, kind: LongKind) -> Result<Column, NoMemory>
         requires verb { IsTrue (computes self.now.verb) }
-        requires length { length self.now.left.now ≡ length self.now.right.now }
+        requires left { length (lane_items self.now.count self.now.left) ≡ self.now.count }
+        requires right { length (lane_items self.now.count self.now.right) ≡ self.now.count }
         ensures { IfOk result (λ c. contents c ≡ record {
           kind = long_kind kind;
           atoms = zip2
               (λ x y. given (long_kind kind) (operation self.now.verb self.now.left_kind self.now.right_kind)
-              (worth_in_64 x) (worth_in_64 y))
-              self.now.left.now self.now.right.now;
+              (numeric (T.number x)) (numeric (T.number y)))
+              (lane_items self.now.count self.now.left) (lane_items self.now.count self.now.right);
         }) }
     {
         Ok(Column::Longs(kind, self.values(alloc)?))
@@ -113,13 +163,14 @@ impl Task<'_> {
     fn column(&self, alloc: Global, kind: Kind) -> Result<Column, NoMemory>
         requires verb { IsTrue (computes self.now.verb) }
         requires kind { IsTrue (is_computed kind) }
-        requires length { length self.now.left.now ≡ length self.now.right.now }
+        requires left { length (lane_items self.now.count self.now.left) ≡ self.now.count }
+        requires right { length (lane_items self.now.count self.now.right) ≡ self.now.count }
         ensures { IfOk result (λ c. contents c ≡ record {
           kind = kind;
           atoms = zip2
               (λ x y. given kind (operation self.now.verb self.now.left_kind self.now.right_kind)
-              (worth_in_64 x) (worth_in_64 y))
-              self.now.left.now self.now.right.now;
+              (numeric (T.number x)) (numeric (T.number y)))
+              (lane_items self.now.count self.now.left) (lane_items self.now.count self.now.right);
         }) }
     {
         match kind.storage() {
@@ -131,37 +182,167 @@ impl Task<'_> {
     }
 }
 
-/// The verb's results for two columns, item by item, in this kind.
-pub(crate) fn arithmetic(
+// The verb's results for two sides, in this kind, computed in 64 bits.
+fn arithmetic_in_64(
     alloc: Global,
     verb: Verb,
     kind: Kind,
-    left: &Vector,
-    right: &Vector,
-) -> Result<Vector, NoMemory>
+    count: usize,
+    left: &Side<'_>,
+    right: &Side<'_>,
+) -> Result<Column, NoMemory>
     requires verb { IsTrue (computes verb) }
     requires kind { IsTrue (is_computed kind) }
-    requires left { left.now.kind ≢ k.Symbol }
-    requires right { right.now.kind ≢ k.Symbol }
-    requires length { length left.now.atoms ≡ length right.now.atoms }
-    ensures { IfOk result (λ v. v ≡ record {
+    requires some { side_kind left.now ≢ k.Symbol }
+    requires others { side_kind right.now ≢ k.Symbol }
+    requires left { length (spread count left.now) ≡ count }
+    requires right { length (spread count right.now) ≡ count }
+    ensures { IfOk result (λ c. contents c ≡ record {
       kind = kind;
       atoms = zip2
-          (λ x y. given kind (operation verb left.now.kind right.now.kind) (worth x) (worth y))
-          left.now.atoms right.now.atoms;
+          (λ x y. given kind (operation verb (side_kind left.now) (side_kind right.now)) (worth x) (worth y))
+          (spread count left.now) (spread count right.now);
     }) }
 {
-    let left_wide = Wide::of(alloc, left.column())?;
-    let right_wide = Wide::of(alloc, right.column())?;
+    let some = WideSide::of(alloc, left)?;
+    let others = WideSide::of(alloc, right)?;
     let task = Task {
         verb,
         left_kind: left.kind(),
         right_kind: right.kind(),
-        left: left_wide.as_slice(),
-        right: right_wide.as_slice(),
+        count,
+        left: some.lane(),
+        right: others.lane(),
     };
     let column = task.column(alloc, kind)?;
+    Ok(column)
+}
+
+// The verb's results for two sides, in this kind: in 32 bits where all three have that width.
+fn arithmetic_of_sides(
+    alloc: Global,
+    verb: Verb,
+    kind: Kind,
+    count: usize,
+    left: &Side<'_>,
+    right: &Side<'_>,
+) -> Result<Column, NoMemory>
+    requires verb { IsTrue (computes verb) }
+    requires kind { IsTrue (is_computed kind) }
+    requires some { side_kind left.now ≢ k.Symbol }
+    requires others { side_kind right.now ≢ k.Symbol }
+    requires left { length (spread count left.now) ≡ count }
+    requires right { length (spread count right.now) ≡ count }
+    ensures { IfOk result (λ c. contents c ≡ record {
+      kind = kind;
+      atoms = zip2
+          (λ x y. given kind (operation verb (side_kind left.now) (side_kind right.now)) (worth x) (worth y))
+          (spread count left.now) (spread count right.now);
+    }) }
+{
+    match (Cells::of(left), Cells::of(right), kind.storage()) {
+        (
+            Cells::Integers(left_kind, some),
+            Cells::Integers(right_kind, others),
+            Storage::Integer(own),
+        ) => {
+            let task = Task {
+                verb,
+                left_kind: left_kind.kind(),
+                right_kind: right_kind.kind(),
+                count,
+                left: some,
+                right: others,
+            };
+            let column = task.integers(alloc, own)?;
+            Ok(column)
+        }
+        _ => arithmetic_in_64(alloc, verb, kind, count, left, right),
+    }
+}
+
+/// The verb's results for two sides, item by item, in this kind.
+pub(crate) fn arithmetic(
+    alloc: Global,
+    verb: Verb,
+    kind: Kind,
+    count: usize,
+    left: &Side<'_>,
+    right: &Side<'_>,
+) -> Result<Vector, NoMemory>
+    requires verb { IsTrue (computes verb) }
+    requires kind { IsTrue (is_computed kind) }
+    requires some { side_kind left.now ≢ k.Symbol }
+    requires others { side_kind right.now ≢ k.Symbol }
+    requires left { length (spread count left.now) ≡ count }
+    requires right { length (spread count right.now) ≡ count }
+    ensures { IfOk result (λ v. v ≡ record {
+      kind = kind;
+      atoms = zip2
+          (λ x y. given kind (operation verb (side_kind left.now) (side_kind right.now)) (worth x) (worth y))
+          (spread count left.now) (spread count right.now);
+    }) }
+{
+    let column = arithmetic_of_sides(alloc, verb, kind, count, left, right)?;
     Ok(Vector::from_column(column))
+}
+
+// Each number of 64 bits negated, in this kind.
+fn negation_in_64(alloc: Global, kind: Kind, column: &Column) -> Result<Column, NoMemory>
+    requires kind { IsTrue (is_computed kind) }
+    requires side { (contents column.now).kind ≢ k.Symbol }
+    ensures { IfOk result (λ c. contents c ≡ record {
+      kind = kind;
+      atoms = map (λ x. written kind (option_map neg_ℤ (worth x).number)) (contents column.now).atoms;
+    }) }
+{
+    let wide = Wide::of(alloc, column)?;
+    let task = Task {
+        verb: Verb::Sub,
+        left_kind: kind,
+        right_kind: kind,
+        count: wide.as_slice().len(),
+        left: Lane::Every(0i64),
+        right: Lane::Each(wide.as_slice()),
+    };
+    let negated = task.column(alloc, kind)?;
+    Ok(negated)
+}
+
+// Each number of 32 bits negated, in this kind.
+fn negation_in_32(alloc: Global, kind: IntegerKind, items: &[i32]) -> Result<Column, NoMemory>
+    ensures { IfOk result (λ c. contents c ≡ record {
+      kind = integer_kind kind;
+      atoms = map (λ x. written (integer_kind kind) (option_map neg_ℤ (number_in w32 x))) items.now;
+    }) }
+{
+    let task = Task {
+        verb: Verb::Sub,
+        left_kind: kind.kind(),
+        right_kind: kind.kind(),
+        count: items.len(),
+        left: Lane::Every(0i32),
+        right: Lane::Each(items),
+    };
+    let negated = task.integers(alloc, kind)?;
+    Ok(negated)
+}
+
+fn negation_of(alloc: Global, kind: Kind, column: &Column) -> Result<Column, NoMemory>
+    requires kind { IsTrue (is_computed kind) }
+    requires side { (contents column.now).kind ≢ k.Symbol }
+    ensures { IfOk result (λ c. contents c ≡ record {
+      kind = kind;
+      atoms = map (λ x. written kind (option_map neg_ℤ (worth x).number)) (contents column.now).atoms;
+    }) }
+{
+    match (column, kind.storage()) {
+        (Column::Integers(_, items), Storage::Integer(own)) => {
+            let negated = negation_in_32(alloc, own, items)?;
+            Ok(negated)
+        }
+        _ => negation_in_64(alloc, kind, column),
+    }
 }
 
 /// Each number negated, in this kind.
@@ -170,19 +351,9 @@ pub(crate) fn negation(alloc: Global, kind: Kind, x: &Vector) -> Result<Vector, 
     requires side { x.now.kind ≢ k.Symbol }
     ensures { IfOk result (λ v. v ≡ record {
       kind = kind;
-      atoms
-          = map (λ x. written kind (option_map neg_ℤ (worth x).number)) x.now.atoms;
+      atoms = map (λ x. written kind (option_map neg_ℤ (worth x).number)) x.now.atoms;
     }) }
 {
-    let wide = Wide::of(alloc, x.column())?;
-    let zeros = vec![in alloc; 0i64; wide.as_slice().len()]?;
-    let task = Task {
-        verb: Verb::Sub,
-        left_kind: kind,
-        right_kind: kind,
-        left: zeros.as_slice(),
-        right: wide.as_slice(),
-    };
-    let column = task.column(alloc, kind)?;
+    let column = negation_of(alloc, kind, x.column())?;
     Ok(Vector::from_column(column))
 }

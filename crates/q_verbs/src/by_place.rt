@@ -4,11 +4,13 @@ ghost use Rattle.std.specs.Simd.Lanes.{zip2};
 ghost use Rattle.q_values.specs.Kind.{is};
 ghost use Rattle.q_verbs.specs.Kinds.{result_kind_of};
 ghost use Rattle.q_verbs.specs.Places.{is_comparison, is_choice, is_by_place, value_of};
+ghost use Rattle.q_verbs.specs.Sides.{side_kind, rows, spread, AreBeside};
 
 use crate::arithmetic::arithmetic;
 use crate::choice::choice;
 use crate::comparison::comparison;
 use crate::kinds::result_kind;
+use crate::side::{Side, rows_of};
 use crate::verb::Verb;
 use q_values::{Kind, NoMemory, Vector};
 use std::alloc::Global;
@@ -34,19 +36,27 @@ fn chooses_of_one_kind(verb: Verb, left: Kind, right: Kind) -> bool
     chooses(verb) && left == right
 }
 
-/// The verb's result for two columns of one length, item by item, in the kind that [`crate::result_kind`] says (KX,
-/// Reference card). For `+ - * div mod xbar` a null on either side gives the null, and so does a zero divisor; sums,
-/// differences and products wrap at the width of the result.
-pub fn binary(alloc: Global, verb: Verb, left: &Vector, right: &Vector) -> Result<Vector, NoMemory>
+/// The verb's result for two sides, item by item, in the kind that [`crate::result_kind`] says (KX, Reference card). Two
+/// columns have one length; an atom stands for each item beside it, and of two atoms there is one item. For
+/// `+ - * div mod xbar` a null on either side gives the null, and so does a zero divisor; sums, differences and products
+/// wrap at the width of the result.
+pub fn binary(
+    alloc: Global,
+    verb: Verb,
+    left: &Side<'_>,
+    right: &Side<'_>,
+) -> Result<Vector, NoMemory>
     requires verb { IsTrue (is_by_place verb) }
-    requires row { IsSome (result_kind_of verb left.now.kind right.now.kind) }
-    requires length { length left.now.atoms ≡ length right.now.atoms }
-    ensures kind { IfOk result (λ v. result_kind_of verb left.now.kind right.now.kind ≡ Some v.kind) }
-    ensures atoms { IfOk result (λ v. v.atoms
-        ≡ zip2 (value_of verb left.now.kind right.now.kind v.kind) left.now.atoms right.now.atoms) }
+    requires row { IsSome (result_kind_of verb (side_kind left.now) (side_kind right.now)) }
+    requires beside { AreBeside left.now right.now }
+    ensures kind { IfOk result
+        (λ v. result_kind_of verb (side_kind left.now) (side_kind right.now) ≡ Some v.kind) }
+    ensures atoms { IfOk result
+        (λ v. v.atoms ≡ zip2 (value_of verb (side_kind left.now) (side_kind right.now) v.kind)
+        (spread (rows left.now right.now) left.now) (spread (rows left.now right.now) right.now)) }
 {
     match result_kind(verb, left.kind(), right.kind()) {
-        Some(kind) => binary_of_kind(alloc, verb, kind, left, right),
+        Some(kind) => binary_of_kind(alloc, verb, kind, rows_of(left, right), left, right),
         None => unreachable!(),
     }
 }
@@ -56,26 +66,28 @@ fn binary_of_kind(
     alloc: Global,
     verb: Verb,
     kind: Kind,
-    left: &Vector,
-    right: &Vector,
+    count: usize,
+    left: &Side<'_>,
+    right: &Side<'_>,
 ) -> Result<Vector, NoMemory>
     requires verb { IsTrue (is_by_place verb) }
-    requires row { result_kind_of verb left.now.kind right.now.kind ≡ Some kind }
-    requires length { length left.now.atoms ≡ length right.now.atoms }
+    requires row { result_kind_of verb (side_kind left.now) (side_kind right.now) ≡ Some kind }
+    requires left { length (spread count left.now) ≡ count }
+    requires right { length (spread count right.now) ≡ count }
     ensures { IfOk result (λ v. v ≡ record {
       kind = kind;
-      atoms
-          = zip2 (value_of verb left.now.kind right.now.kind kind) left.now.atoms right.now.atoms;
+      atoms = zip2 (value_of verb (side_kind left.now) (side_kind right.now) kind)
+          (spread count left.now) (spread count right.now);
     }) }
 {
     if compares(verb) {
-        let values = comparison(alloc, verb, left, right)?;
+        let values = comparison(alloc, verb, count, left, right)?;
         Ok(values)
     } else if chooses_of_one_kind(verb, left.kind(), right.kind()) {
-        let values = choice(alloc, verb, left, right)?;
+        let values = choice(alloc, verb, count, left, right)?;
         Ok(values)
     } else {
-        let values = arithmetic(alloc, verb, kind, left, right)?;
+        let values = arithmetic(alloc, verb, kind, count, left, right)?;
         Ok(values)
     }
 }

@@ -3,74 +3,71 @@ ghost use Rattle.std.specs.Prelude.{◌≡◌, IsTrue, if◌then◌else◌, leng
 ghost use Rattle.std.specs.Simd.Lanes.{zip2};
 ghost use Rattle.q_values.specs.Column.{contents};
 ghost use Rattle.q_verbs.specs.Kinds.{is_number};
-ghost use Rattle.q_verbs.specs.Numbers.{numeric, worth, worth_cmp};
+ghost use Rattle.q_verbs.specs.Numbers.{worth, worth_cmp};
 ghost use Rattle.q_verbs.specs.Places.{is_choice, chosen};
+ghost use Rattle.q_verbs.specs.Sides.{side_kind, spread};
 
-use crate::comparison::{AtLeast, AtMost, Relation, order_of};
-use crate::number::Number;
+use crate::cells::Cells;
+use crate::comparison::{AtLeast, AtMost, Ordered, Relation};
+use crate::lane::{Step, zip_lanes};
+use crate::side::Side;
 use crate::verb::Verb;
 use q_values::{Column, NoMemory, Vector};
-use std::alloc::{AllocError, Global};
+use std::alloc::Global;
 
-/// The first item where it is in the relation to the second one, and else the second one.
-pub(crate) fn choose_item<P: Relation, T: Number>(x: T, y: T) -> T
-    ensures { result ≡ (if P.relates (worth_cmp (numeric (T.number x)) (numeric (T.number y))) then x else y) }
-{
-    if P::holds(order_of(&x.widened(), &y.widened())) {
-        x
-    } else {
-        y
+// The first item where it is in the relation to the second one, and else the second one.
+struct Chosen<P>(P);
+
+impl<P: Relation, T: Ordered> Step<T, T> for Chosen<P> {
+    ghost use Rattle.std.specs.Prelude.{if◌then◌else◌};
+    ghost use Rattle.q_verbs.specs.Numbers.{worth_cmp};
+
+    ghost value = { λ x y. if P.relates (worth_cmp (T.own_worth x) (T.own_worth y)) then x else y };
+
+    fn apply(x: &T, y: &T) -> T {
+        if P::holds(x.order(y)) { *x } else { *y }
     }
 }
 
-// At each index the left item where it is in the relation to the right one, and else the right one.
-fn choose_items<P: Relation, T: Number>(
+fn choose_sides<P: Relation>(
     alloc: Global,
-    left: &[T],
-    right: &[T],
-) -> Result<Vec<T>, AllocError>
-    requires { length left.now ≡ length right.now }
-    ensures { IfOk result (λ v. v.items ≡ zip2
-        (λ x y. if P.relates (worth_cmp (numeric (T.number x)) (numeric (T.number y))) then x else y)
-        left.now right.now) }
-{
-    let mut values = Vec::with_capacity(alloc, left.len())?;
-    for i in 0..left.len() {
-        values.push_reserved(choose_item::<P, T>(left[i], right[i]));
-    }
-    Ok(values)
-}
-
-fn choose_columns<P: Relation>(
-    alloc: Global,
-    left: &Column,
-    right: &Column,
+    count: usize,
+    left: &Side<'_>,
+    right: &Side<'_>,
 ) -> Result<Column, NoMemory>
-    requires same { (contents left.now).kind ≡ (contents right.now).kind }
-    requires number { IsTrue (is_number (contents left.now).kind) }
-    requires length { length (contents left.now).atoms ≡ length (contents right.now).atoms }
-    ensures { IfOk result (λ c. contents c ≡ record (contents left.now) {
-      atoms = zip2
-          (λ x y. if P.relates (worth_cmp (worth x) (worth y)) then x else y)
-          (contents left.now).atoms (contents right.now).atoms;
+    requires same { side_kind left.now ≡ side_kind right.now }
+    requires number { IsTrue (is_number (side_kind left.now)) }
+    requires left { length (spread count left.now) ≡ count }
+    requires right { length (spread count right.now) ≡ count }
+    ensures { IfOk result (λ c. contents c ≡ record {
+      kind = side_kind left.now;
+      atoms = zip2 (λ x y. if P.relates (worth_cmp (worth x) (worth y)) then x else y)
+          (spread count left.now) (spread count right.now);
     }) }
 {
-    match (left, right) {
-        (Column::Booleans(some), Column::Booleans(others)) => {
-            Ok(Column::Booleans(choose_items::<P, bool>(alloc, some, others)?))
-        }
-        (Column::Bytes(kind, some), Column::Bytes(_, others)) => {
-            Ok(Column::Bytes(*kind, choose_items::<P, u8>(alloc, some, others)?))
-        }
-        (Column::Shorts(some), Column::Shorts(others)) => {
-            Ok(Column::Shorts(choose_items::<P, i16>(alloc, some, others)?))
-        }
-        (Column::Integers(kind, some), Column::Integers(_, others)) => {
-            Ok(Column::Integers(*kind, choose_items::<P, i32>(alloc, some, others)?))
-        }
-        (Column::Longs(kind, some), Column::Longs(_, others)) => {
-            Ok(Column::Longs(*kind, choose_items::<P, i64>(alloc, some, others)?))
-        }
+    match (Cells::of(left), Cells::of(right)) {
+        (Cells::Booleans(some), Cells::Booleans(others)) => Ok(Column::Booleans(zip_lanes::<
+            Chosen<P>,
+            bool,
+            bool,
+        >(alloc, count, &some, &others)?)),
+        (Cells::Bytes(kind, some), Cells::Bytes(_, others)) => Ok(Column::Bytes(
+            kind,
+            zip_lanes::<Chosen<P>, u8, u8>(alloc, count, &some, &others)?,
+        )),
+        (Cells::Shorts(some), Cells::Shorts(others)) => Ok(Column::Shorts(zip_lanes::<
+            Chosen<P>,
+            i16,
+            i16,
+        >(alloc, count, &some, &others)?)),
+        (Cells::Integers(kind, some), Cells::Integers(_, others)) => Ok(Column::Integers(
+            kind,
+            zip_lanes::<Chosen<P>, i32, i32>(alloc, count, &some, &others)?,
+        )),
+        (Cells::Longs(kind, some), Cells::Longs(_, others)) => Ok(Column::Longs(
+            kind,
+            zip_lanes::<Chosen<P>, i64, i64>(alloc, count, &some, &others)?,
+        )),
         _ => unreachable!(),
     }
 }
@@ -79,19 +76,23 @@ fn choose_columns<P: Relation>(
 pub(crate) fn choice(
     alloc: Global,
     verb: Verb,
-    left: &Vector,
-    right: &Vector,
+    count: usize,
+    left: &Side<'_>,
+    right: &Side<'_>,
 ) -> Result<Vector, NoMemory>
     requires verb { IsTrue (is_choice verb) }
-    requires same { left.now.kind ≡ right.now.kind }
-    requires number { IsTrue (is_number left.now.kind) }
-    requires length { length left.now.atoms ≡ length right.now.atoms }
-    ensures { IfOk result
-        (λ v. v ≡ record left.now { atoms = zip2 (chosen verb) left.now.atoms right.now.atoms }) }
+    requires same { side_kind left.now ≡ side_kind right.now }
+    requires number { IsTrue (is_number (side_kind left.now)) }
+    requires left { length (spread count left.now) ≡ count }
+    requires right { length (spread count right.now) ≡ count }
+    ensures { IfOk result (λ v. v ≡ record {
+      kind = side_kind left.now;
+      atoms = zip2 (chosen verb) (spread count left.now) (spread count right.now);
+    }) }
 {
     let column = match verb {
-        Verb::Lesser => choose_columns::<AtMost>(alloc, left.column(), right.column())?,
-        Verb::Greater => choose_columns::<AtLeast>(alloc, left.column(), right.column())?,
+        Verb::Lesser => choose_sides::<AtMost>(alloc, count, left, right)?,
+        Verb::Greater => choose_sides::<AtLeast>(alloc, count, left, right)?,
         _ => unreachable!(),
     };
     Ok(Vector::from_column(column))

@@ -1,5 +1,6 @@
 //! The greatest and least values and the nulls of the kinds.
-ghost use Rattle.std.specs.Prelude.{◌≡◌, IfOk};
+ghost use Rattle.std.specs.Prelude.{◌≡◌, ◌≢◌, IsTrue, IfOk, is_ok};
+ghost use Rattle.q_values.specs.declared.kind.Kind.TheVariants as k;
 ghost use Rattle.q_values.specs.Kind.{storage_of};
 ghost use Rattle.q_verbs.specs.Aggregates.{stored_atom, greatest, lowest, null_of};
 
@@ -27,7 +28,8 @@ pub(crate) struct Ends {
 impl Ends {
     // The atom of a kind with the value of its width; of a symbol the empty one.
     fn atom(&self, alloc: Global, kind: Kind) -> Result<Atom, NoMemory>
-        ensures { IfOk result (λ x. x ≡ stored_atom self.now (storage_of kind)) }
+        ensures value { IfOk result (λ x. x ≡ stored_atom self.now (storage_of kind)) }
+        ensures ok { kind ≢ k.Symbol → IsTrue (is_ok result) }
     {
         match kind.storage() {
             Storage::Boolean => Ok(Atom::Boolean(self.boolean)),
@@ -42,7 +44,8 @@ impl Ends {
 
 /// The greatest value of a kind; of a symbol the empty one.
 pub(crate) fn greatest_of(alloc: Global, kind: Kind) -> Result<Atom, NoMemory>
-    ensures { IfOk result (λ x. x ≡ greatest kind) }
+    ensures value { IfOk result (λ x. x ≡ greatest kind) }
+    ensures ok { kind ≢ k.Symbol → IsTrue (is_ok result) }
 {
     let ends = Ends {
         boolean: true,
@@ -56,7 +59,8 @@ pub(crate) fn greatest_of(alloc: Global, kind: Kind) -> Result<Atom, NoMemory>
 
 /// The greatest value of a kind negated; 0 for a boolean, a byte or a character.
 pub(crate) fn lowest_of(alloc: Global, kind: Kind) -> Result<Atom, NoMemory>
-    ensures { IfOk result (λ x. x ≡ lowest kind) }
+    ensures value { IfOk result (λ x. x ≡ lowest kind) }
+    ensures ok { kind ≢ k.Symbol → IsTrue (is_ok result) }
 {
     let ends = Ends {
         boolean: false,
@@ -70,7 +74,8 @@ pub(crate) fn lowest_of(alloc: Global, kind: Kind) -> Result<Atom, NoMemory>
 
 /// The null of a kind, or the value that is used as one.
 pub(crate) fn null_atom(alloc: Global, kind: Kind) -> Result<Atom, NoMemory>
-    ensures { IfOk result (λ x. x ≡ null_of kind) }
+    ensures value { IfOk result (λ x. x ≡ null_of kind) }
+    ensures ok { kind ≢ k.Symbol → IsTrue (is_ok result) }
 {
     let ends = Ends {
         boolean: false,

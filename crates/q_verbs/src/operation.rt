@@ -1,14 +1,13 @@
-//! The operations of the verbs on two numbers, and the loop over two columns.
-ghost use Rattle.std.specs.Prelude.{◌≡◌, ◌<ℤ◌, ◌≢◌, ◌-ℤ◌, ◌*ℤ◌, ℤ, pos, length, IfOk, Option, option_map, IsTrue};
+//! The operations of the verbs on two numbers.
+ghost use Rattle.std.specs.Prelude.{◌≡◌, ◌<ℤ◌, ◌≢◌, ◌-ℤ◌, ◌*ℤ◌, ℤ, pos, Option, option_map};
 ghost use Rattle.std.specs.Int.{w64, int_wrap};
-ghost use Rattle.std.specs.Simd.Lanes.{zip2};
-ghost use Rattle.q_verbs.specs.Numbers.{least};
+ghost use Rattle.q_verbs.specs.Numbers.{number_in, least};
 ghost use Rattle.q_verbs.specs.Loops.{computed};
 ghost use Rattle.q_verbs.specs.Places.{floor_div};
 
-use crate::number::Reduced;
+use crate::lane::Step;
+use crate::number::{Number, Reduced};
 use q_values::NANOSECONDS_PER_DAY;
-use std::alloc::{AllocError, Global};
 
 /// An operation on two numbers of 64 bits, neither of them the null.
 pub(crate) trait Operation {
@@ -182,7 +181,7 @@ impl Operation for Greater {
 
 // The result of two numbers or nulls; a null on either side gives the null.
 fn applied<P: Operation>(x: &i64, y: &i64) -> Option<i64>
-    ensures { result ≡ computed P.value x.now y.now }
+    ensures { result ≡ computed P.value (number_in w64 x.now) (number_in w64 y.now) }
 {
     if *x > i64::MIN && *y > i64::MIN {
         P::apply(x, y)
@@ -191,19 +190,15 @@ fn applied<P: Operation>(x: &i64, y: &i64) -> Option<i64>
     }
 }
 
-/// The operation's results for two columns of one length, item by item.
-pub(crate) fn apply_all<P: Operation, T: Reduced>(
-    alloc: Global,
-    left: &[i64],
-    right: &[i64],
-) -> Result<Vec<T>, AllocError>
-    requires { length left.now ≡ length right.now }
-    ensures { IfOk result
-        (λ v. v.items ≡ zip2 (λ x y. T.of (computed P.value x y)) left.now right.now) }
-{
-    let mut values = Vec::with_capacity(alloc, left.len())?;
-    for i in 0..left.len() {
-        values.push_reserved(T::reduced_from(applied::<P>(&left[i], &right[i])));
+/// The operation's result for two numbers or nulls of one width, in the width of the result.
+pub(crate) struct Computed<P>(P);
+
+impl<P: Operation, T: Number, U: Reduced> Step<T, U> for Computed<P> {
+    ghost use Rattle.q_verbs.specs.Loops.{computed};
+
+    ghost value = { λ x y. U.of (computed P.value (T.number x) (T.number y)) };
+
+    fn apply(x: &T, y: &T) -> U {
+        U::reduced_from(applied::<P>(&x.widened(), &y.widened()))
     }
-    Ok(values)
 }

@@ -8,8 +8,7 @@ ghost use Rattle.q_verbs.specs.Kinds.{is_number, is_total};
 ghost use Rattle.q_verbs.specs.Numbers.{number_in, numeric, worth, worth_cmp, written};
 ghost use Rattle.q_verbs.specs.Aggregates.{total, chosen_of, choose_present, number_of};
 
-use crate::choice::choose_item;
-use crate::comparison::Relation;
+use crate::comparison::{Relation, order_of};
 use crate::number::{Number, low_32};
 use q_values::{Atom, ByteKind, Column, IntegerKind, Kind, LongKind};
 
@@ -60,6 +59,17 @@ pub(crate) fn total_atom(kind: Kind, sum: &i64) -> Atom
         Kind::Long => Atom::Long(*sum),
         Kind::Timespan => Atom::Timespan(*sum),
         _ => unreachable!(),
+    }
+}
+
+// The first item where it is in the relation to the second one, and else the second one.
+fn choose_item<P: Relation, T: Number>(x: T, y: T) -> T
+    ensures { result ≡ (if P.relates (worth_cmp (numeric (T.number x)) (numeric (T.number y))) then x else y) }
+{
+    if P::holds(order_of(&x.widened(), &y.widened())) {
+        x
+    } else {
+        y
     }
 }
 

@@ -11,25 +11,9 @@ ghost use Rattle.q_verbs.specs.Loops.{worth_in_64};
 ghost use Rattle.q_verbs.specs.Tests.{lies_within};
 
 use crate::comparison::{booleans, order_of};
-use crate::number::Number;
-use crate::wide::Wide;
-use q_values::{Atom, Column, Element, Form, NoMemory, ShortSymbol, Symbols, Vector};
+use crate::wide::{Wide, number_of_atom};
+use q_values::{Atom, Column, Form, NoMemory, ShortSymbol, Symbols, Vector};
 use std::alloc::{AllocError, Global};
-
-// An atom's number in 64 bits, the least one for the null.
-fn number_of_atom(atom: &Atom) -> i64
-    requires { kind_of atom.now ≢ k.Symbol }
-    ensures { worth_in_64 result ≡ worth atom.now }
-{
-    match atom.element() {
-        Element::Boolean(x) => x.widened(),
-        Element::Byte(_, x) => x.widened(),
-        Element::Short(x) => x.widened(),
-        Element::Integer(_, x) => x.widened(),
-        Element::Long(_, x) => x.widened(),
-        Element::Symbol(_) => unreachable!(),
-    }
-}
 
 fn lies_between(x: &i64, low: &i64, high: &i64) -> bool
     ensures { result ≡ lies_within (worth_in_64 low.now) (worth_in_64 high.now) (worth_in_64 x.now) }

@@ -1,13 +1,15 @@
 //! Reads the rows of the tables, runs the verbs and compares.
 ghost use Rattle.std.specs.Prelude.{◌≡◌};
 ghost use Rattle.q_verbs.specs.Places.{is_by_place};
+ghost use Rattle.q_verbs.specs.Sides.{AreBeside};
 ghost use Rattle.q_verbs.specs.Lists.{is_unary};
 ghost use Rattle.q_verbs.specs.Aggregates.{is_aggregate};
 
 use crate::{kinds_rows, one_side_rows, two_sides_rows};
 use q_values::{Atom, Column, Kind, NoMemory, Sym, Symbols, Vector};
 use q_verbs::{
-    Verb, Verb1, aggregate, binary, is_in, is_like, is_within, result_kind, result_kind1, unary,
+    Side, Verb, Verb1, aggregate, binary, is_in, is_like, is_within, result_kind, result_kind1,
+    unary,
 };
 use std::alloc::Global;
 use std::test::Fail;
@@ -196,7 +198,7 @@ fn by_place(
     }
     match result_kind(verb, left.kind(), right.kind()) {
         Some(_) => {
-            let found = binary(alloc, verb, left, right)?;
+            let found = binary(alloc, verb, &Side::Column(left), &Side::Column(right))?;
             Ok(Some(found))
         }
         None => Ok(None),
@@ -292,6 +294,83 @@ fn is_wanted(found: Option<Vector>, wanted: &Vector) -> bool {
     }
 }
 
+// The verb's result for these sides, of which not both are columns.
+fn found_of_sides(
+    alloc: Global,
+    verb: Verb,
+    left: &Side<'_>,
+    right: &Side<'_>,
+) -> Result<Option<Vector>, NoMemory>
+    requires { AreBeside left.now right.now }
+{
+    if !goes_by_place(verb) || result_kind(verb, left.kind(), right.kind()).is_none() {
+        return Ok(None);
+    }
+    let found = binary(alloc, verb, left, right)?;
+    Ok(Some(found))
+}
+
+// Whether the item at the index is the one that is wanted there, and the items are as many.
+fn has_item(
+    found: Option<Vector>,
+    wanted: &Vector,
+    i: usize,
+    alloc: Global,
+) -> Result<bool, NoMemory> {
+    let Some(found) = found else {
+        return Ok(false);
+    };
+    if found.len() != wanted.len() || i >= wanted.len() {
+        return Ok(false);
+    }
+    let some = found.take(alloc, i, 1)?;
+    let other = wanted.take(alloc, i, 1)?;
+    Ok(is_same(&some, &other))
+}
+
+// Whether the verb gives the item that is wanted at the index where an atom stands for a column, or for each.
+fn atoms_give(
+    alloc: Global,
+    verb: Verb,
+    left: &Vector,
+    right: &Vector,
+    wanted: &Vector,
+    i: usize,
+) -> Result<bool, NoMemory> {
+    if i >= left.len() || i >= right.len() || i >= wanted.len() {
+        return Ok(false);
+    }
+    let some = left.at(alloc, i)?;
+    let other = right.at(alloc, i)?;
+    let from_left = found_of_sides(alloc, verb, &Side::Atom(&some), &Side::Column(right))?;
+    let from_right = found_of_sides(alloc, verb, &Side::Column(left), &Side::Atom(&other))?;
+    let of_atoms = found_of_sides(alloc, verb, &Side::Atom(&some), &Side::Atom(&other))?;
+    let one = wanted.take(alloc, i, 1)?;
+    let left_holds = has_item(from_left, wanted, i, alloc)?;
+    let right_holds = has_item(from_right, wanted, i, alloc)?;
+    let both_hold = has_item(of_atoms, &one, 0, alloc)?;
+    Ok(left_holds && right_holds && both_hold)
+}
+
+// Whether each item of the row stands as an atom beside the other column.
+fn atoms_hold(
+    alloc: Global,
+    verb: Verb,
+    left: &Vector,
+    right: &Vector,
+    wanted: &Vector,
+) -> Result<bool, NoMemory> {
+    if !goes_by_place(verb) {
+        return Ok(true);
+    }
+    for i in 0..left.len() {
+        if !atoms_give(alloc, verb, left, right, wanted, i)? {
+            return Ok(false);
+        }
+    }
+    Ok(true)
+}
+
 fn two_sides_give(
     alloc: Global,
     verb: Verb,
@@ -304,7 +383,8 @@ fn two_sides_give(
         return Ok(false);
     }
     let none = found_of_no_left(alloc, verb, left, right)?;
-    Ok(is_wanted(none, &Vector::new(alloc, wanted.kind())))
+    let atoms = atoms_hold(alloc, verb, left, right, wanted)?;
+    Ok(atoms && is_wanted(none, &Vector::new(alloc, wanted.kind())))
 }
 
 // Whether the verb's result is that of the row, and without items is empty.

@@ -3,7 +3,7 @@ ghost use Rattle.std.specs.Prelude.{◌≡◌, IfOk};
 ghost use Rattle.q_values.specs.declared.kind.Kind.TheVariants as k;
 
 use anyhow::Result;
-use q_values::{Atom, Column, Kind, LongKind, NoMemory, Sym, Vector};
+use q_values::{Atom, Column, IntegerKind, Kind, LongKind, NoMemory, Sym, Vector};
 use std::alloc::Global;
 
 /// The difference of one long and the next, which puts them in no order.
@@ -21,6 +21,20 @@ pub fn longs(alloc: Global, count: u32, step: u64) -> Result<Vector, NoMemory>
         items.push(u64::from(i).wrapping_mul(step).cast_signed())?;
     }
     Ok(Vector::from_column(Column::Longs(LongKind::Long, items)))
+}
+
+/// `count` numbers of 24 bits in this kind of 32 bits, each `step` more than the one before, and then cut.
+pub fn integers(
+    alloc: Global,
+    count: u32,
+    kind: IntegerKind,
+    step: u64,
+) -> Result<Vector, NoMemory> {
+    let mut items = Vec::with_capacity(alloc, count as usize)?;
+    for i in 0..count {
+        items.push(((u64::from(i).wrapping_mul(step) >> 40) as u32).cast_signed())?;
+    }
+    Ok(Vector::from_column(Column::Integers(kind, items)))
 }
 
 /// `count` longs from 0 to 15.

@@ -1,4 +1,4 @@
-//! Times the verbs of `q_verbs` over longs and over symbols. `bench/verbs.py` runs it, and sets its times beside those of
+//! Times the verbs of `q_verbs` over longs, ints, dates and symbols. `bench/verbs.py` runs it, and sets its times beside those of
 //! the same loops in Rust.
 //!
 //! `made` makes the columns; `timed` times each verb over them, five times, and prints one line for each time: the kind
@@ -8,10 +8,10 @@
 //! verbs_bench LONGS [SYMBOLS]
 //!
 //! longs sum NANOSECONDS SUM
-//! longs min NANOSECONDS SUM
-//! longs plus NANOSECONDS SUM
-//! longs above NANOSECONDS SUM
-//! longs in NANOSECONDS SUM
+//! longs above_300 NANOSECONDS SUM
+//! ints plus NANOSECONDS SUM
+//! dates above NANOSECONDS SUM
+//! longs filter NANOSECONDS SUM
 //! symbols in NANOSECONDS SUM
 //! symbols like NANOSECONDS SUM
 //! ```

@@ -1,10 +1,13 @@
-use Rattle.std.proofs.Common.{◌≡◌, ◌+◌, ◌-◌, arith, length, ap, sym, unwrap_or}
-use Rattle.q_verbs.specs.Aggregates.{null_of}
+use Rattle.std.proofs.Common.{◌≡◌, ◌+◌, ◌-◌, Some, arith, length, ap, sym, slice_get, unwrap_or}
+use Rattle.std.proofs.lemmas.Result.{IfOk-weaker}
+use Rattle.q_values.specs.declared.atom.Atom.{Atom}
+use Rattle.q_verbs.specs.Aggregates.{last_of, null_of}
 use Rattle.q_verbs.proofs.AggregateLemmas.{last_at}
 use Rattle.q_verbs.proofs.aggregation.last.Goals as goal
 
-pub returns-in_ok-atom : goal.returns-in_ok-atom
-returns-in_ok-atom c =
+pub returns-else-len-eq0-clause-value : goal.returns-else-len-eq0-clause-value
+returns-else-len-eq0-clause-value c =
     let place = c.len-else-len-eq0.result - 1 in
-    let at_end : place + 1 ≡ length c.args.x.now.atoms = omega arith in
-    ap (λ x. unwrap_or x (null_of c.args.x.now.kind)) (sym (last_at c.args.x.now.atoms place c.in_ok-atom.atom at_end c.in_ok-atom.ensures))
+    let xs = c.args.x.now.atoms in
+    let at_end : place + 1 ≡ length xs = omega arith in
+    IfOk-weaker c.item_at.result (λ (atom : Atom). slice_get xs place ≡ Some atom) (λ atom. atom ≡ unwrap_or (last_of xs) (null_of c.args.x.now.kind)) (λ atom is. ap (λ x. unwrap_or x (null_of c.args.x.now.kind)) (sym (last_at xs place atom at_end is))) c.item_at.ensures.value

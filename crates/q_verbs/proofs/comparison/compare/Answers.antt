@@ -1,11 +1,10 @@
-use Rattle.std.proofs.Common.{◌≡◌, List, Bool, map, ap, ◌∙◌}
-use Rattle.std.specs.Simd.Lanes.{zip2}
+use Rattle.std.proofs.Common.{Bool, List, map, ap, ◌∙◌}
 use Rattle.q_values.specs.Contents.{Contents}
-use Rattle.q_values.specs.Column.{contents}
 use Rattle.q_values.specs.declared.atom.Atom.{Atom}
 use Rattle.q_values.specs.declared.atom.Atom.TheVariants as a
 use Rattle.q_values.specs.declared.kind.Kind.TheVariants as k
 use Rattle.q_verbs.specs.Numbers.{worth, worth_cmp}
+use Rattle.q_verbs.specs.Sides.{spread}
 use Rattle.q_verbs.proofs.ZipLemmas.{map-zip2}
 use Rattle.q_verbs.proofs.comparison.compare.Goals as goal
 
@@ -14,6 +13,4 @@ returns g c =
     let of_atoms : List Atom → Contents = λ atoms. record { kind = k.Boolean; atoms = atoms } in
     let boolean : Bool → Atom = λ b. a.Boolean b in
     let relates : Atom → Atom → Bool = λ x y. g.P.Relation.relates (worth_cmp (worth x) (worth y)) in
-    let left : (contents c.column.result.now).atoms ≡ c.args.left.now.atoms = ap (λ (v : Contents). v.atoms) c.column.ensures in
-    let right : (contents c.column-2.result.now).atoms ≡ c.args.right.now.atoms = ap (λ (v : Contents). v.atoms) c.column-2.ensures in
-    c.booleans.ensures ∙ ap of_atoms (ap (map boolean) (c.in_ok-values.ensures ∙ (λ i. zip2 relates (left i) (right i))) ∙ map-zip2 boolean relates c.args.left.now.atoms c.args.right.now.atoms)
+    c.booleans.ensures ∙ ap of_atoms (ap (map boolean) c.in_ok-values.ensures ∙ map-zip2 boolean relates (spread c.args.count c.args.left.now) (spread c.args.count c.args.right.now))
