@@ -1,0 +1,6 @@
+pub mod Beside
+pub mod Frames
+pub mod Judgement
+pub mod Values
+pub mod Meaning
+pub mod Views
