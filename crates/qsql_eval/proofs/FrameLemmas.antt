@@ -1,6 +1,6 @@
 -- Rows of columns: reading a column, and keeping rows.
-use Rattle.std.proofs.Common.{◌≡◌, ℕ, ◌+◌, ◌<◌, ◌≤◌, Bool, true, false, cond, List, [], ◌∷◌, ◌++◌, length, get_or, take, drop, map, replicate, refl, sym, ap, ap₂, ◌∙◌, arith, zero, suc, All, Option, Some, None}
-use Rattle.std.specs.Prelude.{option_map, unwrap_or}
+use Rattle.std.proofs.Common.{◌≡◌, ℕ, ◌+◌, ◌<◌, ◌≤◌, Bool, true, false, cond, List, [], ◌∷◌, ◌++◌, length, get_or, take, drop, map, replicate, refl, sym, ap, ap₂, ◌∙◌, arith, zero, suc, All, Option, Some, None, Bor}
+use Rattle.std.specs.Prelude.{option_map, option_copied, unwrap_or, is_some}
 use Rattle.std.specs.Str.{bytes_eq}
 use Rattle.std.specs.Simd.Lanes.{zip2}
 use Rattle.std.proofs.lemmas.List.{length-replicate}
@@ -91,3 +91,25 @@ column-lent names columns name c are found =
     let kinds : kind_beside (frame_of names columns) name ≡ Some c.kind = beside-map (λ (d : Contents). d.kind) name names columns ∙ ap (option_map (λ (d : Contents). d.kind)) found in
     let read : map (field_in names name) (rows_beside (rows_of columns) columns) ≡ c.atoms = column-read name names (rows_of columns) columns c are.even found in
     ap₂ (λ (kind : Kind) (atoms : List Atom). record { kind = kind; atoms = atoms }) (sym (ap (λ (o : Option Kind). unwrap_or o k.Boolean) kinds)) (sym read)
+
+pub length_frame : (names : List (List ℕ)) (columns : List Contents) → AreColumns names columns → length (rows_beside (rows_of columns) columns) ≡ rows_of columns
+length_frame names columns are = length-rows (rows_of columns) columns are.even
+
+-- the kind of a column that lies among the columns
+pub kind-lent : (names : List (List ℕ)) (columns : List Contents) (name : List ℕ) (c : Contents) → beside name names columns ≡ Some c → beside name names (map (λ (d : Contents). d.kind) columns) ≡ Some c.kind
+kind-lent names columns name c found = beside-map (λ (d : Contents). d.kind) name names columns ∙ ap (option_map (λ (d : Contents). d.kind)) found
+
+-- a column with a kind lies among the columns
+pub some-lent : (names : List (List ℕ)) (columns : List Contents) (name : List ℕ) → is_some (beside name names (map (λ (d : Contents). d.kind) columns)) ≡ true → is_some (beside name names columns) ≡ true
+some-lent names columns name some = by_option (beside name names columns) (sym (ap is_some (beside-map (λ (d : Contents). d.kind) name names columns)) ∙ some)
+  where
+    by_option : (o : Option Contents) → is_some (option_map (λ (d : Contents). d.kind) o) ≡ true → is_some o ≡ true
+    by_option None h = h
+    by_option (Some c) h = refl
+
+pub never-missing : (names : List (List ℕ)) (columns : List Contents) (name : List ℕ) (o : Option (Bor Contents)) → option_copied o ≡ beside name names columns → o ≡ None → is_some (beside name names (map (λ (d : Contents). d.kind) columns)) ≡ true → ⊥
+never-missing names columns name o is none some =
+    let never : false ≡ true = ap is_some (sym (ap option_copied none) ∙ is) ∙ some-lent names columns name some in
+    cc
+
+pub ruleset lent = (column-lent, kind-lent, some-lent)

@@ -17,7 +17,15 @@
 mod beside;
 mod checking;
 mod kinds;
+mod one_side;
+mod operand;
+mod scope;
+mod two_sides;
 mod typed;
+mod values;
 
 pub use checking::check;
+pub use operand::{Held, Operand};
+pub use scope::Scope;
 pub use typed::{CheckRefusal, Typed};
+pub use values::value_of;
