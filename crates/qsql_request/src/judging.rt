@@ -141,3 +141,10 @@ pub fn judged(expr: &Expr) -> Judgement
         }
     }
 }
+
+/// The shape of the expression's value.
+pub fn shape_of_expr(expr: &Expr) -> Shape
+    ensures { result ≡ Shapes.shape (form expr.now) }
+{
+    judged(expr).shape
+}

@@ -18,15 +18,23 @@
 //! Whether a form is built is decided from the shapes of its values (`shapes`, `judging`) and the names of its columns
 //! (`mentions`). The rules are in `specs/Unbuilt.antt`.
 //!
+//! An evaluator takes from here what an expression's value looks like ([`shape_of_expr`]), what a column of the answer is
+//! called ([`name_of_column`]), and which columns a query names ([`names_of_query`]).
+//!
 //! The crate reads no text (`qsql_parse` does) and runs no query. It knows no schema, so it doesn't find unknown tables or
 //! columns, or kinds that a verb doesn't take.
 #![tactic(auto)]
 
 mod judging;
 mod mentions;
+mod names;
 mod request;
 mod shapes;
 mod unbuilt;
 
+pub use judging::shape_of_expr;
+pub use mentions::name_of_column;
+pub use names::names_of_query;
 pub use request::{AjQuery, Col, Cols, Expr, Exprs, Query, Request, Source, SubRequest};
-pub use unbuilt::is_request_unbuilt;
+pub use shapes::Shape;
+pub use unbuilt::{is_query_unbuilt, is_request_unbuilt};

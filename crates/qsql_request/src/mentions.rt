@@ -1,5 +1,6 @@
 //! The names that an expression mentions, and the names of result columns.
-ghost use Rattle.std.specs.Prelude.{◌≡◌};
+ghost use Rattle.std.specs.Prelude.{◌≡◌, IfSome};
+ghost use Rattle.q_values.specs.Bytes.{HasNoNul};
 ghost use Rattle.qsql_request.specs.Views.{form, column_form};
 ghost use Rattle.qsql_request.specs.Unbuilt.{is_row_number, mentioned, has_other, are_two, column_name, is_nameless, head_of, map_option};
 
@@ -14,7 +15,8 @@ fn is_row_number_name(name: &[u8]) -> bool
 
 // The first name that the expression mentions, other than `i`.
 fn first_name(expr: &Expr) -> Option<&[u8]>
-    ensures { map_option (λ name. name.now) result ≡ head_of (mentioned (form expr.now)) }
+    ensures first { map_option (λ name. name.now) result ≡ head_of (mentioned (form expr.now)) }
+    ensures no_nul { IfSome result (λ name. HasNoNul name.now) }
 {
     match expr {
         Expr::Literal(_) => None,
@@ -69,7 +71,8 @@ pub fn is_nameless_column(column: &Col) -> bool
 /// The name of a result column: the one that the text gives it, or else the first one that its expression mentions, or
 /// else `x`.
 pub fn name_of_column(column: &Col) -> &[u8]
-    ensures { result.now ≡ column_name (column_form column.now) }
+    ensures value { result.now ≡ column_name (column_form column.now) }
+    ensures no_nul { HasNoNul result.now }
 {
     match &column.name {
         Some(name) => name.bytes(),

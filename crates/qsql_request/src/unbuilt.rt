@@ -164,7 +164,8 @@ fn has_unbuilt_part(query: &Query) -> bool
         || any_unbuilt_phrase(query.phrases.as_slice())
 }
 
-fn is_query_unbuilt(query: &Query) -> bool
+/// Whether the query has a form that is not built, as far as that can be seen without a schema.
+pub fn is_query_unbuilt(query: &Query) -> bool
     ensures { result ≡ is_unbuilt_query (query_of query.now) }
 {
     has_unbuilt_part(query)

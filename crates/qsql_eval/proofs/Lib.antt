@@ -1,0 +1,4 @@
+pub mod BesideLemmas
+pub mod FrameLemmas
+pub mod OperandLemmas
+pub mod ShapeLemmas
