@@ -9,67 +9,102 @@ ghost use Rattle.q_verbs.specs.Kinds.{result_kind_of, comparison_kind, match_kin
 ghost use Rattle.q_verbs.specs.Like.{matches};
 ghost use Rattle.q_verbs.specs.Numbers.{worth};
 ghost use Rattle.q_verbs.specs.Places.{is_by_place, value_of};
+ghost use Rattle.q_verbs.specs.Sides.{side_kind, rows, spread, AreBeside};
 ghost use Rattle.q_verbs.specs.Tests.{is_among};
 ghost use Rattle.q_verbs.specs.declared.verb.Verb.TheVariants as w;
 ghost use Rattle.qsql_eval.specs.Values.{items_in, kind_with, by_item_of, lies_between, byte_in, text_in, value_of_two};
 ghost use Rattle.qsql_eval.specs.Operands.{operand_tree, kind_of_tree, AreEven, AreSides, has_ends};
 
-use crate::operand::{Held, Operand, repeated, single};
+use crate::operand::{Held, Operand};
 use q_values::{Atom, ByteKind, Column, NoMemory, Vector};
-use q_verbs::{Verb, binary, is_in, is_like, is_within};
+use q_verbs::{Side, Verb, binary, is_in, is_like, is_within};
 use std::alloc::Global;
 
-// The verb item by item.
-fn by_items(alloc: Global, verb: Verb, left: &Vector, right: &Vector) -> Result<Vector, NoMemory>
+// The verb item by item, where an atom stands for each item beside it.
+fn by_sides(
+    alloc: Global,
+    verb: Verb,
+    left: &Side<'_>,
+    right: &Side<'_>,
+) -> Result<Vector, NoMemory>
     requires verb { IsTrue (is_by_place verb) }
-    requires row { IsSome (result_kind_of verb left.now.kind right.now.kind) }
-    requires length { length left.now.atoms ≡ length right.now.atoms }
+    requires row { IsSome (result_kind_of verb (side_kind left.now) (side_kind right.now)) }
+    requires beside { AreBeside left.now right.now }
     ensures value { IfOk result (λ v. v ≡ record {
-      kind = kind_with verb left.now.kind right.now.kind;
+      kind = kind_with verb (side_kind left.now) (side_kind right.now);
       atoms
-          = zip2 (value_of verb left.now.kind right.now.kind (kind_with verb left.now.kind right.now.kind)) left.now.atoms right.now.atoms;
+          = zip2 (value_of verb (side_kind left.now) (side_kind right.now) (kind_with verb (side_kind left.now) (side_kind right.now)))
+          (spread (rows left.now right.now) left.now) (spread (rows left.now right.now) right.now);
     }) }
-    ensures kind { IfOk result (λ v. result_kind_of verb left.now.kind right.now.kind ≡ Some v.kind) }
+    ensures kind { IfOk result (λ v. result_kind_of verb (side_kind left.now) (side_kind right.now) ≡ Some v.kind) }
 {
     let made = binary(alloc, verb, left, right)?;
     Ok(made)
 }
 
-fn of_atoms<'b>(alloc: Global, verb: Verb, left: &Atom, right: &Atom) -> Result<Operand<'b>, NoMemory>
+fn of_atoms<'b>(
+    alloc: Global,
+    verb: Verb,
+    left: &Atom,
+    right: &Atom,
+) -> Result<Operand<'b>, NoMemory>
     requires verb { IsTrue (is_by_place verb) }
     requires row { IsSome (result_kind_of verb (kind_of left.now) (kind_of right.now)) }
     ensures value { IfOk result (λ v. operand_tree v
         ≡ by_item_of verb (kind_of left.now) (kind_of right.now) (atom left.now) (atom right.now)) }
     ensures kind { IfOk result (λ v. result_kind_of verb (kind_of left.now) (kind_of right.now) ≡ Some (kind_of_tree (operand_tree v))) }
 {
-    let first = single(alloc, left)?;
-    let second = single(alloc, right)?;
-    let made = by_items(alloc, verb, &first, &second)?;
+    let made = by_sides(alloc, verb, &Side::Atom(left), &Side::Atom(right))?;
     let _kind = made.kind();
     Ok(Operand::Atom(made.at(alloc, 0)?))
 }
 
-fn of_atom_and_items<'b>(alloc: Global, verb: Verb, left: &Atom, right: &Vector) -> Result<Operand<'b>, NoMemory>
+fn of_atom_and_items<'b>(
+    alloc: Global,
+    verb: Verb,
+    left: &Atom,
+    right: &Vector,
+) -> Result<Operand<'b>, NoMemory>
     requires verb { IsTrue (is_by_place verb) }
     requires row { IsSome (result_kind_of verb (kind_of left.now) right.now.kind) }
     ensures value { IfOk result (λ v. operand_tree v
         ≡ by_item_of verb (kind_of left.now) right.now.kind (atom left.now) (vector right.now)) }
     ensures kind { IfOk result (λ v. result_kind_of verb (kind_of left.now) right.now.kind ≡ Some (kind_of_tree (operand_tree v))) }
 {
-    let many = repeated(alloc, left, right.len())?;
-    let made = by_items(alloc, verb, &many, right)?;
+    let made = by_sides(alloc, verb, &Side::Atom(left), &Side::Column(right))?;
     Ok(Operand::Column(Held::Made(made)))
 }
 
-fn of_items_and_atom<'b>(alloc: Global, verb: Verb, left: &Vector, right: &Atom) -> Result<Operand<'b>, NoMemory>
+fn of_items_and_atom<'b>(
+    alloc: Global,
+    verb: Verb,
+    left: &Vector,
+    right: &Atom,
+) -> Result<Operand<'b>, NoMemory>
     requires verb { IsTrue (is_by_place verb) }
     requires row { IsSome (result_kind_of verb left.now.kind (kind_of right.now)) }
     ensures value { IfOk result (λ v. operand_tree v
         ≡ by_item_of verb left.now.kind (kind_of right.now) (vector left.now) (atom right.now)) }
     ensures kind { IfOk result (λ v. result_kind_of verb left.now.kind (kind_of right.now) ≡ Some (kind_of_tree (operand_tree v))) }
 {
-    let many = repeated(alloc, right, left.len())?;
-    let made = by_items(alloc, verb, left, &many)?;
+    let made = by_sides(alloc, verb, &Side::Column(left), &Side::Atom(right))?;
+    Ok(Operand::Column(Held::Made(made)))
+}
+
+fn of_items<'b>(
+    alloc: Global,
+    verb: Verb,
+    left: &Vector,
+    right: &Vector,
+) -> Result<Operand<'b>, NoMemory>
+    requires verb { IsTrue (is_by_place verb) }
+    requires row { IsSome (result_kind_of verb left.now.kind right.now.kind) }
+    requires length { length left.now.atoms ≡ length right.now.atoms }
+    ensures value { IfOk result (λ v. operand_tree v
+        ≡ by_item_of verb left.now.kind right.now.kind (vector left.now) (vector right.now)) }
+    ensures kind { IfOk result (λ v. result_kind_of verb left.now.kind right.now.kind ≡ Some (kind_of_tree (operand_tree v))) }
+{
+    let made = by_sides(alloc, verb, &Side::Column(left), &Side::Column(right))?;
     Ok(Operand::Column(Held::Made(made)))
 }
 
@@ -92,8 +127,7 @@ fn by_item<'b>(alloc: Global, verb: Verb, left: &Operand, right: &Operand) -> Re
             of_items_and_atom(alloc, verb, items.vector(), y)
         }
         (Operand::Column(items), Operand::Column(others)) => {
-            let made = by_items(alloc, verb, items.vector(), others.vector())?;
-            Ok(Operand::Column(Held::Made(made)))
+            of_items(alloc, verb, items.vector(), others.vector())
         }
     }
 }
