@@ -1,0 +1,6 @@
+//! Groups.
+#![tactic(auto)]
+
+mod counting;
+mod number;
+mod word;
