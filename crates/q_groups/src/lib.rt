@@ -2,5 +2,9 @@
 #![tactic(auto)]
 
 mod counting;
+mod groups;
 mod number;
+mod sorted;
 mod word;
+
+pub use groups::Groups;

@@ -6,7 +6,7 @@ use std::hash::Hash;
 const FRONT: usize = 8;
 
 /// An item with a number of 64 bits. Equal items have one number where it is of use; different ones may share theirs.
-pub(crate) trait Word: Copy + Eq + Hash {
+pub(crate) trait Word: Copy + Hash + Ord {
     /// The number.
     fn word(&self) -> u64;
 }
