@@ -1,6 +1,7 @@
 //! Groups.
 #![tactic(auto)]
 
+mod column;
 mod counting;
 mod groups;
 mod number;
