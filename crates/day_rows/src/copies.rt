@@ -66,6 +66,7 @@ pub fn join_blocks(
     ensures skip { IfOk result (λ p. p.1 ≡ from - length (joined table column (flat_map (λ block. block) blocks.now))) }
 {
     let mut found = Vector::new(alloc, kind);
+    found.reserve(n)?;
     let mut skip = from;
     for block in blocks {
         skip = append_block(&mut found, block.block(), table, column, skip, n)?;
@@ -73,7 +74,8 @@ pub fn join_blocks(
     Ok((found, skip))
 }
 
-/// Puts the symbols of a block's column at the end, lent; nothing where the block has none.
+/// Puts the symbols of a block's column at the end, lent; nothing where the block has none. A column of another kind answers
+/// `NoMemory`: it is called for `sym` alone, which is of symbols in each update of a day.
 pub fn add_symbols<'a>(
     parts: &mut Vec<&'a Symbols>,
     block: &'a Block,

@@ -181,12 +181,7 @@ impl Store {
     }
 
     // The symbols of a table's column, lent, in the order of arrival.
-    fn symbols(
-        &self,
-        alloc: Global,
-        table: u32,
-        column: usize,
-    ) -> Result<Vec<&Symbols>, NoMemory>
+    fn symbols(&self, alloc: Global, table: u32, column: usize) -> Result<Vec<&Symbols>, NoMemory>
         ensures { IfOk result (λ parts. map (λ t. a.Symbol t) (flat_map (λ part. part.now) parts.items)
             ≡ joined table column (updates_in self.now.blocks.items self.now.last)) }
     {

@@ -143,6 +143,7 @@ module _ {X : Type 0} (same : X → X → Bool) (laws : IsEquivalence same) wher
     where
       is' : n ≡ first_of same (distinct same xs) x
       is' = is ∙ ap (λ v. first_of same v x) h.values_are
+
       go : (b : Bool) → list_any (same x) (distinct same xs) ≡ b → IsNumbered same (xs ++ x ∷ []) (with_item same values x) (codes ++ n ∷ []) firsts
       go true e = record {
         values_are = ap (λ v. with_item same v x) h.values_are ∙ sym (distinct-push xs x);
@@ -157,8 +158,10 @@ module _ {X : Type 0} (same : X → X → Bool) (laws : IsEquivalence same) wher
     where
       is' : n ≡ first_of same (distinct same xs) x
       is' = is ∙ ap (λ v. first_of same v x) h.values_are
+
       at' : at ≡ length xs
       at' = place ∙ ap length h.codes_are ∙ length-map xs (first_of same (distinct same xs))
+
       go : (b : Bool) → list_any (same x) (distinct same xs) ≡ b → IsNumbered same (xs ++ x ∷ []) (with_item same values x) (codes ++ n ∷ []) (firsts ++ at ∷ [])
       go true e = absurd (let low = pos_below (same x) (distinct same xs) e in let len = ap length h.values_are in omega (arith, low, len, is', known))
       go false e = record {

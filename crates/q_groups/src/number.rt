@@ -1,4 +1,4 @@
-//! Items numbered in the order of first sight, piece by piece.
+//! Items numbered in the order of first sight; they come in pieces, which are not joined.
 ghost use Rattle.std.specs.Prelude.{◌≡◌, ◌+◌, ◌<◌, ◌++◌, ◌∷◌, [], true, length, List, IfOk, OnOk, IfSome, vec_len, vec_capacity};
 ghost use Rattle.std.specs.List.{list_any, flat_map};
 ghost use Rattle.indexmap.specs.IndexSet.{IsUnique};
@@ -15,6 +15,7 @@ const SPREAD: u64 = 0x9E37_79B9_7F4A_7C15;
 
 // The number of slots that remember the numbers of items seen lately, a power of two; fewer for few items.
 const SLOTS: usize = 65_536;
+
 const FEW_SLOTS: usize = 1_024;
 
 // Fewer items than these are few.
@@ -48,11 +49,7 @@ fn recalled<T: Word>(values: &IndexSet<T>, recent: &[u32], slot: usize, item: &T
 }
 
 // The item's number, which is the next one where the item is new.
-fn number<T: Word>(
-    values: &mut IndexSet<T>,
-    recent: &mut [u32],
-    item: T,
-) -> Result<u32, NoMemory>
+fn number<T: Word>(values: &mut IndexSet<T>, recent: &mut [u32], item: T) -> Result<u32, NoMemory>
     requires { IsUnique T.eq values.old }
     ensures unique { IsUnique T.eq values.new }
     ensures values { OnOk result (values.new.keys ≡ with_item T.eq values.old.keys item) }

@@ -41,12 +41,6 @@ impl Word for i64 {
     }
 }
 
-impl Word for u64 {
-    fn word(&self) -> u64 {
-        *self
-    }
-}
-
 impl Word for ShortSymbol {
     fn word(&self) -> u64 {
         self.number()

@@ -15,13 +15,7 @@ fn symbols(alloc: Global, texts: &[&[u8]]) -> Result<Symbols, Fail> {
     Ok(found)
 }
 
-fn assert_groups(
-    rt: &impl Abort,
-    groups: &Groups,
-    codes: &[u32],
-    firsts: &[u32],
-    sorted: &[u32],
-) {
+fn assert_groups(rt: &impl Abort, groups: &Groups, codes: &[u32], firsts: &[u32], sorted: &[u32]) {
     assert_eq!(rt; groups.codes(), codes);
     assert_eq!(rt; groups.firsts(), firsts);
     assert_eq!(rt; groups.sorted(), sorted);
@@ -45,7 +39,13 @@ fn numbers(rt: HostRuntime) -> Result<(), Fail> {
         longs.push(Atom::Long(x))?;
     }
     let groups = Groups::of(alloc, &longs)?;
-    assert_groups(&rt, &groups, &[0, 1, 0, 2, 3, 1], &[0, 1, 3, 4], &[2, 1, 3, 0]);
+    assert_groups(
+        &rt,
+        &groups,
+        &[0, 1, 0, 2, 3, 1],
+        &[0, 1, 3, 4],
+        &[2, 1, 3, 0],
+    );
     assert_order(&rt, alloc, &groups, &[3, 1, 5, 4, 0, 2])
 }
 
