@@ -58,7 +58,13 @@ pub fn long_symbols(alloc: Global, count: u32) -> Result<Vec<u8>, AllocError> {
     put_head(&mut out, 11, count)?;
     for i in 0..count {
         let more = (i.wrapping_mul(2_654_435_761) / 268_435_456) as usize;
-        out.extend_from_slice(&[digit(i, 10_000), digit(i, 1_000), digit(i, 100), digit(i, 10), digit(i, 1)])?;
+        out.extend_from_slice(&[
+            digit(i, 10_000),
+            digit(i, 1_000),
+            digit(i, 100),
+            digit(i, 10),
+            digit(i, 1),
+        ])?;
         out.extend_from_slice(&[b'x'; 15][..more])?;
         out.push(0)?;
     }

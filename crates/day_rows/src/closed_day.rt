@@ -32,18 +32,6 @@ impl Model for TableOrder {
 }
 
 impl TableOrder {
-    // The order of these arrival numbers.
-    fn narrow(alloc: Global, arrivals: &[usize]) -> Result<TableOrder, NoMemory>
-        requires { All (λ i. i < 4294967296) arrivals.now }
-        ensures { IfOk result (λ order. order ≡ arrivals.now) }
-    {
-        let mut narrow = Vec::with_capacity(alloc, arrivals.len())?;
-        for arrival in arrivals {
-            narrow.push(*arrival as u32)?;
-        }
-        Ok(TableOrder { arrivals: narrow })
-    }
-
     // The number of rows.
     fn len(&self) -> usize
         ensures { result ≡ length self.now }
@@ -180,17 +168,6 @@ impl ClosedDay {
     }
 }
 
-// A whole column, in the order of arrival.
-fn whole_column(alloc: Global, day: &OpenDay, table: u32, column: u32) -> Result<Vector, NoMemory>
-    requires { (kind : Kind) × HasColumn day.now.day table column kind }
-    ensures { IfOk result (λ whole. (kind : Kind) → HasColumn day.now.day table column kind
-        → whole ≡ column_of kind column (arrived day.now.day table)) }
-{
-    let rows = day.rows(table);
-    let whole = day.column(alloc, table, column, 0, rows)?;
-    Ok(whole)
-}
-
 // The documented order of a table's rows.
 fn order_table(
     alloc: Global,
@@ -200,13 +177,10 @@ fn order_table(
 ) -> Result<TableOrder, NoMemory>
     requires exists { slice_get day.now.day.kinds table ≡ Some kinds.now }
     requires first { AreTableKinds kinds.now }
-    requires lawful { IsDay day.now.day }
     ensures { IfOk result (λ order. IsOrder atom_cmp (map symbol_of (arrived day.now.day table)) order) }
 {
-    let symbols = whole_column(alloc, day, table, 1)?;
-    let arrivals = symbols.order(alloc)?;
-    let order = TableOrder::narrow(alloc, arrivals.as_slice())?;
-    Ok(order)
+    let arrivals = day.symbol_order(alloc, table, kinds)?;
+    Ok(TableOrder { arrivals })
 }
 
 /// The documented order of each table's rows. `tables` are the kinds of the day's columns.

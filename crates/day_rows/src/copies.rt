@@ -1,10 +1,11 @@
-//! A table's column, joined from blocks.
-ghost use Rattle.std.specs.Prelude.{◌≡◌, ◌≤◌, ◌-◌, ◌++◌, length, take, drop, IfOk, OnOk};
+//! A table's column, joined from blocks, and its symbols where the blocks keep them.
+ghost use Rattle.std.specs.Prelude.{◌≡◌, ◌≤◌, ◌-◌, ◌++◌, length, map, take, drop, IfOk, OnOk};
 ghost use Rattle.std.specs.List.{flat_map};
+ghost use Rattle.q_values.specs.declared.atom.Atom.TheVariants as a;
 ghost use Rattle.day_rows.specs.Joined.{joined};
 
 use crate::block::{Block, SharedBlock};
-use q_values::{Kind, NoMemory, Vector};
+use q_values::{Column, Kind, NoMemory, Symbols, Vector};
 use std::alloc::Global;
 
 // Appends at most `left` of the atoms of `more`, after skipping the first `skip` of them.
@@ -65,9 +66,31 @@ pub fn join_blocks(
     ensures skip { IfOk result (λ p. p.1 ≡ from - length (joined table column (flat_map (λ block. block) blocks.now))) }
 {
     let mut found = Vector::new(alloc, kind);
+    found.reserve(n)?;
     let mut skip = from;
     for block in blocks {
         skip = append_block(&mut found, block.block(), table, column, skip, n)?;
     }
     Ok((found, skip))
+}
+
+/// Puts the symbols of a block's column at the end, lent; nothing where the block has none. A column of another kind answers
+/// `NoMemory`: it is called for `sym` alone, which is of symbols in each update of a day.
+pub fn add_symbols<'a>(
+    parts: &mut Vec<&'a Symbols>,
+    block: &'a Block,
+    table: u32,
+    column: usize,
+) -> Result<(), NoMemory>
+    ensures { OnOk result (map (λ t. a.Symbol t) (flat_map (λ part. part.now) parts.new.items)
+        ≡ map (λ t. a.Symbol t) (flat_map (λ part. part.now) parts.old.items) ++ joined table column block.now) }
+{
+    let Some(found) = block.column(table, column) else {
+        return Ok(());
+    };
+    let Column::Symbols(symbols) = found.column() else {
+        return Err(NoMemory);
+    };
+    parts.push(symbols)?;
+    Ok(())
 }

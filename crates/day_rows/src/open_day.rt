@@ -3,7 +3,8 @@ ghost use Rattle.std.specs.Prelude.{◌≡◌, ◌↔◌, ◌<◌, ◌≤◌, �
 ghost use Rattle.std.specs.Prelude.{IfOk, OnOk, OnErr, true, Some, slice_get};
 ghost use Rattle.std.specs.List.{AllByRecursion};
 ghost use Rattle.q_values.specs.declared.kind.Kind.{Kind};
-ghost use Rattle.day_rows.specs.Rows.{column_of};
+ghost use Rattle.q_values.specs.Order.{IsOrder, atom_cmp};
+ghost use Rattle.day_rows.specs.Rows.{column_of, symbol_of};
 ghost use Rattle.day_rows.specs.Day.{Day, Opened, IsDay, IsUpdate, AreTableKinds, HasColumn, total_rows, arrived};
 
 use crate::admits::{are_updates, total_of};
@@ -172,6 +173,22 @@ impl OpenDay {
         let (from, n) = (from as usize, n as usize);
         let part = self.updates.column(alloc, table, index, kind, from, n)?;
         Ok(part)
+    }
+
+    // A table's rows ordered by symbol, ties by arrival. `kinds` are those of its columns.
+    pub(crate) fn symbol_order(
+        &self,
+        alloc: Global,
+        table: u32,
+        kinds: &Kinds,
+    ) -> Result<Vec<u32>, NoMemory>
+        requires exists { slice_get self.now.day.kinds table ≡ Some kinds.now }
+        requires first { AreTableKinds kinds.now }
+        ensures { IfOk result (λ order. IsOrder atom_cmp (map symbol_of (arrived self.now.day table)) order.items) }
+    {
+        let rows = self.rows(table) as usize;
+        let order = self.updates.order(alloc, table, 1, rows)?;
+        Ok(order)
     }
 
     /// The order that the day's rows have once it has ended: by symbol, then by arrival.

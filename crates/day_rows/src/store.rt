@@ -1,15 +1,18 @@
 //! The updates that a date has and is to have, in blocks.
-ghost use Rattle.std.specs.Prelude.{◌≡◌, ◌<◌, ◌≤◌, ◌+◌, ◌^◌, ◌++◌, [], ◌∷◌, length, take, drop, get_or, IfOk, OnOk, OnErr};
+ghost use Rattle.std.specs.Prelude.{◌≡◌, ◌<◌, ◌≤◌, ◌+◌, ◌^◌, ◌++◌, [], ◌∷◌, length, map, take, drop, get_or, IfOk, OnOk, OnErr};
 ghost use Rattle.std.specs.List.{AllByRecursion, flat_map};
 ghost use Rattle.day_rows.specs.Blocks.{updates_in, Grew, IsStore};
 ghost use Rattle.day_rows.specs.Day.{IsUpdate, total_rows};
+ghost use Rattle.q_values.specs.Order.{IsOrder, atom_cmp};
+ghost use Rattle.q_values.specs.declared.atom.Atom.TheVariants as a;
 ghost use Rattle.day_rows.specs.Joined.{joined};
 
 use crate::block::{Block, SharedBlock};
-use crate::copies::{append_block, join_blocks};
+use crate::copies::{add_symbols, append_block, join_blocks};
 use crate::entry::Entry;
 use crate::schema::Kinds;
-use q_values::{Kind, NoMemory, Vector};
+use q_groups::Groups;
+use q_values::{Kind, NoMemory, Symbols, Vector};
 use std::alloc::Global;
 use std::mem;
 
@@ -175,6 +178,36 @@ impl Store {
         let (mut found, skip) = join_blocks(alloc, &self.blocks, table, column, kind, from, n)?;
         append_block(&mut found, &self.last, table, column, skip, n)?;
         Ok(found)
+    }
+
+    // The symbols of a table's column, lent, in the order of arrival.
+    fn symbols(&self, alloc: Global, table: u32, column: usize) -> Result<Vec<&Symbols>, NoMemory>
+        ensures { IfOk result (λ parts. map (λ t. a.Symbol t) (flat_map (λ part. part.now) parts.items)
+            ≡ joined table column (updates_in self.now.blocks.items self.now.last)) }
+    {
+        let mut parts = Vec::with_capacity(alloc, self.blocks.len())?;
+        for block in &self.blocks {
+            add_symbols(&mut parts, block.block(), table, column)?;
+        }
+        add_symbols(&mut parts, &self.last, table, column)?;
+        Ok(parts)
+    }
+
+    /// The first `n` rows of a table in the order of a column of symbols, ties by arrival.
+    pub fn order(
+        &self,
+        alloc: Global,
+        table: u32,
+        column: usize,
+        n: usize,
+    ) -> Result<Vec<u32>, NoMemory>
+        ensures { IfOk result (λ order. IsOrder atom_cmp
+            (take n (joined table column (updates_in self.now.blocks.items self.now.last))) order.items) }
+    {
+        let parts = self.symbols(alloc, table, column)?;
+        let groups = Groups::of_symbols(alloc, &parts, n)?;
+        let order = groups.order(alloc)?;
+        Ok(order)
     }
 
     /// Copies of the first updates: those of the first `sealed` blocks, and `n` more. `kinds` are those of each table's

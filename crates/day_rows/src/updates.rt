@@ -1,6 +1,7 @@
 //! The updates of a date, and those that room was made for.
 ghost use Rattle.std.specs.Prelude.{◌≡◌, ◌<◌, ◌≤◌, ◌+◌, ◌^◌, ◌++◌, [], ◌∷◌, length, take, drop, replicate, get_or, set, IfOk, OnOk, OnErr};
 ghost use Rattle.std.specs.List.{AllByRecursion, sum_by};
+ghost use Rattle.q_values.specs.Order.{IsOrder, atom_cmp};
 ghost use Rattle.day_rows.specs.Blocks.{mark_of, IsPlace};
 ghost use Rattle.day_rows.specs.Day.{IsUpdate, entry_rows, total_rows};
 ghost use Rattle.day_rows.specs.Joined.{joined, rows_in};
@@ -250,6 +251,21 @@ impl Updates {
     {
         let found = self.store.column(alloc, table, column, kind, from, n)?;
         Ok(found)
+    }
+
+    /// The first `n` rows of a table in the order of a column of symbols, ties by arrival.
+    pub fn order(
+        &self,
+        alloc: Global,
+        table: u32,
+        column: usize,
+        n: usize,
+    ) -> Result<Vec<u32>, NoMemory>
+        requires { n ≤ length (joined table column self.now.updates) }
+        ensures { IfOk result (λ order. IsOrder atom_cmp (take n (joined table column self.now.updates)) order.items) }
+    {
+        let order = self.store.order(alloc, table, column, n)?;
+        Ok(order)
     }
 
     /// Copies of the updates, in order. `kinds` are those of each table's columns.
