@@ -46,6 +46,9 @@ fn kept_of_many(alloc: Global, count: i64) -> Result<Vector, q_values::NoMemory>
     }
     let booleans = Vector::from_column(Column::Booleans(bits));
     let longs = Vector::from_column(Column::Longs(LongKind::Long, items));
+    if longs.len() != booleans.len() {
+        return Ok(longs);
+    }
     let places = places_where(alloc, &booleans)?;
     let kept = longs.gather(alloc, &places)?;
     Ok(kept)

@@ -8,8 +8,12 @@ use Rattle.q_verbs.specs.declared.wide.Wide.{Wide}
 use Rattle.q_verbs.specs.declared.wide.Wide.TheVariants.{Lent, Made}
 use Rattle.q_verbs.specs.declared.wide.WideSide.{WideSide}
 use Rattle.q_verbs.specs.declared.wide.WideSide.TheVariants as s
-use Rattle.q_verbs.specs.Numbers.{Worth, numeric, number_in, written, least}
-use Rattle.q_verbs.specs.Places.{Operation, of_both}
+use Rattle.q_verbs.specs.Numbers.{Worth, numeric, number_in, worth, written, least}
+use Rattle.q_verbs.specs.Places.{Operation, operation, of_both}
+use Rattle.q_verbs.specs.Sides.{side_kind, spread}
+use Rattle.q_verbs.specs.declared.side.Side.{Side}
+use Rattle.q_verbs.specs.declared.verb.Verb.{Verb}
+use Rattle.std.specs.Simd.Lanes.{zip2}
 
 -- an operation's result in 64 bits, for two numbers or nulls
 abbrev pub computed : Operation → Option ℤ → Option ℤ → Option ℤ
@@ -22,6 +26,17 @@ worth_in_64 x = numeric (number_in w64 x)
 -- the operation's result for two values, in this kind
 abbrev pub given : Kind → Operation → Worth → Worth → Atom
 given kind f x y = written kind (of_both f x.number y.number)
+
+-- the operation's results for each two items, whose numbers these are, in this kind
+abbrev pub given_items : {X : Type 0} → Kind → Operation → (X → Option ℤ) → List X → List X → List Atom
+given_items kind f number xs ys = zip2 (λ x y. given kind f (numeric (number x)) (numeric (number y))) xs ys
+
+-- the verb's results for n items of two sides, in this kind
+abbrev pub computed_sides : Verb → Kind → ℕ → Side → Side → List Atom
+computed_sides verb kind n left right =
+    zip2
+    (λ x y. given kind (operation verb (side_kind left) (side_kind right)) (worth x) (worth y))
+    (spread n left) (spread n right)
 
 -- a column of 64 bits, as it was lent or made
 abbrev pub wide_items : Wide → List ℤ

@@ -5,10 +5,10 @@ ghost use Rattle.q_values.specs.Column.{contents, integer_kind, long_kind};
 ghost use Rattle.q_values.specs.declared.kind.Kind.TheVariants as k;
 ghost use Rattle.q_verbs.specs.Kinds.{is_computed};
 ghost use Rattle.q_verbs.specs.Lanes.{lane_items};
-ghost use Rattle.q_verbs.specs.Numbers.{numeric, number_in, worth, written};
+ghost use Rattle.q_verbs.specs.Numbers.{number_in, worth, written};
 ghost use Rattle.std.specs.Int.{w32};
 ghost use Rattle.q_verbs.specs.Places.{operation, computes};
-ghost use Rattle.q_verbs.specs.Loops.{computed, given};
+ghost use Rattle.q_verbs.specs.Loops.{computed, given_items, computed_sides};
 ghost use Rattle.q_verbs.specs.Sides.{side_kind, spread};
 
 use crate::cells::Cells;
@@ -16,8 +16,8 @@ use crate::kinds::have;
 use crate::lane::{Lane, zip_lanes};
 use crate::number::{Number, Reduced};
 use crate::operation::{
-    Computed, DaysAndSpan, Difference, Greater, Lesser, Multiple, Product, Quotient, Remainder,
-    SpanAndDays, Sum,
+    Computed, DaysAndSpan, Difference, Greater, Lesser, Multiple, Operation, Product, Quotient,
+    Remainder, SpanAndDays, Sum,
 };
 use crate::side::Side;
 use crate::verb::Verb;
@@ -38,6 +38,16 @@ struct Task<'a, T: Number> {
 }
 
 impl<T: Number> Task<'_, T> {
+    // The operation's results, in the width of U.
+    fn results<P: Operation, U: Reduced>(&self, alloc: Global) -> Result<Vec<U>, AllocError>
+        requires left { length (lane_items self.now.count self.now.left) ≡ self.now.count }
+        requires right { length (lane_items self.now.count self.now.right) ≡ self.now.count }
+        ensures { IfOk result (λ v. v.items ≡ zip2 (λ x y. U.of (computed P.value (T.number x) (T.number y)))
+            (lane_items self.now.count self.now.left) (lane_items self.now.count self.now.right)) }
+    {
+        zip_lanes::<Computed<P>, T, U>(alloc, self.count, &self.left, &self.right)
+    }
+
     fn values<U: Reduced>(&self, alloc: Global) -> Result<Vec<U>, AllocError>
         requires verb { IsTrue (computes self.now.verb) }
         requires left { length (lane_items self.now.count self.now.left) ≡ self.now.count }
@@ -49,48 +59,13 @@ impl<T: Number> Task<'_, T> {
     {
         match self.verb {
             Verb::Add => self.sums(alloc),
-            Verb::Sub => zip_lanes::<Computed<Difference>, T, U>(
-                alloc,
-                self.count,
-                &self.left,
-                &self.right,
-            ),
-            Verb::Mul => zip_lanes::<Computed<Product>, T, U>(
-                alloc,
-                self.count,
-                &self.left,
-                &self.right,
-            ),
-            Verb::Div => zip_lanes::<Computed<Quotient>, T, U>(
-                alloc,
-                self.count,
-                &self.left,
-                &self.right,
-            ),
-            Verb::Mod => zip_lanes::<Computed<Remainder>, T, U>(
-                alloc,
-                self.count,
-                &self.left,
-                &self.right,
-            ),
-            Verb::Xbar => zip_lanes::<Computed<Multiple>, T, U>(
-                alloc,
-                self.count,
-                &self.left,
-                &self.right,
-            ),
-            Verb::Lesser => zip_lanes::<Computed<Lesser>, T, U>(
-                alloc,
-                self.count,
-                &self.left,
-                &self.right,
-            ),
-            Verb::Greater => zip_lanes::<Computed<Greater>, T, U>(
-                alloc,
-                self.count,
-                &self.left,
-                &self.right,
-            ),
+            Verb::Sub => self.results::<Difference, U>(alloc),
+            Verb::Mul => self.results::<Product, U>(alloc),
+            Verb::Div => self.results::<Quotient, U>(alloc),
+            Verb::Mod => self.results::<Remainder, U>(alloc),
+            Verb::Xbar => self.results::<Multiple, U>(alloc),
+            Verb::Lesser => self.results::<Lesser, U>(alloc),
+            Verb::Greater => self.results::<Greater, U>(alloc),
             _ => unreachable!(),
         }
     }
@@ -105,11 +80,11 @@ impl<T: Number> Task<'_, T> {
             (lane_items self.now.count self.now.left) (lane_items self.now.count self.now.right)) }
     {
         if have(Kind::Date, Kind::Timespan, self.left_kind, self.right_kind) {
-            zip_lanes::<Computed<DaysAndSpan>, T, U>(alloc, self.count, &self.left, &self.right)
+            self.results::<DaysAndSpan, U>(alloc)
         } else if have(Kind::Timespan, Kind::Date, self.left_kind, self.right_kind) {
-            zip_lanes::<Computed<SpanAndDays>, T, U>(alloc, self.count, &self.left, &self.right)
+            self.results::<SpanAndDays, U>(alloc)
         } else {
-            zip_lanes::<Computed<Sum>, T, U>(alloc, self.count, &self.left, &self.right)
+            self.results::<Sum, U>(alloc)
         }
     }
 
@@ -119,9 +94,7 @@ impl<T: Number> Task<'_, T> {
         requires right { length (lane_items self.now.count self.now.right) ≡ self.now.count }
         ensures { IfOk result (λ c. contents c ≡ record {
           kind = k.Short;
-          atoms = zip2
-              (λ x y. given k.Short (operation self.now.verb self.now.left_kind self.now.right_kind)
-              (numeric (T.number x)) (numeric (T.number y)))
+          atoms = given_items k.Short (operation self.now.verb self.now.left_kind self.now.right_kind) T.number
               (lane_items self.now.count self.now.left) (lane_items self.now.count self.now.right);
         }) }
     {
@@ -134,9 +107,7 @@ impl<T: Number> Task<'_, T> {
         requires right { length (lane_items self.now.count self.now.right) ≡ self.now.count }
         ensures { IfOk result (λ c. contents c ≡ record {
           kind = integer_kind kind;
-          atoms = zip2
-              (λ x y. given (integer_kind kind) (operation self.now.verb self.now.left_kind self.now.right_kind)
-              (numeric (T.number x)) (numeric (T.number y)))
+          atoms = given_items (integer_kind kind) (operation self.now.verb self.now.left_kind self.now.right_kind) T.number
               (lane_items self.now.count self.now.left) (lane_items self.now.count self.now.right);
         }) }
     {
@@ -149,9 +120,7 @@ impl<T: Number> Task<'_, T> {
         requires right { length (lane_items self.now.count self.now.right) ≡ self.now.count }
         ensures { IfOk result (λ c. contents c ≡ record {
           kind = long_kind kind;
-          atoms = zip2
-              (λ x y. given (long_kind kind) (operation self.now.verb self.now.left_kind self.now.right_kind)
-              (numeric (T.number x)) (numeric (T.number y)))
+          atoms = given_items (long_kind kind) (operation self.now.verb self.now.left_kind self.now.right_kind) T.number
               (lane_items self.now.count self.now.left) (lane_items self.now.count self.now.right);
         }) }
     {
@@ -167,9 +136,7 @@ impl<T: Number> Task<'_, T> {
         requires right { length (lane_items self.now.count self.now.right) ≡ self.now.count }
         ensures { IfOk result (λ c. contents c ≡ record {
           kind = kind;
-          atoms = zip2
-              (λ x y. given kind (operation self.now.verb self.now.left_kind self.now.right_kind)
-              (numeric (T.number x)) (numeric (T.number y)))
+          atoms = given_items kind (operation self.now.verb self.now.left_kind self.now.right_kind) T.number
               (lane_items self.now.count self.now.left) (lane_items self.now.count self.now.right);
         }) }
     {
@@ -191,17 +158,15 @@ fn arithmetic_in_64(
     left: &Side<'_>,
     right: &Side<'_>,
 ) -> Result<Column, NoMemory>
-    requires verb { IsTrue (computes verb) }
-    requires kind { IsTrue (is_computed kind) }
-    requires some { side_kind left.now ≢ k.Symbol }
-    requires others { side_kind right.now ≢ k.Symbol }
     requires left { length (spread count left.now) ≡ count }
     requires right { length (spread count right.now) ≡ count }
+    requires verb { IsTrue (computes verb) }
+    requires some { side_kind left.now ≢ k.Symbol }
+    requires kind { IsTrue (is_computed kind) }
+    requires others { side_kind right.now ≢ k.Symbol }
     ensures { IfOk result (λ c. contents c ≡ record {
       kind = kind;
-      atoms = zip2
-          (λ x y. given kind (operation verb (side_kind left.now) (side_kind right.now)) (worth x) (worth y))
-          (spread count left.now) (spread count right.now);
+      atoms = computed_sides verb kind count left.now right.now;
     }) }
 {
     let some = WideSide::of(alloc, left)?;
@@ -218,8 +183,8 @@ fn arithmetic_in_64(
     Ok(column)
 }
 
-// The verb's results for two sides, in this kind: in 32 bits where all three have that width.
-fn arithmetic_of_sides(
+/// The verb's results for two sides, item by item, in this kind: in 32 bits where all three have that width.
+pub(crate) fn arithmetic(
     alloc: Global,
     verb: Verb,
     kind: Kind,
@@ -235,9 +200,7 @@ fn arithmetic_of_sides(
     requires right { length (spread count right.now) ≡ count }
     ensures { IfOk result (λ c. contents c ≡ record {
       kind = kind;
-      atoms = zip2
-          (λ x y. given kind (operation verb (side_kind left.now) (side_kind right.now)) (worth x) (worth y))
-          (spread count left.now) (spread count right.now);
+      atoms = computed_sides verb kind count left.now right.now;
     }) }
 {
     match (Cells::of(left), Cells::of(right), kind.storage()) {
@@ -259,32 +222,6 @@ fn arithmetic_of_sides(
         }
         _ => arithmetic_in_64(alloc, verb, kind, count, left, right),
     }
-}
-
-/// The verb's results for two sides, item by item, in this kind.
-pub(crate) fn arithmetic(
-    alloc: Global,
-    verb: Verb,
-    kind: Kind,
-    count: usize,
-    left: &Side<'_>,
-    right: &Side<'_>,
-) -> Result<Vector, NoMemory>
-    requires verb { IsTrue (computes verb) }
-    requires kind { IsTrue (is_computed kind) }
-    requires some { side_kind left.now ≢ k.Symbol }
-    requires others { side_kind right.now ≢ k.Symbol }
-    requires left { length (spread count left.now) ≡ count }
-    requires right { length (spread count right.now) ≡ count }
-    ensures { IfOk result (λ v. v ≡ record {
-      kind = kind;
-      atoms = zip2
-          (λ x y. given kind (operation verb (side_kind left.now) (side_kind right.now)) (worth x) (worth y))
-          (spread count left.now) (spread count right.now);
-    }) }
-{
-    let column = arithmetic_of_sides(alloc, verb, kind, count, left, right)?;
-    Ok(Vector::from_column(column))
 }
 
 // Each number of 64 bits negated, in this kind.

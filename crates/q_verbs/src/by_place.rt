@@ -87,7 +87,7 @@ fn binary_of_kind(
         let values = choice(alloc, verb, count, left, right)?;
         Ok(values)
     } else {
-        let values = arithmetic(alloc, verb, kind, count, left, right)?;
-        Ok(values)
+        let column = arithmetic(alloc, verb, kind, count, left, right)?;
+        Ok(Vector::from_column(column))
     }
 }

@@ -3,17 +3,18 @@ ghost use Rattle.std.specs.Prelude.{◌≡◌, IsTrue, if◌then◌else◌, leng
 ghost use Rattle.std.specs.Simd.Lanes.{zip2};
 ghost use Rattle.q_values.specs.Column.{contents};
 ghost use Rattle.q_verbs.specs.Kinds.{is_number};
+ghost use Rattle.q_verbs.specs.Lanes.{lane_items};
 ghost use Rattle.q_verbs.specs.Numbers.{worth, worth_cmp};
 ghost use Rattle.q_verbs.specs.Places.{is_choice, chosen};
 ghost use Rattle.q_verbs.specs.Sides.{side_kind, spread};
 
 use crate::cells::Cells;
 use crate::comparison::{AtLeast, AtMost, Ordered, Relation};
-use crate::lane::{Step, zip_lanes};
+use crate::lane::{Lane, Step, zip_lanes};
 use crate::side::Side;
 use crate::verb::Verb;
 use q_values::{Column, NoMemory, Vector};
-use std::alloc::Global;
+use std::alloc::{AllocError, Global};
 
 // The first item where it is in the relation to the second one, and else the second one.
 struct Chosen<P>(P);
@@ -27,6 +28,22 @@ impl<P: Relation, T: Ordered> Step<T, T> for Chosen<P> {
     fn apply(x: &T, y: &T) -> T {
         if P::holds(x.order(y)) { *x } else { *y }
     }
+}
+
+// At each index the left item where it is in the relation to the right one, and else the right one.
+fn choose_items<P: Relation, T: Ordered>(
+    alloc: Global,
+    count: usize,
+    left: &Lane<'_, T>,
+    right: &Lane<'_, T>,
+) -> Result<Vec<T>, AllocError>
+    requires left { length (lane_items count left.now) ≡ count }
+    requires right { length (lane_items count right.now) ≡ count }
+    ensures { IfOk result (λ v. v.items ≡ zip2
+        (λ x y. if P.relates (worth_cmp (T.own_worth x) (T.own_worth y)) then x else y)
+        (lane_items count left.now) (lane_items count right.now)) }
+{
+    zip_lanes::<Chosen<P>, T, T>(alloc, count, left, right)
 }
 
 fn choose_sides<P: Relation>(
@@ -46,28 +63,21 @@ fn choose_sides<P: Relation>(
     }) }
 {
     match (Cells::of(left), Cells::of(right)) {
-        (Cells::Booleans(some), Cells::Booleans(others)) => Ok(Column::Booleans(zip_lanes::<
-            Chosen<P>,
-            bool,
-            bool,
-        >(alloc, count, &some, &others)?)),
-        (Cells::Bytes(kind, some), Cells::Bytes(_, others)) => Ok(Column::Bytes(
-            kind,
-            zip_lanes::<Chosen<P>, u8, u8>(alloc, count, &some, &others)?,
-        )),
-        (Cells::Shorts(some), Cells::Shorts(others)) => Ok(Column::Shorts(zip_lanes::<
-            Chosen<P>,
-            i16,
-            i16,
-        >(alloc, count, &some, &others)?)),
-        (Cells::Integers(kind, some), Cells::Integers(_, others)) => Ok(Column::Integers(
-            kind,
-            zip_lanes::<Chosen<P>, i32, i32>(alloc, count, &some, &others)?,
-        )),
-        (Cells::Longs(kind, some), Cells::Longs(_, others)) => Ok(Column::Longs(
-            kind,
-            zip_lanes::<Chosen<P>, i64, i64>(alloc, count, &some, &others)?,
-        )),
+        (Cells::Booleans(some), Cells::Booleans(others)) => {
+            Ok(Column::Booleans(choose_items::<P, bool>(alloc, count, &some, &others)?))
+        }
+        (Cells::Bytes(kind, some), Cells::Bytes(_, others)) => {
+            Ok(Column::Bytes(kind, choose_items::<P, u8>(alloc, count, &some, &others)?))
+        }
+        (Cells::Shorts(some), Cells::Shorts(others)) => {
+            Ok(Column::Shorts(choose_items::<P, i16>(alloc, count, &some, &others)?))
+        }
+        (Cells::Integers(kind, some), Cells::Integers(_, others)) => {
+            Ok(Column::Integers(kind, choose_items::<P, i32>(alloc, count, &some, &others)?))
+        }
+        (Cells::Longs(kind, some), Cells::Longs(_, others)) => {
+            Ok(Column::Longs(kind, choose_items::<P, i64>(alloc, count, &some, &others)?))
+        }
         _ => unreachable!(),
     }
 }

@@ -34,8 +34,8 @@ returns-in_ok-values-2 c =
     let row = choice_row c.args.verb (side_kind c.args.left.now) (side_kind c.args.right.now) c.args.kind c.requires.row compares chooses in
     c.in_ok-values-2.ensures ∙ (λ i. of_atoms (sym row.2 i) (chosen_values c.args.verb (side_kind c.args.left.now) (side_kind c.args.right.now) c.args.kind (spread c.args.count c.args.left.now) (spread c.args.count c.args.right.now) compares chooses i))
 
-pub returns-in_ok-values-3 : goal.returns-in_ok-values-3
-returns-in_ok-values-3 c =
+pub returns-in_ok-column : goal.returns-in_ok-column
+returns-in_ok-column c =
     let compares : is_comparison c.args.verb ≡ false = cc in
     let chooses : (is_choice c.args.verb && is (side_kind c.args.left.now) (side_kind c.args.right.now)) ≡ false = cc in
-    c.in_ok-values-3.ensures ∙ ap (of_atoms c.args.kind) (computed_values c.args.verb (side_kind c.args.left.now) (side_kind c.args.right.now) c.args.kind (spread c.args.count c.args.left.now) (spread c.args.count c.args.right.now) compares chooses)
+    c.from_column.ensures ∙ c.in_ok-column.ensures ∙ ap (of_atoms c.args.kind) (computed_values c.args.verb (side_kind c.args.left.now) (side_kind c.args.right.now) c.args.kind (spread c.args.count c.args.left.now) (spread c.args.count c.args.right.now) compares chooses)

@@ -13,7 +13,7 @@ use Rattle.q_verbs.specs.Sides.{side_kind, spread}
 use Rattle.q_verbs.proofs.SideLemmas.{worth-mapped}
 use Rattle.q_verbs.proofs.WorthLemmas.{worth-integer}
 use Rattle.q_verbs.proofs.WrittenLemmas.{values-given}
-use Rattle.q_verbs.proofs.arithmetic.arithmetic_of_sides.Goals as goal
+use Rattle.q_verbs.proofs.arithmetic.arithmetic.Goals as goal
 
 pub returns-in_ok-column-in-Integers-Integers-Integer : goal.returns-in_ok-column-in-Integers-Integers-Integer
 returns-in_ok-column-in-Integers-Integers-Integer c =
