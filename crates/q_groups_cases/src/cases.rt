@@ -110,8 +110,8 @@ fn as_many_as_a_day_has(rt: HostRuntime) -> Result<(), Fail> {
         let order = groups.order(alloc)?;
         let plain = longs.order(alloc)?;
         assert_eq!(&rt; order.len(), plain.len());
-        for i in 0..ROWS {
-            assert_eq!(&rt; order.as_slice()[i] as usize, plain.as_slice()[i]);
+        for (place, wanted) in order.iter().zip(plain.as_slice()) {
+            assert_eq!(&rt; *place as usize, *wanted);
         }
     }
     Ok(())
