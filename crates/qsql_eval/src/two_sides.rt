@@ -109,7 +109,12 @@ fn of_items<'b>(
 }
 
 // A verb by item, where an atom goes with each item of the other side.
-fn by_item<'b>(alloc: Global, verb: Verb, left: &Operand, right: &Operand) -> Result<Operand<'b>, NoMemory>
+fn by_item<'b>(
+    alloc: Global,
+    verb: Verb,
+    left: &Operand,
+    right: &Operand,
+) -> Result<Operand<'b>, NoMemory>
     requires verb { IsTrue (is_by_place verb) }
     requires row { IsSome (result_kind_of verb (kind_of_tree (operand_tree left.now)) (kind_of_tree (operand_tree right.now))) }
     requires even { AreEven (operand_tree left.now) (operand_tree right.now) }
@@ -226,7 +231,12 @@ fn like<'b>(alloc: Global, left: &Operand, right: &Operand) -> Result<Operand<'b
 }
 
 /// The verb's result for two values.
-pub fn apply_two<'b>(alloc: Global, verb: Verb, left: &Operand, right: &Operand) -> Result<Operand<'b>, NoMemory>
+pub fn apply_two<'b>(
+    alloc: Global,
+    verb: Verb,
+    left: &Operand,
+    right: &Operand,
+) -> Result<Operand<'b>, NoMemory>
     requires row { IsSome (result_kind_of verb (kind_of_tree (operand_tree left.now)) (kind_of_tree (operand_tree right.now))) }
     requires sides { AreSides verb (operand_tree left.now) (operand_tree right.now) }
     ensures value { IfOk result (λ v. operand_tree v ≡ value_of_two verb (operand_tree left.now) (operand_tree right.now)) }

@@ -10,4 +10,4 @@ use Rattle.qsql_eval.proofs.two_sides.of_atom_and_items.Goals as goal
 pub returns-clause-value : goal.returns-clause-value
 returns-clause-value c =
     ap vector
-      (c.in_ok-made.ensures.value ∙ ap (λ (l : List Atom). record { kind = kind_with c.args.verb (kind_of c.args.left.now) c.args.right.now.kind; atoms = l }) (beside_left (value_of c.args.verb (kind_of c.args.left.now) c.args.right.now.kind (kind_with c.args.verb (kind_of c.args.left.now) c.args.right.now.kind)) c.args.left.now c.args.right.now.atoms))
+    (c.in_ok-made.ensures.value ∙ ap (λ (l : List Atom). record { kind = kind_with c.args.verb (kind_of c.args.left.now) c.args.right.now.kind; atoms = l }) (beside_left (value_of c.args.verb (kind_of c.args.left.now) c.args.right.now.kind (kind_with c.args.verb (kind_of c.args.left.now) c.args.right.now.kind)) c.args.left.now c.args.right.now.atoms))

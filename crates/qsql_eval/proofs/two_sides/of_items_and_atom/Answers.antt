@@ -10,4 +10,4 @@ use Rattle.qsql_eval.proofs.two_sides.of_items_and_atom.Goals as goal
 pub returns-clause-value : goal.returns-clause-value
 returns-clause-value c =
     ap vector
-      (c.in_ok-made.ensures.value ∙ ap (λ (l : List Atom). record { kind = kind_with c.args.verb c.args.left.now.kind (kind_of c.args.right.now); atoms = l }) (beside_right (value_of c.args.verb c.args.left.now.kind (kind_of c.args.right.now) (kind_with c.args.verb c.args.left.now.kind (kind_of c.args.right.now))) c.args.left.now.atoms c.args.right.now))
+    (c.in_ok-made.ensures.value ∙ ap (λ (l : List Atom). record { kind = kind_with c.args.verb c.args.left.now.kind (kind_of c.args.right.now); atoms = l }) (beside_right (value_of c.args.verb c.args.left.now.kind (kind_of c.args.right.now) (kind_with c.args.verb c.args.left.now.kind (kind_of c.args.right.now))) c.args.left.now.atoms c.args.right.now))
