@@ -1,4 +1,5 @@
 pub mod BesideLemmas
 pub mod FrameLemmas
 pub mod OperandLemmas
+pub mod PlacesLemmas
 pub mod ShapeLemmas

@@ -4,4 +4,6 @@ pub mod Judgement
 pub mod Values
 pub mod Meaning
 pub mod Operands
+pub mod Places
+pub mod Spans
 pub mod Views

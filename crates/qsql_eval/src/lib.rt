@@ -16,16 +16,22 @@
 
 mod beside;
 mod checking;
+mod keeping;
 mod kinds;
+mod limiting;
 mod one_side;
 mod operand;
+mod rows;
 mod scope;
 mod two_sides;
 mod typed;
 mod values;
 
 pub use checking::check;
+pub use keeping::kept_columns;
+pub use limiting::{limited, limited_held};
 pub use operand::{Held, Operand};
+pub use rows::Rows;
 pub use scope::Scope;
 pub use typed::{CheckRefusal, Typed};
 pub use values::value_of;
