@@ -5,5 +5,6 @@ pub mod Values
 pub mod Meaning
 pub mod Operands
 pub mod Places
+pub mod Ready
 pub mod Spans
 pub mod Views

@@ -112,8 +112,8 @@ fn filtered(
     }
 }
 
-/// The columns of the rows that the phrases keep, from left to right.
-pub fn kept_columns(
+// The columns of the rows that the phrases keep, from left to right.
+fn kept_columns(
     alloc: Global,
     phrases: &[Expr],
     names: &[Sym],
@@ -130,4 +130,22 @@ pub fn kept_columns(
         columns = filtered(alloc, phrase, names, &columns)?;
     }
     Ok(columns)
+}
+
+/// The columns of the rows that the phrases keep, of which there is at least one, from left to right.
+pub fn kept_rows(
+    alloc: Global,
+    phrases: &[Expr],
+    names: &[Sym],
+    columns: &[Vector],
+) -> Result<Vec<Vector>, NoMemory>
+    requires some { 0 < length phrases.now }
+    requires columns { AreColumns names.now columns.now }
+    requires kinds { All (λ p. kind_in (kind_beside (frame_of names.now columns.now)) (form p) ≡ Some k.Boolean) phrases.now }
+    requires built { All (λ p. is_unbuilt_phrase (form p) ≡ false) phrases.now }
+    ensures columns { IfOk result (λ v. AreColumns names.now v.items) }
+    ensures rows { IfOk result (λ v. frame_of names.now v.items ≡ kept (map form phrases.now) (frame_of names.now columns.now)) }
+{
+    let first = filtered(alloc, &phrases[0], names, columns)?;
+    kept_columns(alloc, &phrases[1..], names, first)
 }

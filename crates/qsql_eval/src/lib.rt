@@ -16,6 +16,8 @@
 
 mod beside;
 mod checking;
+mod evaluation;
+mod executing;
 mod keeping;
 mod kinds;
 mod limiting;
@@ -23,15 +25,12 @@ mod one_side;
 mod operand;
 mod rows;
 mod scope;
+mod selecting;
 mod two_sides;
 mod typed;
 mod values;
 
 pub use checking::check;
-pub use keeping::kept_columns;
-pub use limiting::{limited, limited_held};
-pub use operand::{Held, Operand};
+pub use evaluation::eval;
 pub use rows::Rows;
-pub use scope::Scope;
 pub use typed::{CheckRefusal, Typed};
-pub use values::value_of;
