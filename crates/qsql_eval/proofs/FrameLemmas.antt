@@ -1,10 +1,10 @@
 -- Rows of columns: reading a column, and keeping rows.
-use Rattle.std.proofs.Common.{◌≡◌, ℕ, ◌+◌, ◌<◌, ◌≤◌, Bool, true, false, cond, List, [], ◌∷◌, ◌++◌, length, get_or, take, drop, map, replicate, refl, sym, ap, ap₂, ◌∙◌, arith, zero, suc, All, Option, Some, None, Bor}
+use Rattle.std.proofs.Common.{◌≡◌, ℕ, ◌==◌, ◌&&◌, ◌+◌, ◌<◌, ◌≤◌, Bool, true, false, cond, List, [], ◌∷◌, ◌++◌, length, get_or, take, drop, map, replicate, refl, sym, ap, ap₂, ◌∙◌, arith, zero, suc, All, Option, Some, None, Bor}
 use Rattle.std.specs.Prelude.{option_map, option_copied, unwrap_or, is_some}
 use Rattle.std.specs.Str.{bytes_eq}
 use Rattle.std.specs.Simd.Lanes.{zip2}
 use Rattle.std.proofs.lemmas.List.{length-replicate}
-use Rattle.std.proofs.lemmas.List.Elements.{All-head, All-tail}
+use Rattle.std.proofs.lemmas.List.Elements.{All-nil, All-cons, All-head, All-tail}
 use Rattle.q_values.specs.Contents.{Contents}
 use Rattle.q_values.specs.Table.{rows_of}
 use Rattle.q_values.specs.declared.atom.Atom.{Atom}
@@ -12,7 +12,7 @@ use Rattle.q_values.specs.declared.kind.Kind.{Kind}
 use Rattle.q_values.specs.declared.kind.Kind.TheVariants as k
 use Rattle.day_rows.specs.Rows.{absent}
 use Rattle.qsql_eval.specs.Beside.{beside}
-use Rattle.qsql_eval.specs.Frames.{Frame, field_in, column_in, rows_beside, frame_of, AreColumns, kind_beside}
+use Rattle.qsql_eval.specs.Frames.{Frame, field_in, column_in, rows_beside, frame_of, AreColumns, are_even, kind_beside}
 
 abbrev pub Even : ℕ → List Contents → Type 0
 Even n columns = All (λ (c : Contents). length c.atoms ≡ n) columns
@@ -113,3 +113,31 @@ never-missing names columns name o is none some =
     cc
 
 pub ruleset lent = (column-lent, kind-lent, some-lent)
+
+pub kind_lent : (name : List ℕ) (names : List (List ℕ)) (columns : List Contents) → beside name names (map (λ (d : Contents). d.kind) columns) ≡ option_map (λ (d : Contents). d.kind) (beside name names columns)
+kind_lent name names columns = beside-map (λ (d : Contents). d.kind) name names columns
+
+pub kind_some : (name : List ℕ) (names : List (List ℕ)) (columns : List Contents) (c : Contents) → Some c ≡ beside name names columns → Some c.kind ≡ beside name names (map (λ (d : Contents). d.kind) columns)
+kind_some name names columns c found = sym (kind-lent names columns name c (sym found))
+
+pub kind_none : (name : List ℕ) (names : List (List ℕ)) (columns : List Contents) → None ≡ beside name names columns → None ≡ beside name names (map (λ (d : Contents). d.kind) columns)
+kind_none name names columns missing = ap (option_map (λ (d : Contents). d.kind)) missing ∙ sym (kind_lent name names columns)
+
+-- ---- columns of one length, as a test
+
+both : (a b : Bool) → (a && b) ≡ true → (a ≡ true) × (b ≡ true)
+both true b h = (refl, h)
+both false b h = absurd cc
+
+pub even_columns : (n : ℕ) (columns : List Contents) → are_even n columns ≡ true → Even n columns
+even_columns n [] h = All-nil (λ (d : Contents). length d.atoms ≡ n)
+even_columns n (c ∷ columns) h =
+    let b = both (length c.atoms == n) (are_even n columns) h in
+    let here : length c.atoms ≡ n = grind arith in
+    All-cons (λ (d : Contents). length d.atoms ≡ n) c columns here (even_columns n columns b.1)
+
+pub columns_even : (n : ℕ) (columns : List Contents) → Even n columns → are_even n columns ≡ true
+columns_even n [] h = refl
+columns_even n (c ∷ columns) h =
+    let here : (length c.atoms == n) ≡ true = grind (arith, All-head (λ (d : Contents). length d.atoms ≡ n) c columns h) in
+    ap (λ (b : Bool). b && are_even n columns) here ∙ columns_even n columns (All-tail (λ (d : Contents). length d.atoms ≡ n) c columns h)

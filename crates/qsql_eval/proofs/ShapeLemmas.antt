@@ -16,7 +16,7 @@ use Rattle.q_verbs.specs.declared.verb.Verb1.{Verb1}
 use Rattle.q_verbs.specs.declared.verb.Verb1.TheVariants as u
 use Rattle.qsql_request.specs.Forms.{Form, constant, column, one, two}
 use Rattle.qsql_request.specs.Shapes.{shape, shape_of_one, shape_of_two, is_test, is_scalar, is_list, is_rows}
-use Rattle.qsql_request.specs.Unbuilt.{has_unbuilt, is_wrong_right, takes_list, is_like}
+use Rattle.qsql_request.specs.Unbuilt.{has_unbuilt, is_wrong_right, takes_list, is_like, is_unbuilt_phrase}
 use Rattle.qsql_request.specs.declared.shapes.Shape.{Shape}
 use Rattle.qsql_request.specs.declared.shapes.Shape.TheVariants as s
 use Rattle.qsql_eval.specs.Frames.{Frame, field_in}
@@ -220,3 +220,14 @@ right_size e verb left right other is same = rw (is, same) (omega arith)
 
 pub side_of : (columns : List ℕ → Option Kind) (e : Form) (verb : Verb1) (side : Form) → e ≡ one verb side → is_some (kind_in columns e) ≡ true → is_some (kind_in columns side) ≡ true
 side_of columns e verb side is kind = some_side verb (kind_in columns side) (ap (λ (f : Form). is_some (kind_in columns f)) (sym is) ∙ kind)
+
+is_rows_of : (shape : Shape) → not (is_rows shape) ≡ false → shape ≡ s.Rows
+is_rows_of s.Rows h = refl
+is_rows_of s.Scalar h = no_again h
+is_rows_of s.List h = no_again h
+
+-- the value of a phrase has an item for each row
+pub phrase_shape : (frame : Frame) (columns : List ℕ → Option Kind) (e : Form) (t : Tree) → is_some (kind_in columns e) ≡ true → is_unbuilt_phrase e ≡ false → t ≡ val frame e → HasShape (length frame.rows) s.Rows t
+phrase_shape frame columns e t kind built is =
+    let both = neither (has_unbuilt e) (not (is_rows (shape e))) built in
+    subst (HasShape (length frame.rows) s.Rows) (sym is) (subst (λ (of : Shape). HasShape (length frame.rows) of (val frame e)) (is_rows_of (shape e) both.1) (val_shape frame columns e kind both.0))

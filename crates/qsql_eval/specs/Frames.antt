@@ -1,5 +1,6 @@
 -- Rows of a table.
-use Rattle.std.specs.Prelude.{◌≡◌, ℕ, List, [], ◌∷◌, map, length, replicate, Option, unwrap_or, All}
+use Rattle.std.specs.Prelude.{◌≡◌, ◌==◌, ℕ, Bool, List, [], ◌∷◌, map, length, replicate, Option, unwrap_or, All}
+use Rattle.std.specs.List.{list_all}
 use Rattle.std.specs.Simd.Lanes.{zip2}
 use Rattle.q_values.specs.Contents.{Contents}
 use Rattle.q_values.specs.Table.{rows_of}
@@ -40,3 +41,7 @@ pub record AreColumns (names : List (List ℕ)) (columns : List Contents) : Type
 -- the kind of a frame's column
 abbrev pub kind_beside : Frame → List ℕ → Option Kind
 kind_beside frame name = beside name frame.names frame.kinds
+
+-- columns of this length
+abbrev pub are_even : ℕ → List Contents → Bool
+are_even size columns = list_all (λ (c : Contents). length c.atoms == size) columns

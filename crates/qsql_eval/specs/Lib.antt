@@ -4,4 +4,7 @@ pub mod Judgement
 pub mod Values
 pub mod Meaning
 pub mod Operands
+pub mod Places
+pub mod Ready
+pub mod Spans
 pub mod Views

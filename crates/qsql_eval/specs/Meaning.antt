@@ -11,7 +11,7 @@ use Rattle.q_values.specs.declared.kind.Kind.{Kind}
 use Rattle.q_values.specs.declared.kind.Kind.TheVariants as k
 use Rattle.qsql_request.specs.Forms.{Form, ColumnForm, QueryForm}
 use Rattle.qsql_request.specs.Shapes.{is_atom}
-use Rattle.qsql_request.specs.Unbuilt.{column_name}
+use Rattle.qsql_request.specs.Unbuilt.{column_name, is_empty}
 use Rattle.qsql_eval.specs.Frames.{Frame, column_in}
 use Rattle.qsql_eval.specs.Values.{items_in, val, kept}
 
@@ -40,36 +40,41 @@ limited_column first c = record c { atoms = limited first c.atoms }
 abbrev pub grid_of : Option ℤ → List (List ℕ) → List Contents → Tree
 grid_of first names columns = table (record { names = names; columns = map (limited_column first) columns })
 
--- `select`: a table of these columns, or of all columns where it names none
+abbrev pub grid_of_columns : Option ℤ → Frame → List ColumnForm → Tree
+grid_of_columns first frame cs = grid_of first (map column_name cs) (map (spread (row_count frame (values_of frame cs))) (values_of frame cs))
+
+-- `select`: a table of its columns, or of all columns where it names none
 abbrev pub selection : List (List ℕ) → QueryForm → Frame → Tree
-selection all q frame = selection_of q.columns
-  where
-    selection_of : List ColumnForm → Tree
-    selection_of [] = grid_of q.first all (map (column_in frame) all)
-    selection_of cs = grid_of q.first (map column_name cs) (map (spread (row_count frame (values_of frame cs))) (values_of frame cs))
+selection all q frame = if is_empty q.columns then grid_of q.first all (map (column_in frame) all) else grid_of_columns q.first frame q.columns
 
 abbrev pub is_atom_of : Kind → Tree → Bool
 is_atom_of kind (atom x) = is (kind_of x) kind
 is_atom_of kind value = false
 
+-- the kind of values that are all atoms of one kind
+abbrev pub one_kind : List Tree → Option Kind
+one_kind [] = None
+one_kind (value ∷ values) = if list_all (is_atom_of (items_in value).kind) (value ∷ values) then Some (items_in value).kind else None
+
 -- values together: a vector where all are atoms of one kind, else a list
+abbrev pub together_of : Option Kind → List Tree → Tree
+together_of None values = list (items_of values)
+together_of (Some kind) values = vector (record { kind = kind; atoms = flat_map (λ (t : Tree). (items_in t).atoms) values })
+
 abbrev pub together : List Tree → Tree
-together [] = list (items_of [])
-together (value ∷ values) =
-    if list_all (is_atom_of (items_in value).kind) (value ∷ values)
-    then vector (record { kind = (items_in value).kind; atoms = flat_map (λ (t : Tree). (items_in t).atoms) (value ∷ values) })
-    else list (items_of (value ∷ values))
+together values = together_of (one_kind values) values
 
 abbrev pub names_vector : List (List ℕ) → Tree
 names_vector names = vector (record { kind = k.Symbol; atoms = map (λ (name : List ℕ). a.Symbol name) names })
 
 -- `exec`: the value of its one column, or else a dictionary from the names to the values
+abbrev pub execution_of : List (List ℕ) → List Tree → Tree
+execution_of names [] = dict (names_vector names) (together [])
+execution_of names (value ∷ []) = value
+execution_of names (value ∷ other ∷ values) = dict (names_vector names) (together (value ∷ other ∷ values))
+
 abbrev pub execution : QueryForm → Frame → Tree
-execution q frame = execution_of (values_of frame q.columns)
-  where
-    execution_of : List Tree → Tree
-    execution_of (value ∷ []) = value
-    execution_of values = dict (names_vector (map column_name q.columns)) (together values)
+execution q frame = execution_of (map column_name q.columns) (values_of frame q.columns)
 
 abbrev pub value_over_kept : List (List ℕ) → QueryForm → Frame → Tree
 value_over_kept all q frame = if q.exec then execution q frame else selection all q frame

@@ -1,11 +1,13 @@
 -- When a query is refused, and when rows have the columns that it needs.
-use Rattle.std.specs.Prelude.{◌≡◌, ℕ, if◌then◌else◌, List, [], ◌++◌, map, All}
-use Rattle.q_values.specs.Contents.{Contents}
+use Rattle.std.specs.Prelude.{◌≡◌, ℕ, Bool, false, if◌then◌else◌, List, [], ◌++◌, Option, Some, None}
+use Rattle.std.specs.List.{list_all}
+use Rattle.q_values.specs.Kind.{is}
+use Rattle.q_values.specs.declared.kind.Kind.{Kind}
 use Rattle.day_rows.specs.declared.schema.Shape.{Shape}
 use Rattle.qsql_request.specs.Forms.{QueryForm}
 use Rattle.qsql_request.specs.Names.{names_of}
 use Rattle.qsql_request.specs.Unbuilt.{is_empty}
-use Rattle.qsql_eval.specs.Beside.{beside}
+use Rattle.qsql_eval.specs.Frames.{Frame, kind_beside}
 use Rattle.qsql_eval.specs.Judgement.{Judgement, unknown, mistyped, fits, column_kind, all_columns, judged_over}
 use Rattle.qsql_eval.specs.declared.typed.CheckRefusal.{CheckRefusal}
 use Rattle.qsql_eval.specs.declared.typed.CheckRefusal.TheVariants.{NoName, WrongType, NoMemory}
@@ -20,9 +22,18 @@ RefusesQuery found NoMemory = Unit {0}
 abbrev pub needed : QueryForm → Shape → List (List ℕ)
 needed q table = names_of q ++ (if is_empty q.columns then all_columns table else [])
 
--- rows have the columns that a query needs, each of the kind that the table gives it
-abbrev pub HasColumns : QueryForm → Shape → List (List ℕ) → List Contents → Type 0
-HasColumns q table names columns = All (λ (name : List ℕ). beside name names (map (λ (c : Contents). c.kind) columns) ≡ column_kind table name) (needed q table)
+-- a column is there, and has the kind that is wanted
+abbrev pub is_kind : Option Kind → Option Kind → Bool
+is_kind None there = false
+is_kind (Some kind) None = false
+is_kind (Some kind) (Some other) = is kind other
+
+abbrev pub has_column : Shape → (List ℕ → Option Kind) → List ℕ → Bool
+has_column table there name = is_kind (column_kind table name) (there name)
+
+-- rows have the columns that a query needs, each of the kind that its table gives it
+abbrev pub has_columns : Shape → QueryForm → Frame → Bool
+has_columns table q frame = list_all (has_column table (kind_beside frame)) (needed q table)
 
 -- the name is refused, or memory ran out
 abbrev pub NamesOrMemory : List ℕ → CheckRefusal → Type 0

@@ -16,16 +16,21 @@
 
 mod beside;
 mod checking;
+mod evaluation;
+mod executing;
+mod keeping;
 mod kinds;
+mod limiting;
 mod one_side;
 mod operand;
+mod rows;
 mod scope;
+mod selecting;
 mod two_sides;
 mod typed;
 mod values;
 
 pub use checking::check;
-pub use operand::{Held, Operand};
-pub use scope::Scope;
+pub use evaluation::eval;
+pub use rows::Rows;
 pub use typed::{CheckRefusal, Typed};
-pub use values::value_of;

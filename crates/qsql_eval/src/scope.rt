@@ -7,6 +7,7 @@ use q_values::{Sym, Vector};
 use std::marker::Model;
 
 /// Named columns of one length, lent. Contracts see their rows.
+#[derive(Drop)]
 pub struct Scope<'a> {
     // a name for each column
     names: &'a [Sym],

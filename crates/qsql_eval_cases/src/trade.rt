@@ -1,0 +1,112 @@
+//! Rows of the table `trade`.
+
+use q_values::{Column, Columns, IntegerKind, LongKind, Names, Sym, Symbols, Vector};
+use qsql_eval::Rows;
+use std::alloc::Global;
+use std::test::Fail;
+
+pub(crate) fn longs(alloc: Global, kind: LongKind, numbers: &[i64]) -> Result<Vector, Fail> {
+    let items = Vec::from_slice(alloc, numbers)?;
+    Ok(Vector::from_column(Column::Longs(kind, items)))
+}
+
+pub(crate) fn dates(alloc: Global, numbers: &[i32]) -> Result<Vector, Fail> {
+    let items = Vec::from_slice(alloc, numbers)?;
+    Ok(Vector::from_column(Column::Integers(IntegerKind::Date, items)))
+}
+
+pub(crate) fn symbols(alloc: Global, letters: &[u8]) -> Result<Vector, Fail> {
+    let mut items = Symbols::new(alloc);
+    for letter in letters {
+        let name = Sym::of(alloc, &[*letter])?;
+        items.push(name.bytes())?;
+    }
+    Ok(Vector::from_column(Column::Symbols(items)))
+}
+
+pub(crate) fn names(alloc: Global, texts: &[&[u8]]) -> Result<Names, Fail> {
+    let mut names = Names::new(alloc);
+    for text in texts {
+        names.push(Sym::of(alloc, text)?)?;
+    }
+    Ok(names)
+}
+
+// Rows with these columns.
+#[derive(Drop)]
+struct Trades<'a> {
+    dates: &'a [i32],
+    places: &'a [i64],
+    times: &'a [i64],
+    syms: &'a [u8],
+    prices: &'a [i64],
+    sizes: &'a [i64],
+}
+
+fn rows_of(alloc: Global, trades: &Trades) -> Result<Rows, Fail> {
+    let mut columns = Columns::new(alloc);
+    columns.push(dates(alloc, trades.dates)?)?;
+    columns.push(longs(alloc, LongKind::Timespan, trades.times)?)?;
+    columns.push(symbols(alloc, trades.syms)?)?;
+    columns.push(longs(alloc, LongKind::Long, trades.prices)?)?;
+    columns.push(longs(alloc, LongKind::Long, trades.sizes)?)?;
+    columns.push(longs(alloc, LongKind::Long, trades.places)?)?;
+    let texts: [&[u8]; 6] = [b"date", b"time", b"sym", b"price", b"size", b"i"];
+    match Rows::new(names(alloc, &texts)?, columns) {
+        Some(rows) => Ok(rows),
+        None => Err(Fail::from("columns of different lengths")),
+    }
+}
+
+/// Three updates on 2024.01.02, which has ended, and two on the open date.
+pub(crate) fn five_rows(alloc: Global) -> Result<Rows, Fail> {
+    let trades = Trades {
+        dates: &[8767, 8767, 8767, 8768, 8768],
+        places: &[0, 1, 2, 0, 1],
+        times: &[
+            34_260_000_000_000,
+            34_200_000_000_000,
+            34_320_000_000_000,
+            34_200_000_000_000,
+            34_260_000_000_000,
+        ],
+        syms: b"abbca",
+        prices: &[20, 10, 11, 30, 21],
+        sizes: &[5, 100, 7, 1, 9],
+    };
+    rows_of(alloc, &trades)
+}
+
+/// Two equal rows on 2024.01.02 with these sizes.
+pub(crate) fn two_rows(alloc: Global, sizes: &[i64; 2]) -> Result<Rows, Fail> {
+    let trades = Trades {
+        dates: &[8767, 8767],
+        places: &[0, 1],
+        times: &[34_200_000_000_000, 34_200_000_000_000],
+        syms: b"bb",
+        prices: &[10, 10],
+        sizes: sizes.as_slice(),
+    };
+    rows_of(alloc, &trades)
+}
+
+/// Many rows on 2024.01.02, with the sizes 0 to 999 again and again.
+pub(crate) fn many_rows(alloc: Global, count: u32) -> Result<Rows, Fail> {
+    let mut numbers = Vec::new(alloc);
+    let mut sizes = Vec::new(alloc);
+    for number in 0..count {
+        numbers.push(i64::from(number))?;
+        sizes.push(i64::from(number % 1000))?;
+    }
+    let days = vec![in alloc; 8767i32; numbers.len()]?;
+    let letters = vec![in alloc; b'a'; numbers.len()]?;
+    let trades = Trades {
+        dates: &days,
+        places: &numbers,
+        times: &numbers,
+        syms: &letters,
+        prices: &numbers,
+        sizes: &sizes,
+    };
+    rows_of(alloc, &trades)
+}
