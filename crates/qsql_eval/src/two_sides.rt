@@ -35,7 +35,12 @@ fn by_items(alloc: Global, verb: Verb, left: &Vector, right: &Vector) -> Result<
     Ok(made)
 }
 
-fn of_atoms<'b>(alloc: Global, verb: Verb, left: &Atom, right: &Atom) -> Result<Operand<'b>, NoMemory>
+fn of_atoms<'b>(
+    alloc: Global,
+    verb: Verb,
+    left: &Atom,
+    right: &Atom,
+) -> Result<Operand<'b>, NoMemory>
     requires verb { IsTrue (is_by_place verb) }
     requires row { IsSome (result_kind_of verb (kind_of left.now) (kind_of right.now)) }
     ensures value { IfOk result (λ v. operand_tree v
@@ -49,7 +54,12 @@ fn of_atoms<'b>(alloc: Global, verb: Verb, left: &Atom, right: &Atom) -> Result<
     Ok(Operand::Atom(made.at(alloc, 0)?))
 }
 
-fn of_atom_and_items<'b>(alloc: Global, verb: Verb, left: &Atom, right: &Vector) -> Result<Operand<'b>, NoMemory>
+fn of_atom_and_items<'b>(
+    alloc: Global,
+    verb: Verb,
+    left: &Atom,
+    right: &Vector,
+) -> Result<Operand<'b>, NoMemory>
     requires verb { IsTrue (is_by_place verb) }
     requires row { IsSome (result_kind_of verb (kind_of left.now) right.now.kind) }
     ensures value { IfOk result (λ v. operand_tree v
@@ -61,7 +71,12 @@ fn of_atom_and_items<'b>(alloc: Global, verb: Verb, left: &Atom, right: &Vector)
     Ok(Operand::Column(Held::Made(made)))
 }
 
-fn of_items_and_atom<'b>(alloc: Global, verb: Verb, left: &Vector, right: &Atom) -> Result<Operand<'b>, NoMemory>
+fn of_items_and_atom<'b>(
+    alloc: Global,
+    verb: Verb,
+    left: &Vector,
+    right: &Atom,
+) -> Result<Operand<'b>, NoMemory>
     requires verb { IsTrue (is_by_place verb) }
     requires row { IsSome (result_kind_of verb left.now.kind (kind_of right.now)) }
     ensures value { IfOk result (λ v. operand_tree v
@@ -74,7 +89,12 @@ fn of_items_and_atom<'b>(alloc: Global, verb: Verb, left: &Vector, right: &Atom)
 }
 
 // A verb by item, where an atom goes with each item of the other side.
-fn by_item<'b>(alloc: Global, verb: Verb, left: &Operand, right: &Operand) -> Result<Operand<'b>, NoMemory>
+fn by_item<'b>(
+    alloc: Global,
+    verb: Verb,
+    left: &Operand,
+    right: &Operand,
+) -> Result<Operand<'b>, NoMemory>
     requires verb { IsTrue (is_by_place verb) }
     requires row { IsSome (result_kind_of verb (kind_of_tree (operand_tree left.now)) (kind_of_tree (operand_tree right.now))) }
     requires even { AreEven (operand_tree left.now) (operand_tree right.now) }
@@ -192,7 +212,12 @@ fn like<'b>(alloc: Global, left: &Operand, right: &Operand) -> Result<Operand<'b
 }
 
 /// The verb's result for two values.
-pub fn apply_two<'b>(alloc: Global, verb: Verb, left: &Operand, right: &Operand) -> Result<Operand<'b>, NoMemory>
+pub fn apply_two<'b>(
+    alloc: Global,
+    verb: Verb,
+    left: &Operand,
+    right: &Operand,
+) -> Result<Operand<'b>, NoMemory>
     requires row { IsSome (result_kind_of verb (kind_of_tree (operand_tree left.now)) (kind_of_tree (operand_tree right.now))) }
     requires sides { AreSides verb (operand_tree left.now) (operand_tree right.now) }
     ensures value { IfOk result (λ v. operand_tree v ≡ value_of_two verb (operand_tree left.now) (operand_tree right.now)) }

@@ -23,10 +23,7 @@ fn push_names<'a>(names: &mut Vec<&'a Sym>, expr: &'a Expr) -> Result<(), NoMemo
     }
 }
 
-fn push_names_of_columns<'a>(
-    names: &mut Vec<&'a Sym>,
-    columns: &'a [Col],
-) -> Result<(), NoMemory>
+fn push_names_of_columns<'a>(names: &mut Vec<&'a Sym>, columns: &'a [Col]) -> Result<(), NoMemory>
     ensures { OnOk result (map (λ n. n.now) names.new.items
         ≡ map (λ n. n.now) names.old.items ++ names_in_columns (map column_form columns.now)) }
 {
@@ -36,10 +33,7 @@ fn push_names_of_columns<'a>(
     Ok(())
 }
 
-fn push_names_of_phrases<'a>(
-    names: &mut Vec<&'a Sym>,
-    phrases: &'a [Expr],
-) -> Result<(), NoMemory>
+fn push_names_of_phrases<'a>(names: &mut Vec<&'a Sym>, phrases: &'a [Expr]) -> Result<(), NoMemory>
     ensures { OnOk result (map (λ n. n.now) names.new.items
         ≡ map (λ n. n.now) names.old.items ++ names_in_phrases (map form phrases.now)) }
 {
