@@ -88,7 +88,7 @@ ready_columns frame of (c ∷ columns) same kinds built =
     let b = neither (is_unbuilt_column (column_form c)) (list_any is_unbuilt_column (map column_form columns)) built in
     let own = neither (has_unbuilt (form c.expr)) (is_nameless (column_form c)) b.0 in
     All-cons (λ (d : Col). IsReady frame (form d.expr)) c columns (record { kind = ap is_some here ∙ all_kinds.0; built = own.0 })
-      (ready_columns frame of columns (All-right (λ (n : List ℕ). kind_beside frame n ≡ of n) (names_in (form c.expr)) rest_names same) all_kinds.1 b.1)
+    (ready_columns frame of columns (All-right (λ (n : List ℕ). kind_beside frame n ≡ of n) (names_in (form c.expr)) rest_names same) all_kinds.1 b.1)
 
 boolean_kind : (kind : Kind) → is kind k.Boolean ≡ true → kind ≡ k.Boolean
 boolean_kind k.Boolean h = refl
@@ -118,7 +118,7 @@ boolean_phrases frame of (p ∷ phrases) same kinds =
     let here = kinds_agree (kind_beside frame) of (form p) (All-left (λ (n : List ℕ). kind_beside frame n ≡ of n) (names_in (form p)) rest_names same) in
     let all_kinds = both (is_boolean (kind_in of (form p))) (list_all (λ (e : Form). is_boolean (kind_in of e)) (map form phrases)) kinds in
     All-cons (λ (e : Expr). kind_in (kind_beside frame) (form e) ≡ Some k.Boolean) p phrases (here ∙ boolean_some (kind_in of (form p)) all_kinds.0)
-      (boolean_phrases frame of phrases (All-right (λ (n : List ℕ). kind_beside frame n ≡ of n) (names_in (form p)) rest_names same) all_kinds.1)
+    (boolean_phrases frame of phrases (All-right (λ (n : List ℕ). kind_beside frame n ≡ of n) (names_in (form p)) rest_names same) all_kinds.1)
 
 pub built_phrases : (phrases : List Expr) → list_any is_unbuilt_phrase (map form phrases) ≡ false → All (λ (p : Expr). is_unbuilt_phrase (form p) ≡ false) phrases
 built_phrases [] h = All-nil (λ (p : Expr). is_unbuilt_phrase (form p) ≡ false)

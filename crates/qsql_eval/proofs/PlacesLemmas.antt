@@ -14,7 +14,7 @@ use Rattle.qsql_eval.specs.Places.{places_from, column_at}
 use Rattle.qsql_eval.specs.Values.{selected, is_true}
 use Rattle.qsql_eval.proofs.FrameLemmas.{Even, length-rows}
 
--- ---- gathering the places that are true keeps just the elements where it is true
+-- ---- gathering the places that are true keeps the elements where it is true, and no others
 
 pub gathered-places : {X : Type 0} (xs : List X) (d : X) (i : ℕ) (flags : List Bool) → length flags + i ≡ length xs → gathered xs (places_from i flags) ≡ selected flags (drop i xs)
 gathered-places xs d i [] size = refl
@@ -87,7 +87,7 @@ pub even-selected : (flags : List Bool) (n : ℕ) (columns : List Contents) → 
 even-selected flags n [] even size = All-nil (λ (d : Contents). length d.atoms ≡ count flags)
 even-selected flags n (c ∷ columns) even size =
     All-cons (λ (d : Contents). length d.atoms ≡ count flags) (column_at (places_from 0 flags) c) (map (column_at (places_from 0 flags)) columns) (gathered_size flags c (size ∙ sym (All-head (λ (d : Contents). length d.atoms ≡ n) c columns even)))
-      (even-selected flags n columns (All-tail (λ (d : Contents). length d.atoms ≡ n) c columns even) size)
+    (even-selected flags n columns (All-tail (λ (d : Contents). length d.atoms ≡ n) c columns even) size)
 
 kinds-selected : (places : List ℕ) (columns : List Contents) → map (λ (c : Contents). c.kind) (map (column_at places) columns) ≡ map (λ (c : Contents). c.kind) columns
 kinds-selected places [] = refl
@@ -153,7 +153,7 @@ places_fit flags [] even = All-nil (λ (c : Contents). All (λ (p : ℕ). p < le
 places_fit flags (c ∷ columns) even =
     let size = All-head (λ (d : Contents). length d.atoms ≡ length flags) c columns even in
     All-cons (λ (d : Contents). All (λ (p : ℕ). p < length d.atoms) (places_from 0 flags)) c columns (places_below (length c.atoms) 0 flags (omega (arith, size)))
-      (places_fit flags columns (All-tail (λ (d : Contents). length d.atoms ≡ length flags) c columns even))
+    (places_fit flags columns (All-tail (λ (d : Contents). length d.atoms ≡ length flags) c columns even))
 
 pub truths_of_booleans : (flags : List Bool) → map is_true (map (λ (b : Bool). a.Boolean b) flags) ≡ flags
 truths_of_booleans [] = refl

@@ -64,8 +64,8 @@ even_limited : (first : Option ℤ) (n : ℕ) (columns : List Contents) → Even
 even_limited first n [] even = All-nil (λ (d : Contents). length d.atoms ≡ length (limited first (replicate n absent)))
 even_limited first n (c ∷ columns) even =
     All-cons (λ (d : Contents). length d.atoms ≡ length (limited first (replicate n absent))) (limited_column first c) (map (limited_column first) columns)
-      (limited_length first c.atoms (replicate n absent) (All-head (λ (d : Contents). length d.atoms ≡ n) c columns even ∙ sym (length-replicate n absent)))
-      (even_limited first n columns (All-tail (λ (d : Contents). length d.atoms ≡ n) c columns even))
+    (limited_length first c.atoms (replicate n absent) (All-head (λ (d : Contents). length d.atoms ≡ n) c columns even ∙ sym (length-replicate n absent)))
+    (even_limited first n columns (All-tail (λ (d : Contents). length d.atoms ≡ n) c columns even))
 
 even_rows : (n : ℕ) (columns : List Contents) → Even n columns → Even (rows_of columns) columns
 even_rows n [] even = All-nil (λ (d : Contents). length d.atoms ≡ 0)
@@ -109,7 +109,7 @@ rows_even frame (c ∷ columns) ready flat =
     let here = ready_shape frame (form c.expr) (All-head (λ (d : Col). IsReady frame (form d.expr)) c columns ready) in
     let cell = cell_of n (shape (form c.expr)) (val frame (form c.expr)) (All-head (λ (d : Col). is_list (shape (form d.expr)) ≡ false) c columns flat) here in
     All-cons (λ (d : Contents). length d.atoms ≡ n) (spread n (val frame (form c.expr))) (map (spread n) (values_of frame (map column_form columns))) (cell_size n (val frame (form c.expr)) cell)
-      (rows_even frame columns (All-tail (λ (d : Col). IsReady frame (form d.expr)) c columns ready) (All-tail (λ (d : Col). is_list (shape (form d.expr)) ≡ false) c columns flat))
+    (rows_even frame columns (All-tail (λ (d : Col). IsReady frame (form d.expr)) c columns ready) (All-tail (λ (d : Col). is_list (shape (form d.expr)) ≡ false) c columns flat))
 
 pub spread_even : (frame : Frame) (columns : List Col) → AreReady frame columns → AreFlat columns → Even (row_count frame (values_of frame (map column_form columns))) (map (spread (row_count frame (values_of frame (map column_form columns)))) (values_of frame (map column_form columns)))
 spread_even frame columns ready flat = by_kind (list_all is_atom (values_of frame (map column_form columns))) refl

@@ -158,7 +158,7 @@ val_shape frame columns (one verb side) kind built = one_shape (length frame.row
 val_shape frame columns (two verb left right) kind built =
     let p = parts columns verb left right kind built in
     two_shape (length frame.rows) verb (shape left) (shape right) (val frame left) (val frame right) p.left_list (right_is verb right p.right_fits) (val_shape frame columns left p.left_kind p.left_built)
-      (val_shape frame columns right p.right_kind p.right_built)
+    (val_shape frame columns right p.right_kind p.right_built)
 
 ends_value : (frame : Frame) (right : Form) → are_ends right ≡ true → has_ends (val frame right) ≡ true
 ends_value frame (constant (vector c)) h = h
@@ -181,7 +181,7 @@ val_sides frame columns verb left right kind built = by_verb verb (parts columns
     by_verb v.Like p = tt
     by_verb verb p =
         even_shapes (length frame.rows) (shape left) (shape right) (val frame left) (val frame right) p.left_list (right_is verb right p.right_fits refl) (val_shape frame columns left p.left_kind p.left_built)
-          (val_shape frame columns right p.right_kind p.right_built)
+        (val_shape frame columns right p.right_kind p.right_built)
 
 -- ---- an expression that is a verb with two sides
 

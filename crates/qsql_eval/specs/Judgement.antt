@@ -72,10 +72,14 @@ has_kinds columns q =
 abbrev pub all_columns : Shape → List (List ℕ)
 all_columns table = codes "date" ∷ table.names
 
+-- whether the columns after `by` have this name
+abbrev pub is_name_of_by : QueryForm → List ℕ → Bool
+is_name_of_by q name = list_any (bytes_eq name) (map column_name q.by)
+
 -- a `select` with `by` that names no columns, whose `by` columns have the names of all of them
 abbrev pub has_none_left : Shape → QueryForm → Bool
 has_none_left table q =
-    not q.exec && (is_empty q.columns && (not (is_empty q.by) && list_all (λ (name : List ℕ). list_any (bytes_eq name) (map column_name q.by)) (all_columns table)))
+    not q.exec && (is_empty q.columns && (not (is_empty q.by) && list_all (is_name_of_by q) (all_columns table)))
 
 abbrev pub is_typed : Shape → QueryForm → Bool
 is_typed table q = not (is_unbuilt_query q) && (has_kinds (column_kind table) q && not (has_none_left table q))

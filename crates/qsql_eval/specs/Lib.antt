@@ -1,6 +1,7 @@
 pub mod Beside
 pub mod Frames
 pub mod Judgement
+pub mod Laws
 pub mod Values
 pub mod Meaning
 pub mod Operands

@@ -1,5 +1,6 @@
 -- The value of a query without `by`.
-use Rattle.std.specs.Prelude.{ℕ, ℤ, pos, negsuc, ◌-◌, suc, Bool, true, false, ◌&&◌, if◌then◌else◌, List, [], ◌∷◌, map, length, take, drop, replicate, Option, Some, None}
+use Rattle.std.specs.Prelude.{ℕ, ℤ, pos, negsuc, ◌-◌, suc, Bool, true, false, ◌&&◌, if◌then◌else◌}
+use Rattle.std.specs.Prelude.{List, [], ◌∷◌, map, length, take, drop, replicate, Option, Some, None}
 use Rattle.std.specs.List.{list_all, flat_map}
 use Rattle.q_values.specs.Atom.{kind_of}
 use Rattle.q_values.specs.Contents.{Contents}

@@ -57,11 +57,7 @@ fn flags_of(test: &Vector) -> &[bool]
 
 // The items of each column at which the flag is true.
 #[tactic(auto, using(crate::proofs::PlacesLemmas::places_fit))]
-fn columns_where(
-    alloc: Global,
-    flags: &[bool],
-    columns: &[Vector],
-) -> Result<Vec<Vector>, NoMemory>
+fn columns_where(alloc: Global, flags: &[bool], columns: &[Vector]) -> Result<Vec<Vector>, NoMemory>
     requires { All (λ c. length c.atoms ≡ length flags.now) columns.now }
     ensures { IfOk result (λ v. v.items ≡ map (column_at (places_from 0 flags.now)) columns.now) }
 {

@@ -20,6 +20,7 @@ mod evaluation;
 mod executing;
 mod keeping;
 mod kinds;
+pub mod laws;
 mod limiting;
 mod one_side;
 mod operand;

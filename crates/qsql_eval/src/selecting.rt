@@ -37,11 +37,7 @@ fn row_count_of(columns: &[Col], scope: &Scope) -> usize
     requires { All (λ c. IsReady scope.now (form c.expr)) columns.now }
     ensures { result ≡ row_count scope.now (values_of scope.now (map column_form columns.now)) }
 {
-    if are_atoms(columns) {
-        1
-    } else {
-        scope.len()
-    }
+    if are_atoms(columns) { 1 } else { scope.len() }
 }
 
 // A column of the result: an atom is in each of the `count` rows.

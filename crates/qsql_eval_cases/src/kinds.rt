@@ -8,7 +8,8 @@ use schema_text::read_schema;
 use std::alloc::Global;
 use std::test::Fail;
 
-const SCHEMA: &[u8] = b"t:([]time:`timespan$();sym:`symbol$();b:`boolean$();h:`short$();n:`int$();j:`long$();d:`date$();u:`minute$();g:`byte$())";
+const SCHEMA: &[u8] =
+    b"t:([]time:`timespan$();sym:`symbol$();b:`boolean$();h:`short$();n:`int$();j:`long$();d:`date$();u:`minute$();g:`byte$())";
 
 // The symbols a, the null and b.
 fn syms(alloc: Global) -> Result<Vector, Fail> {
@@ -87,7 +88,10 @@ const ANSWERS: [(&[u8], &[u8]); 44] = [
     (b"exec n&0 from t", b"j[-7 0 -9223372036854775808]"),
     (b"exec b&0b from t", b"b[0 0 0]"),
     (b"exec count i from t where sym=`", b"j:1"),
-    (b"exec first j from t where n>100", b"j:-9223372036854775808"),
+    (
+        b"exec first j from t where n>100",
+        b"j:-9223372036854775808",
+    ),
     (b"exec j from t where j>0N", b"j[9223372036854775807 5]"),
     (b"exec n from t where n<1h", b"i[-7 -2147483648]"),
     (b"exec g from t where g in 0x01 0xff", b"x[1 255]"),

@@ -96,7 +96,10 @@ fn phrases_left_to_right(rt: HostRuntime) -> Result<(), Fail> {
             b"select sym,size from trade where size>5,i<2",
             b"sym=s[b a] size=j[100 9]",
         ),
-        (b"exec price from trade where size>5,size=min size", b"j[11]"),
+        (
+            b"exec price from trade where size>5,size=min size",
+            b"j[11]",
+        ),
         (b"exec size from trade where sym=`a,size=max size", b"j[9]"),
         (b"exec size from trade where size=max size,sym=`a", b"j[]"),
         (b"exec i from trade where size<10,price>11", b"j[0 0 1]"),
@@ -154,7 +157,10 @@ fn refused_texts(rt: HostRuntime) -> Result<(), Fail> {
         (b"select x:price+sym from trade", b"type"),
         (b"select x:foo+sym from trade where bar=1", b"name foo"),
         (b"select x:max foo by bar from trade where baz", b"name foo"),
-        (b"select sum size by bar from trade where baz=1", b"name bar"),
+        (
+            b"select sum size by bar from trade where baz=1",
+            b"name bar",
+        ),
         (b"select from trade where size=1,baz=1", b"name baz"),
         (b"select from trade where size", b"type"),
         (b"select from trade where size within 5", b"type"),
@@ -195,15 +201,27 @@ const SELECTS: [(&[u8], &[u8]); 19] = [
         b"select x:1,size from trade where size<8",
         b"x=j[1 1 1] size=j[5 7 1]",
     ),
-    (b"select x:1,size from trade where size>1000", b"x=j[] size=j[]"),
+    (
+        b"select x:1,size from trade where size>1000",
+        b"x=j[] size=j[]",
+    ),
     (
         b"select x:sum size,y:count i from trade where size>1000",
         b"x=j[0] y=j[0]",
     ),
     (b"select max price-min price from trade", b"price=j[20]"),
-    (b"select date,i from trade where sym=`b", b"date=d[8767 8767] x=j[1 2]"),
-    (b"select[2] x:`u,price from trade", b"x=s[u u] price=j[20 10]"),
-    (b"select price-min price from trade", b"price=j[10 0 1 20 11]"),
+    (
+        b"select date,i from trade where sym=`b",
+        b"date=d[8767 8767] x=j[1 2]",
+    ),
+    (
+        b"select[2] x:`u,price from trade",
+        b"x=s[u u] price=j[20 10]",
+    ),
+    (
+        b"select price-min price from trade",
+        b"price=j[10 0 1 20 11]",
+    ),
 ];
 
 #[test]
@@ -231,11 +249,20 @@ const EXECS: [(&[u8], &[u8]); 46] = [
     (b"exec count distinct sym from trade", b"j:3"),
     (b"exec date from trade where i=0", b"d[8767 8768]"),
     (b"exec size from trade where sym in `a`c", b"j[5 1 9]"),
-    (b"exec size from trade where price within 11 21", b"j[5 7 9]"),
-    (b"exec size from trade where sym like \"?\"", b"j[5 100 7 1 9]"),
+    (
+        b"exec size from trade where price within 11 21",
+        b"j[5 7 9]",
+    ),
+    (
+        b"exec size from trade where sym like \"?\"",
+        b"j[5 100 7 1 9]",
+    ),
     (b"exec size from trade where sym like \"b*\"", b"j[100 7]"),
     (b"exec size from trade where size in max size", b"j[100]"),
-    (b"exec size from trade where size<50,size in price-11", b"j[9]"),
+    (
+        b"exec size from trade where size<50,size in price-11",
+        b"j[9]",
+    ),
     (b"exec size from trade where not sym=`a", b"j[100 7 1]"),
     (b"exec size from trade where sym<>`a,sym<`c", b"j[100 7]"),
     (b"exec size from trade where size>=9", b"j[100 9]"),
@@ -247,13 +274,19 @@ const EXECS: [(&[u8], &[u8]); 46] = [
     (b"exec 5 xbar price from trade", b"j[20 10 10 30 20]"),
     (b"exec price div 3 from trade", b"j[6 3 3 10 7]"),
     (b"exec price mod 3 from trade", b"j[2 1 2 0 0]"),
-    (b"exec price mod 0 from trade where i=2", b"j[-9223372036854775808]"),
+    (
+        b"exec price mod 0 from trade where i=2",
+        b"j[-9223372036854775808]",
+    ),
     (b"exec price&15 from trade", b"j[15 10 11 15 15]"),
     (b"exec price|15 from trade", b"j[20 15 15 30 21]"),
     (b"exec 100-price from trade where i=0", b"j[80 70]"),
     (b"exec time+1 from trade where i=2", b"n[34320000000001]"),
     (b"exec date+1 from trade where i=2", b"d[8768]"),
-    (b"exec date+0D01 from trade where i=2", b"p[757472400000000000]"),
+    (
+        b"exec date+0D01 from trade where i=2",
+        b"p[757472400000000000]",
+    ),
     (b"exec date-2024.01.01 from trade where i=0", b"i[1 2]"),
     (b"exec first price from trade", b"j:20"),
     (b"exec last price from trade", b"j:21"),
@@ -285,10 +318,7 @@ fn many_rows_are_kept(rt: HostRuntime) -> Result<(), Fail> {
             b"exec count i from trade where size>=500,price<50000,sym=`a",
             b"j:25000",
         ),
-        (
-            b"exec max price from trade where size<1",
-            b"j:99000",
-        ),
+        (b"exec max price from trade where size<1", b"j:99000"),
         (b"exec count distinct size from trade", b"j:1000"),
     ];
     let rows = many_rows(alloc, 100_000)?;

@@ -100,7 +100,11 @@ fn push_sides(alloc: Global, out: &mut Vec<u8>, values: &[Value]) -> Result<(), 
 }
 
 /// Puts a value as text at the end.
-pub(crate) fn push_value(alloc: Global, out: &mut Vec<u8>, value: &Value) -> Result<(), AllocError> {
+pub(crate) fn push_value(
+    alloc: Global,
+    out: &mut Vec<u8>,
+    value: &Value,
+) -> Result<(), AllocError> {
     match value {
         Value::Table(table) => push_table(alloc, out, table),
         Value::Dict(pair) => {

@@ -7,4 +7,4 @@ use Rattle.qsql_eval.proofs.two_sides.matching.Goals as goal
 pub returns : goal.returns
 returns c =
     matched c.in_ok-made.made c.vector.result.now c.vector-2.result.now (items_in (operand_tree c.args.left.now)) (items_in (operand_tree c.args.right.now)) c.text_of.result.now c.text_of.ensures (c.vector-2.ensures ∙ c.in_ok-pattern.ensures)
-      (c.vector.ensures ∙ c.in_ok-items.ensures) c.in_ok-made.ensures
+    (c.vector.ensures ∙ c.in_ok-items.ensures) c.in_ok-made.ensures

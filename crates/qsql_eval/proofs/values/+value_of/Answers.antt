@@ -42,7 +42,7 @@ apply_two-requires-clause-row t c =
     ap form c.in-Two.is ∙ fold-roll-Expr Form form_step (Expr-F.Two c.in-Two.verb c.in-Two.left c.in-Two.right) in
     let kind = kind_of_two (kind_beside c.args.scope.now) (form c.args.expr.now) c.in-Two.verb (form c.in-Two.left.value) (form c.in-Two.right.value) (kind_of_tree (operand_tree c.in_ok-first-in-Two.first)) (kind_of_tree (operand_tree c.in_ok-second-in-Two.second)) is
     c.requires.kind (ap (λ (x : Expr). kind_in (kind_beside c.args.scope.now) (form x)) (sym c.deref-in-Two.ensures) ∙ c.in_ok-first-in-Two.ensures.kind)
-      (ap (λ (x : Expr). kind_in (kind_beside c.args.scope.now) (form x)) (sym c.deref-in-Two-2.ensures) ∙ c.in_ok-second-in-Two.ensures.kind) in
+    (ap (λ (x : Expr). kind_in (kind_beside c.args.scope.now) (form x)) (sym c.deref-in-Two-2.ensures) ∙ c.in_ok-second-in-Two.ensures.kind) in
     ap is_some (sym kind) ∙ c.requires.kind
 
 pub apply_two-requires-clause-sides : goal.apply_two-requires-clause-sides
@@ -51,7 +51,7 @@ apply_two-requires-clause-sides t c =
     let is : form c.args.expr.now ≡ two c.in-Two.verb (form c.in-Two.left.value) (form c.in-Two.right.value) =
     ap form c.in-Two.is ∙ fold-roll-Expr Form form_step (Expr-F.Two c.in-Two.verb c.in-Two.left c.in-Two.right) in
     sides_of c.args.scope.now (kind_beside c.args.scope.now) (form c.args.expr.now) c.in-Two.verb (form c.in-Two.left.value) (form c.in-Two.right.value) (operand_tree c.in_ok-first-in-Two.first) (operand_tree c.in_ok-second-in-Two.second) is c.requires.kind
-      c.requires.built (c.in_ok-first-in-Two.ensures.value ∙ ap (λ (x : Expr). val c.args.scope.now (form x)) c.deref-in-Two.ensures) (c.in_ok-second-in-Two.ensures.value ∙ ap (λ (x : Expr). val c.args.scope.now (form x)) c.deref-in-Two-2.ensures)
+    c.requires.built (c.in_ok-first-in-Two.ensures.value ∙ ap (λ (x : Expr). val c.args.scope.now (form x)) c.deref-in-Two.ensures) (c.in_ok-second-in-Two.ensures.value ∙ ap (λ (x : Expr). val c.args.scope.now (form x)) c.deref-in-Two-2.ensures)
 
 pub returns-in_ok-second-in-Two-clause-kind : goal.returns-in_ok-second-in-Two-clause-kind
 unfolding Rattle.qsql_request.specs.declared.request.Expr.TheViews.roll-Expr denote.Hole.Carrier.roll
@@ -60,5 +60,5 @@ returns-in_ok-second-in-Two-clause-kind t c =
     ap form c.in-Two.is ∙ fold-roll-Expr Form form_step (Expr-F.Two c.in-Two.verb c.in-Two.left c.in-Two.right) in
     let kind = kind_of_two (kind_beside c.args.scope.now) (form c.args.expr.now) c.in-Two.verb (form c.in-Two.left.value) (form c.in-Two.right.value) (kind_of_tree (operand_tree c.in_ok-first-in-Two.first)) (kind_of_tree (operand_tree c.in_ok-second-in-Two.second)) is
     c.requires.kind (ap (λ (x : Expr). kind_in (kind_beside c.args.scope.now) (form x)) (sym c.deref-in-Two.ensures) ∙ c.in_ok-first-in-Two.ensures.kind)
-      (ap (λ (x : Expr). kind_in (kind_beside c.args.scope.now) (form x)) (sym c.deref-in-Two-2.ensures) ∙ c.in_ok-second-in-Two.ensures.kind) in
+    (ap (λ (x : Expr). kind_in (kind_beside c.args.scope.now) (form x)) (sym c.deref-in-Two-2.ensures) ∙ c.in_ok-second-in-Two.ensures.kind) in
     subst (λ (o : Option Kind). IfOk c.apply_two.result (λ v. o ≡ Some (kind_of_tree (operand_tree v)))) (sym kind) c.apply_two.ensures.kind
