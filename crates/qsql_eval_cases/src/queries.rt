@@ -50,12 +50,24 @@ fn push_query(
     }
 }
 
+fn push_request(
+    alloc: Global,
+    out: &mut Vec<u8>,
+    request: &Request,
+    schema: &Schema,
+    rows: &Rows,
+) -> Result<(), Fail> {
+    match request {
+        Request::Query(query) => push_query(alloc, out, query, schema, rows),
+        _ => Ok(out.extend_from_slice(b"no query")?),
+    }
+}
+
 // The value or the refusal of a text, as text.
 fn shown(alloc: Global, schema: &Schema, rows: &Rows, text: &[u8]) -> Result<Vec<u8>, Fail> {
     let mut out = Vec::new(alloc);
     match parse(alloc, text) {
-        Ok(Request::Query(query)) => push_query(alloc, &mut out, &query, schema, rows)?,
-        Ok(_) => out.extend_from_slice(b"no query")?,
+        Ok(request) => push_request(alloc, &mut out, &request, schema, rows)?,
         Err(_) => out.extend_from_slice(b"not parsed")?,
     }
     Ok(out)
