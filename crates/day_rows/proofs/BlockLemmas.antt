@@ -193,9 +193,9 @@ rows-other t tables (e.Roll by date) is other = refl
 rows-other t tables (e.Fault by) is other = refl
 
 -- a join with one more block
-pub joined_more : (t c : ℕ) (blocks : List (List Entry)) (i : ℕ) (block : List Entry) → i < length blocks → block ≡ get_or blocks i block → joined t c (flat_map (λ b. b) (take (i + 1) blocks)) ≡ joined t c (flat_map (λ b. b) (take i blocks)) ++ joined t c block
-joined_more t c blocks i block i_in is =
-    ap (joined t c) (flat_map_more (λ b. b) blocks i block i_in is) ∙ flat_map-append (atoms_in t c) (flat_map (λ b. b) (take i blocks)) block
+pub joined_more : {B : Type 0} (f : B → List Entry) (t c : ℕ) (blocks : List B) (i : ℕ) (block : B) → i < length blocks → block ≡ get_or blocks i block → joined t c (flat_map f (take (i + 1) blocks)) ≡ joined t c (flat_map f (take i blocks)) ++ joined t c (f block)
+joined_more f t c blocks i block i_in is =
+    ap (joined t c) (flat_map_more f blocks i block i_in is) ∙ flat_map-append (atoms_in t c) (flat_map f (take i blocks)) (f block)
 
 pub loose-all : (P : Entry → Type 0) (blocks : List (List Entry)) (loose : List Entry) → AllByRecursion P (updates_in blocks loose) → AllByRecursion P loose
 loose-all P blocks loose all = all-right P (flat_map (λ b. b) blocks) loose all
@@ -203,16 +203,16 @@ loose-all P blocks loose all = all-right P (flat_map (λ b. b) blocks) loose all
 pub blocks-all : (P : Entry → Type 0) (blocks : List (List Entry)) (loose : List Entry) → AllByRecursion P (updates_in blocks loose) → AllByRecursion P (flat_map (λ b. b) blocks)
 blocks-all P blocks loose all = all-left P (flat_map (λ b. b) blocks) loose all
 
-pub block-all : (P : Entry → Type 0) (blocks : List (List Entry)) (i : ℕ) (block : List Entry) → i < length blocks → block ≡ get_or blocks i block → AllByRecursion P (flat_map (λ b. b) blocks) → AllByRecursion P block
-block-all P [] i block i_in is all = absurd (omega (arith, i_in))
-block-all P (first ∷ blocks) zero block i_in is all = subst (AllByRecursion P) (sym is) (all-left P first (flat_map (λ b. b) blocks) all)
-block-all P (first ∷ blocks) (suc i) block i_in is all = block-all P blocks i block (omega (arith, i_in)) is (all-right P first (flat_map (λ b. b) blocks) all)
+pub block-all : {B : Type 0} (f : B → List Entry) (P : Entry → Type 0) (blocks : List B) (i : ℕ) (block : B) → i < length blocks → block ≡ get_or blocks i block → AllByRecursion P (flat_map f blocks) → AllByRecursion P (f block)
+block-all f P [] i block i_in is all = absurd (omega (arith, i_in))
+block-all f P (first ∷ blocks) zero block i_in is all = subst (λ b. AllByRecursion P (f b)) (sym is) (all-left P (f first) (flat_map f blocks) all)
+block-all f P (first ∷ blocks) (suc i) block i_in is all = block-all f P blocks i block (omega (arith, i_in)) is (all-right P (f first) (flat_map f blocks) all)
 
-pub block-sum : (f : Entry → ℕ) (blocks : List (List Entry)) (i : ℕ) (block : List Entry) → i < length blocks → block ≡ get_or blocks i block → sum_by f (flat_map (λ b. b) (take i blocks)) + sum_by f block ≤ sum_by f (flat_map (λ b. b) blocks)
-block-sum f [] i block i_in is = absurd (omega (arith, i_in))
-block-sum f (first ∷ blocks) zero block i_in is = let own = ap (sum_by f) is in omega (arith, own, sum_by-append f first (flat_map (λ b. b) blocks))
-block-sum f (first ∷ blocks) (suc i) block i_in is =
-    omega (arith, block-sum f blocks i block (omega (arith, i_in)) is, sum_by-append f first (flat_map (λ b. b) (take i blocks)), sum_by-append f first (flat_map (λ b. b) blocks))
+pub block-sum : {B : Type 0} (f : B → List Entry) (g : Entry → ℕ) (blocks : List B) (i : ℕ) (block : B) → i < length blocks → block ≡ get_or blocks i block → sum_by g (flat_map f (take i blocks)) + sum_by g (f block) ≤ sum_by g (flat_map f blocks)
+block-sum f g [] i block i_in is = absurd (omega (arith, i_in))
+block-sum f g (first ∷ blocks) zero block i_in is = let own = ap (λ b. sum_by g (f b)) is in omega (arith, own, sum_by-append g (f first) (flat_map f blocks))
+block-sum f g (first ∷ blocks) (suc i) block i_in is =
+    omega (arith, block-sum f g blocks i block (omega (arith, i_in)) is, sum_by-append g (f first) (flat_map f (take i blocks)), sum_by-append g (f first) (flat_map f blocks))
 
 past-none : {X : Type 0} (xs : List X) (t : ℕ) → length xs ≤ t → slice_get xs t ≡ None
 past-none [] t past = refl

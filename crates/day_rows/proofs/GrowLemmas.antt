@@ -1,5 +1,5 @@
 -- Columns that grow: what an update adds to each of them.
-use Rattle.std.proofs.Common.{◌≡◌, ℕ, zero, suc, ◌+◌, ◌<◌, ◌==◌, ◌++◌, Bool, true, false, cond, List, [], ◌∷◌, length, take, drop, map, refl, sym, ap, ap₂, ◌∙◌, subst, arith, Some, None, slice_get, set, inl, inr, append-nil}
+use Rattle.std.proofs.Common.{◌≡◌, ℕ, zero, suc, ◌+◌, ◌-◌, ◌^◌, min, ◌<◌, ◌==◌, ◌++◌, Bool, true, false, cond, List, [], ◌∷◌, length, take, drop, map, refl, sym, ap, ap₂, ◌∙◌, subst, arith, Some, None, slice_get, set, inl, inr, append-nil}
 use Rattle.std.specs.Prelude.{Result, Ok, Err}
 use Rattle.std.specs.Result.{is_err, OnOk, OnErr}
 use Rattle.std.specs.List.{AllByRecursion, sum_by}
@@ -12,7 +12,8 @@ use Rattle.std.proofs.Math.Seq.{take-append_seam}
 use Rattle.std.proofs.lemmas.List.{take-append-drop}
 use Rattle.q_values.specs.declared.kind.Kind.{Kind}
 use Rattle.day_rows.specs.Blocks.{mark_of, rows_marked, columns_or_none, columns_with, atoms_at, IsBlock}
-use Rattle.day_rows.specs.Day.{IsUpdate}
+use Rattle.day_rows.specs.Day.{IsUpdate, entry_rows, total_rows}
+use Rattle.day_rows.proofs.FilledLemmas.{total-cons, total-push}
 use Rattle.day_rows.proofs.BlockLemmas.{length-column}
 use Rattle.day_rows.specs.Joined.{atoms_of, atoms_in, rows_in, joined}
 use Rattle.day_rows.specs.declared.block.Mark.{Mark}
@@ -123,19 +124,25 @@ tables-kept tables i own kept i_in own_is same t c =
     ]
 
 -- a block with one more update
-pub block-pushed : (updates : List Entry) (entry : Entry) (tables grown : List (List Contents)) (marks : List Mark) → IsBlock updates tables marks → ((t c : ℕ) → atoms_at grown t c ≡ atoms_at tables t c ++ atoms_in t c entry)
-    → IsBlock (updates ++ entry ∷ []) grown (marks ++ mark_of entry ∷ [])
-block-pushed updates entry tables grown marks is more = record {
+pub block-pushed : (updates : List Entry) (entry : Entry) (tables grown : List (List Contents)) (marks : List Mark) (rows more_rows : ℕ) → IsBlock updates tables marks rows → more_rows ≡ min (rows + entry_rows entry) (2 ^ 64 - 1) → ((t c : ℕ) → atoms_at grown t c ≡ atoms_at tables t c ++ atoms_in t c entry)
+    → IsBlock (updates ++ entry ∷ []) grown (marks ++ mark_of entry ∷ []) more_rows
+block-pushed updates entry tables grown marks rows more_rows is counted more = record {
   columns_are = λ t c. more t c ∙ ap (λ a. a ++ atoms_in t c entry) (is.columns_are t c) ∙ sym (flat_map-append (atoms_in t c) updates (entry ∷ []) ∙ ap (λ a. joined t c updates ++ a) (append-nil (atoms_in t c entry)));
   marks_are = ap (λ m. m ++ mark_of entry ∷ []) is.marks_are ∙ sym (map-push mark_of updates entry);
+  rows_are = omega (arith, counted, is.rows_are, total-push updates entry);
 }
   where
     map-push : {A B : Type 0} (f : A → B) (xs : List A) (x : A) → map f (xs ++ x ∷ []) ≡ map f xs ++ f x ∷ []
     map-push f [] x = refl
     map-push f (y ∷ xs) x = ap (λ l. f y ∷ l) (map-push f xs x)
 
-pub block-kept : (updates : List Entry) (tables same : List (List Contents)) (marks : List Mark) → IsBlock updates tables marks → ((t c : ℕ) → atoms_at same t c ≡ atoms_at tables t c) → IsBlock updates same marks
-block-kept updates tables same marks is kept = record { columns_are = λ t c. kept t c ∙ is.columns_are t c; marks_are = is.marks_are }
+pub block-kept : (updates : List Entry) (tables same : List (List Contents)) (marks : List Mark) (rows : ℕ) → IsBlock updates tables marks rows → ((t c : ℕ) → atoms_at same t c ≡ atoms_at tables t c) → IsBlock updates same marks rows
+block-kept updates tables same marks rows is kept = record { columns_are = λ t c. kept t c ∙ is.columns_are t c; marks_are = is.marks_are; rows_are = is.rows_are }
+
+pub mark-rows : (entry : Entry) → (mark_of entry).rows ≡ entry_rows entry
+mark-rows (e.Upd by to columns) = refl
+mark-rows (e.Roll by date) = refl
+mark-rows (e.Fault by) = refl
 
 none-marked : (t : ℕ) (mark : Mark) → mark.rows ≡ 0 → rows_marked t mark ≡ 0
 none-marked t mark none = elim (mark.table == t) as (λ b. cond b mark.rows 0 ≡ 0) [ true ↦ none | false ↦ refl ]
@@ -153,6 +160,12 @@ pub sum-marks : (t : ℕ) (updates : List Entry) → sum_by (rows_marked t) (map
 sum-marks t [] = refl
 sum-marks t (entry ∷ updates) =
     sum-cons (rows_marked t) (mark_of entry) (map mark_of updates) ∙ ap₂ (λ a b. a + b) (rows-mark t entry) (sum-marks t updates) ∙ sym (sum-cons (rows_in t) entry updates)
+
+-- the rows of all tables, counted by the marks
+pub total-marks : (updates : List Entry) → sum_by (λ (mark : Mark). mark.rows) (map mark_of updates) ≡ total_rows updates
+total-marks [] = refl
+total-marks (entry ∷ updates) =
+    sum-cons (λ (mark : Mark). mark.rows) (mark_of entry) (map mark_of updates) ∙ ap₂ (λ a b. a + b) (mark-rows entry) (total-marks updates) ∙ sym (total-cons entry updates)
 
 columns_with-same_atoms : (i : ℕ) (kinds : List Kind) (f g : ℕ → List Atom) → ((c : ℕ) → c < length kinds → f (i + c) ≡ g (i + c)) → columns_with i kinds f ≡ columns_with i kinds g
 columns_with-same_atoms i [] f g same = refl

@@ -1,7 +1,9 @@
 pub mod BlockLemmas
 pub mod DayLemmas
+pub mod FilledLemmas
 pub mod GrowLemmas
 pub mod Lists
+pub mod PieceLemmas
 pub mod RowsLemmas
 pub mod Sorting
 pub mod StoreLemmas

@@ -3,17 +3,21 @@ use Rattle.std.proofs.Common.{◌≡◌, ℕ, zero, suc, ◌+◌, ◌-◌, ◌<�
 use Rattle.std.specs.List.{AllByRecursion, sum_by, flat_map}
 use Rattle.std.proofs.Math.Seq.{take-append-add, take-length}
 use Rattle.std.proofs.lemmas.Bool.{cases_eq, eqb-true, eq-eqb}
-use Rattle.std.proofs.lemmas.List.{length-append, length-take, take-append-le, get_or-set_same, get_or-set_other, length-set, take_all, drop-take, drop-drop, drop-append-le, length-drop, take-append-drop}
+use Rattle.std.proofs.lemmas.List.{length-append, length-take, take-append-le, get_or-set_same, get_or-set_other, length-set, take_all, drop-take, drop-drop, drop-append-le, length-drop, take-append-drop, get_or_past, append_cancel_left}
 use Rattle.std.proofs.lemmas.Grind.{flat_map-append}
-use Rattle.std.proofs.lemmas.List.Sums.{sum_by-append, sum_by-le-sum_by}
+use Rattle.std.proofs.lemmas.Bool.Decides.{leb_tells}
+use Rattle.std.proofs.lemmas.List.Sums.{sum_by-append, sum_by-le-sum_by, sum_by-take-le}
 use Rattle.q_values.specs.Table.{rows_of}
-use Rattle.day_rows.specs.Blocks.{mark_of, updates_in, IsStore, Grew, IsPlace, IsCounted, IsKept}
+use Rattle.day_rows.specs.Blocks.{mark_of, updates_in, IsFull, IsStore, Grew, IsPlace, IsCounted, IsKept}
 use Rattle.day_rows.specs.Day.{total_rows, entry_rows}
+use Rattle.day_rows.specs.Filled.{Filled, filled_more}
 use Rattle.day_rows.specs.Joined.{atoms_in, rows_in, joined}
 use Rattle.day_rows.specs.declared.entry.Entry.{Entry}
 use Rattle.day_rows.specs.declared.entry.Entry.TheVariants as e
 use Rattle.day_rows.proofs.BlockLemmas.{sum-one, take_more_got, all-take}
 use Rattle.day_rows.proofs.DayLemmas.{all-append}
+use Rattle.day_rows.proofs.FilledLemmas.{filled_after-push, loose-after, filled-full, filled-open, total-push, total-take, full-pushed, full-some, full-blocks}
+use Rattle.day_rows.proofs.GrowLemmas.{mark-rows}
 use Rattle.day_rows.proofs.RowsLemmas.{rows_in-le}
 
 pub blocks-split : (blocks : List (List Entry)) (i : ℕ) (last : List Entry) → i ≤ length blocks → (rest : List Entry) × (updates_in blocks last ≡ flat_map (λ b. b) (take i blocks) ++ (get_or blocks i last ++ rest))
@@ -41,42 +45,33 @@ open-within blocks last shown sealed before place all =
           omega (arith, place.next_open less)
     ]
 
+-- the first updates, up to some of the next block
+cut-next : (blocks : List (List Entry)) (last : List Entry) (sealed before n : ℕ) → sealed ≤ length blocks → before ≡ length (flat_map (λ b. b) (take sealed blocks)) → n ≤ length (get_or blocks sealed last) → updates_in (take sealed blocks) (take n (get_or blocks sealed last)) ≡ take (before + n) (updates_in blocks last)
+cut-next blocks last sealed before n within is few =
+    let split = blocks-split blocks sealed last within in
+    let P = flat_map (λ (b : List Entry). b) (take sealed blocks) in
+    let own = get_or blocks sealed last in
+    let size : before + n ≡ length P + n = omega (arith, is) in
+    sym (ap₂ take size split.1 ∙ take-append-add P (own ++ split.0) n ∙ ap (λ l. P ++ l) (take-append-le n own split.0 few))
+
 -- the updates that are shown, in blocks of their own
 pub first-shown : (blocks : List (List Entry)) (last : List Entry) (shown sealed before : ℕ) → IsPlace blocks last shown sealed before → shown ≤ length (updates_in blocks last) → updates_in (take sealed blocks) (take (shown - before) (get_or blocks sealed last)) ≡ take shown (updates_in blocks last)
 first-shown blocks last shown sealed before place all =
-    let split = blocks-split blocks sealed last place.sealed_within in
-    let P = flat_map (λ (b : List Entry). b) (take sealed blocks) in
-    let own = get_or blocks sealed last in
-    let n = shown - before in
-    let size : shown ≡ length P + n = omega (arith, place.before_is, place.before_within) in
-    sym (ap₂ take size split.1 ∙ take-append-add P (own ++ split.0) n ∙ ap (λ l. P ++ l) (take-append-le n own split.0 (open-within blocks last shown sealed before place all)))
+    let size : before + (shown - before) ≡ shown = omega (arith, place.before_within) in
+    cut-next blocks last sealed before (shown - before) place.sealed_within place.before_is (open-within blocks last shown sealed before place all) ∙ ap (λ n. take n (updates_in blocks last)) size
 
 pub take-twice : {X : Type 0} (n : ℕ) (xs : List X) → take n (take n xs) ≡ take n xs
 take-twice n xs = take_all n (take n xs) (omega (arith, length-take n xs))
 
-pub kept-first : (blocks : List (List Entry)) (last : List Entry) (held shown room sealed before : ℕ) (counts : List ℕ) (rows : ℕ) → IsKept blocks last held shown room sealed before counts rows
-    → IsKept (take sealed blocks) (take (shown - before) (get_or blocks sealed last)) shown shown 0 sealed before counts rows
-kept-first blocks last held shown room sealed before counts rows kept =
-    let whole = updates_in blocks last in
-    let all : shown ≤ length whole = omega (arith, kept.store.held_is, kept.all_within) in
-    let own = first-shown blocks last shown sealed before kept.place all in
-    let size = ap length own in
-    let fewer = length-take sealed blocks in
-    record {
-      store = record { held_is = omega (arith, size, length-take shown whole, all); some = all-take (λ (b : List Entry). 0 < length b) sealed blocks kept.store.some };
-      all_within = omega arith;
-      place = record {
-        sealed_within = omega (arith, fewer, kept.place.sealed_within);
-        before_is = kept.place.before_is ∙ ap (λ (l : List (List Entry)). length (flat_map (λ b. b) l)) (sym (take-twice sealed blocks));
-        before_within = kept.place.before_within;
-        next_open = λ more. absurd (omega (arith, more, fewer));
-      };
-      counted = subst (λ u. IsCounted u counts rows) (sym (ap (take shown) own ∙ take-twice shown whole)) kept.counted;
-    }
+-- the loose rows are no block
+pub loose-fits : (blocks : List (List Entry)) (last : List Entry) (held shown room sealed before loose : ℕ) (counts : List ℕ) (rows : ℕ) → IsKept blocks last held shown room sealed before loose counts rows → loose < 1024
+loose-fits blocks last held shown room sealed before loose counts rows kept =
+    let none : Filled = record { blocks = 0; loose = 0 } in
+    subst (λ (f : Filled). f.loose < 1024) kept.counted.filled_is (loose-after none (take shown (updates_in blocks last)) (omega arith))
 
-pub kept-grown : (blocks : List (List Entry)) (last : List Entry) (held shown room sealed before : ℕ) (counts : List ℕ) (rows : ℕ) (more : List (List Entry)) (next : List Entry) (holds wanted : ℕ) → IsKept blocks last held shown room sealed before counts rows
-    → held ≡ shown → Grew blocks last more next → IsStore more next holds → shown + wanted ≤ holds → IsKept more next holds shown wanted sealed before counts rows
-kept-grown blocks last held shown room sealed before counts rows more next holds wanted kept none grew store enough =
+-- with no update held but those that are shown, all blocks are sealed
+all-sealed : (blocks : List (List Entry)) (last : List Entry) (held shown room sealed before loose : ℕ) (counts : List ℕ) (rows : ℕ) → IsKept blocks last held shown room sealed before loose counts rows → held ≡ shown → sealed ≡ length blocks
+all-sealed blocks last held shown room sealed before loose counts rows kept none =
     let whole = updates_in blocks last in
     let size : shown ≡ length whole = omega (arith, none, kept.store.held_is) in
     let split = blocks-split blocks sealed last kept.place.sealed_within in
@@ -85,28 +80,78 @@ kept-grown blocks last held shown room sealed before counts rows more next holds
     let parts = ap length split.1 in
     let later = length-append P (own ++ split.0) in
     let inner = length-append own split.0 in
-    let last_one : sealed ≡ length blocks =
     elim (cases_eq sealed (length blocks)) [
       | inl same ↦ same
       | inr other ↦ absurd (omega (arith, kept.place.next_open (omega (arith, other, kept.place.sealed_within)), parts, later, inner, size, kept.place.before_is))
-    ] in
+    ]
+
+-- and the block after them is not full
+pub grows-whole : (blocks : List (List Entry)) (last : List Entry) (held shown room sealed before loose : ℕ) (counts : List ℕ) (rows : ℕ) → IsKept blocks last held shown room sealed before loose counts rows → held ≡ shown → total_rows last < 1024
+grows-whole blocks last held shown room sealed before loose counts rows kept none =
+    let same = all-sealed blocks last held shown room sealed before loose counts rows kept none in
+    let own : get_or blocks sealed last ≡ last = ap (λ n. get_or blocks n last) same ∙ get_or-end blocks last in
+    let P : length (flat_map (λ b. b) (take sealed blocks)) ≡ length (flat_map (λ b. b) blocks) = ap (λ (l : List (List Entry)). length (flat_map (λ b. b) l)) (ap (λ n. take n blocks) same ∙ take-length blocks) in
+    let size : length last ≤ shown - before = omega (arith, P, none, kept.store.held_is, kept.place.before_is, length-append (flat_map (λ (b : List Entry). b) blocks) last) in
+    let rows_are : total_rows (take (shown - before) (get_or blocks sealed last)) ≡ total_rows last = ap (λ l. total_rows (take (shown - before) l)) own ∙ ap total_rows (take_all (shown - before) last size) in
+    omega (arith, rows_are, kept.loose_is, loose-fits blocks last held shown room sealed before loose counts rows kept)
+
+pub kept-first : (blocks : List (List Entry)) (last : List Entry) (held shown room sealed before loose : ℕ) (counts : List ℕ) (rows : ℕ) → IsKept blocks last held shown room sealed before loose counts rows
+    → IsKept (take sealed blocks) (take (shown - before) (get_or blocks sealed last)) shown shown 0 sealed before loose counts rows
+kept-first blocks last held shown room sealed before loose counts rows kept =
+    let whole = updates_in blocks last in
+    let own = get_or blocks sealed last in
+    let n = shown - before in
+    let all : shown ≤ length whole = omega (arith, kept.store.held_is, kept.all_within) in
+    let first = first-shown blocks last shown sealed before kept.place all in
+    let size = ap length first in
+    let fewer = length-take sealed blocks in
+    let past : get_or (take sealed blocks) sealed (take n own) ≡ take n own = get_or_past (take sealed blocks) sealed (take n own) (omega (arith, fewer)) in
+    record {
+      store = record { held_is = omega (arith, size, length-take shown whole, all); full = all-take IsFull sealed blocks kept.store.full };
+      all_within = omega arith;
+      place = record {
+        sealed_within = omega (arith, fewer, kept.place.sealed_within);
+        before_is = kept.place.before_is ∙ ap (λ (l : List (List Entry)). length (flat_map (λ b. b) l)) (sym (take-twice sealed blocks));
+        before_within = kept.place.before_within;
+        next_open = λ more. absurd (omega (arith, more, fewer));
+      };
+      loose_is = kept.loose_is ∙ ap total_rows (sym (ap (take n) past ∙ take-twice n own));
+      grows = λ some. absurd (omega (arith, some));
+      counted = subst (λ u. IsCounted u counts rows sealed loose) (sym (ap (take shown) first ∙ take-twice shown whole)) kept.counted;
+    }
+
+pub kept-grown : (blocks : List (List Entry)) (last : List Entry) (held shown room sealed before loose : ℕ) (counts : List ℕ) (rows : ℕ) (more : List (List Entry)) (next : List Entry) (holds wanted : ℕ) → IsKept blocks last held shown room sealed before loose counts rows
+    → held ≡ shown → Grew blocks last more next → IsStore more next holds → shown + wanted ≤ holds → (0 < wanted → total_rows next < 1024) → IsKept more next holds shown wanted sealed before loose counts rows
+kept-grown blocks last held shown room sealed before loose counts rows more next holds wanted kept none grew store enough grows =
+    let whole = updates_in blocks last in
+    let size : shown ≡ length whole = omega (arith, none, kept.store.held_is) in
+    let last_one = all-sealed blocks last held shown room sealed before loose counts rows kept none in
     let begins : take sealed more ≡ blocks = ap (λ n. take n more) last_one ∙ grew.blocks_begin in
     let same : take sealed blocks ≡ blocks = ap (λ n. take n blocks) last_one ∙ take-length blocks in
-    let longer : length blocks ≤ length more = omega (arith, ap length grew.blocks_begin, length-take (length blocks) more) in
+    let longer_one : length blocks ≤ length more = omega (arith, ap length grew.blocks_begin, length-take (length blocks) more) in
     let total = length-append (flat_map (λ (b : List Entry). b) blocks) last in
-    let sum : length P ≡ length (flat_map (λ b. b) blocks) = ap (λ (l : List (List Entry)). length (flat_map (λ b. b) l)) same in
+    let sum : length (flat_map (λ b. b) (take sealed blocks)) ≡ length (flat_map (λ b. b) blocks) = ap (λ (l : List (List Entry)). length (flat_map (λ b. b) l)) same in
+    let place : IsPlace more next shown sealed before = record {
+      sealed_within = omega (arith, last_one, longer_one);
+      before_is = kept.place.before_is ∙ ap (λ (l : List (List Entry)). length (flat_map (λ b. b) l)) (same ∙ sym begins);
+      before_within = kept.place.before_within;
+      next_open = λ less.
+          let there : length (get_or more sealed next) ≡ length (get_or more (length blocks) next) = ap (λ n. length (get_or more n next)) last_one in
+          omega (arith, grew.grown (omega (arith, less, last_one)), there, size, total, sum, kept.place.before_is);
+    } in
+    let begun : take shown whole ≡ take shown (updates_in more next) = ap (λ n. take n whole) size ∙ take-length whole ∙ sym grew.begins ∙ ap (λ n. take n (updates_in more next)) (sym size) in
+    let n = shown - before in
+    let mine : updates_in (take sealed blocks) (take n (get_or blocks sealed last)) ≡ take shown whole = first-shown blocks last shown sealed before kept.place (omega (arith, size)) in
+    let now : updates_in (take sealed more) (take n (get_or more sealed next)) ≡ take shown (updates_in more next) = first-shown more next shown sealed before place (omega (arith, store.held_is, enough)) in
+    let both : flat_map (λ b. b) (take sealed blocks) ++ take n (get_or blocks sealed last) ≡ flat_map (λ b. b) (take sealed blocks) ++ take n (get_or more sealed next) =
+    mine ∙ begun ∙ sym now ∙ ap (λ (l : List (List Entry)). updates_in l (take n (get_or more sealed next))) (begins ∙ sym same) in
     record {
       store = store;
       all_within = enough;
-      place = record {
-        sealed_within = omega (arith, last_one, longer);
-        before_is = kept.place.before_is ∙ ap (λ (l : List (List Entry)). length (flat_map (λ b. b) l)) (same ∙ sym begins);
-        before_within = kept.place.before_within;
-        next_open = λ less.
-            let there : length (get_or more sealed next) ≡ length (get_or more (length blocks) next) = ap (λ n. length (get_or more n next)) last_one in
-            omega (arith, grew.grown (omega (arith, less, last_one)), there, size, total, sum, kept.place.before_is);
-      };
-      counted = subst (λ u. IsCounted u counts rows) (ap (λ n. take n whole) size ∙ take-length whole ∙ sym grew.begins ∙ ap (λ n. take n (updates_in more next)) (sym size)) kept.counted;
+      place = place;
+      loose_is = kept.loose_is ∙ ap total_rows (append_cancel_left (flat_map (λ (b : List Entry). b) (take sealed blocks)) (take n (get_or blocks sealed last)) (take n (get_or more sealed next)) both);
+      grows = grows;
+      counted = subst (λ u. IsCounted u counts rows sealed loose) begun kept.counted;
     }
 
 -- the next of the updates that are to come
@@ -123,11 +168,6 @@ pub some-room : {X : Type 0} (xs : List X) (n room : ℕ) (x : X) → take 1 (ta
 some-room xs n zero x is = cc
 some-room xs n (suc room) x is = omega arith
 
-pub mark-rows : (entry : Entry) → (mark_of entry).rows ≡ entry_rows entry
-mark-rows (e.Upd by to columns) = refl
-mark-rows (e.Roll by date) = refl
-mark-rows (e.Fault by) = refl
-
 rows-own : (entry : Entry) → rows_in (mark_of entry).table entry ≡ (mark_of entry).rows
 rows-own (e.Upd by to columns) = rw (eq-eqb to to refl) refl
 rows-own (e.Roll by date) = refl
@@ -139,13 +179,14 @@ rows-apart t (e.Roll by date) other = refl
 rows-apart t (e.Fault by) other = refl
 
 -- a table's rows and those of one more update fit where all do
-pub counts-fit : (updates : List Entry) (entry : Entry) (counts : List ℕ) (rows : ℕ) → IsCounted updates counts rows → (mark_of entry).table < length counts → get_or counts (mark_of entry).table 0 + (mark_of entry).rows ≤ total_rows updates + entry_rows entry
-counts-fit updates entry counts rows is t_in =
+pub counts-fit : (updates : List Entry) (entry : Entry) (counts : List ℕ) (rows sealed loose : ℕ) → IsCounted updates counts rows sealed loose → (mark_of entry).table < length counts → get_or counts (mark_of entry).table 0 + (mark_of entry).rows ≤ total_rows updates + entry_rows entry
+counts-fit updates entry counts rows sealed loose is t_in =
     omega (arith, is.counts_are (mark_of entry).table t_in, mark-rows entry, sum_by-le-sum_by (rows_in (mark_of entry).table) entry_rows updates (rows_in-le (mark_of entry).table))
 
-counts-pushed : (updates : List Entry) (entry : Entry) (counts : List ℕ) (rows : ℕ) → IsCounted updates counts rows → (mark_of entry).table < length counts
-    → IsCounted (updates ++ entry ∷ []) (set counts (mark_of entry).table (get_or counts (mark_of entry).table 0 + (mark_of entry).rows)) (rows + entry_rows entry)
-counts-pushed updates entry counts rows is t_in =
+counts-pushed : (updates : List Entry) (entry : Entry) (counts : List ℕ) (rows sealed loose sealed' loose' : ℕ) → IsCounted updates counts rows sealed loose → (mark_of entry).table < length counts
+    → filled_more (record { blocks = sealed; loose = loose }) (entry_rows entry) ≡ record { blocks = sealed'; loose = loose' }
+    → IsCounted (updates ++ entry ∷ []) (set counts (mark_of entry).table (get_or counts (mark_of entry).table 0 + (mark_of entry).rows)) (rows + entry_rows entry) sealed' loose'
+counts-pushed updates entry counts rows sealed loose sealed' loose' is t_in more_filled =
     let own = (mark_of entry).table in
     let sum = get_or counts own 0 + (mark_of entry).rows in
     record {
@@ -162,19 +203,7 @@ counts-pushed updates entry counts rows is t_in =
                 omega (arith, get_or-set_other counts own t sum 0 (λ e. other (sym e)), rows-apart t entry other, more, is.counts_are t here)
           ];
       rows_are = omega (arith, is.rows_are, sum_by-append entry_rows updates (entry ∷ []), sum-one entry_rows (total_rows updates) entry);
-    }
-
-pub kept-pushed : (blocks : List (List Entry)) (last : List Entry) (held shown room sealed before : ℕ) (counts : List ℕ) (rows : ℕ) (entry : Entry) (sealed' before' left : ℕ) → IsKept blocks last held shown room sealed before counts rows
-    → take 1 (take room (drop shown (updates_in blocks last))) ≡ entry ∷ [] → IsPlace blocks last (shown + 1) sealed' before' → (mark_of entry).table < length counts → left + 1 ≡ room
-    → IsKept blocks last held (shown + 1) left sealed' before' (set counts (mark_of entry).table (get_or counts (mark_of entry).table 0 + (mark_of entry).rows)) (rows + entry_rows entry)
-kept-pushed blocks last held shown room sealed before counts rows entry sealed' before' left kept next place t_in less =
-    let whole = updates_in blocks last in
-    record {
-      store = kept.store;
-      all_within = omega (arith, kept.all_within, less);
-      place = place;
-      counted = subst (λ u. IsCounted u (set counts (mark_of entry).table (get_or counts (mark_of entry).table 0 + (mark_of entry).rows)) (rows + entry_rows entry)) (sym (take_more_got whole shown entry (next-got whole shown room entry next)))
-          (counts-pushed (take shown whole) entry counts rows kept.counted t_in);
+      filled_is = filled_after-push (record { blocks = 0; loose = 0 }) updates entry ∙ ap (λ f. filled_more f (entry_rows entry)) is.filled_is ∙ more_filled;
     }
 
 -- what room is left for, after the next update
@@ -191,16 +220,22 @@ part-shown t c n from shown whole within =
     let split : joined t c whole ≡ J ++ K = ap (joined t c) (sym (take-append-drop shown whole)) ∙ flat_map-append (atoms_in t c) (take shown whole) (drop shown whole) in
     ap (λ l. take n (drop from l)) split ∙ ap (take n) (drop-append-le from J K (omega (arith, within))) ∙ take-append-le n (drop from J) K (omega (arith, within, length-drop from J))
 
+-- each block that is sealed is full
+full-got : (blocks : List (List Entry)) (i : ℕ) (last : List Entry) → i < length blocks → AllByRecursion IsFull blocks → IsFull (get_or blocks i last)
+full-got [] i last i_in all = absurd (omega (arith, i_in))
+full-got (block ∷ blocks) zero last i_in all = all.0
+full-got (block ∷ blocks) (suc i) last i_in all = full-got blocks i last (omega (arith, i_in)) all.1
+
 -- a block that is sealed is followed by a later one
-pub place-sealed : (blocks : List (List Entry)) (last : List Entry) (shown sealed before updates : ℕ) → IsPlace blocks last shown sealed before → AllByRecursion (λ b. 0 < length b) blocks → sealed < length blocks → updates ≡ length (get_or blocks sealed last) → updates ≤ shown + 1 - before
-    → IsPlace blocks last (shown + 1) (sealed + 1) (before + updates)
-place-sealed blocks last shown sealed before updates place some less size full =
+place-sealed : (blocks : List (List Entry)) (last : List Entry) (shown sealed before : ℕ) → IsPlace blocks last shown sealed before → AllByRecursion IsFull blocks → sealed < length blocks → shown + 1 - before ≡ length (get_or blocks sealed last)
+    → IsPlace blocks last (shown + 1) (sealed + 1) (shown + 1)
+place-sealed blocks last shown sealed before place full less size =
     let open_ = place.next_open less in
     record {
       sealed_within = omega (arith, less);
-      before_is = omega (arith, place.before_is, size, cat-more blocks sealed last less);
-      before_within = omega (arith, full, place.before_within);
-      next_open = λ more. omega (arith, open_, size, full, nonempty blocks (sealed + 1) last more some);
+      before_is = omega (arith, place.before_is, place.before_within, size, cat-more blocks sealed last less);
+      before_within = omega arith;
+      next_open = λ more. omega (arith, full-some (get_or blocks (sealed + 1) last) (full-got blocks (sealed + 1) last more full));
     }
   where
     cat-more : (blocks : List (List Entry)) (i : ℕ) (last : List Entry) → i < length blocks → length (flat_map (λ b. b) (take (i + 1) blocks)) ≡ length (flat_map (λ b. b) (take i blocks)) + length (get_or blocks i last)
@@ -210,18 +245,122 @@ place-sealed blocks last shown sealed before updates place some less size full =
         let same : suc i + 1 ≡ suc (i + 1) = omega arith in
         rw same (let a = length-append block (flat_map (λ b. b) (take (i + 1) blocks)) in let b' = length-append block (flat_map (λ b. b) (take i blocks)) in omega (arith, a, b', cat-more blocks i last (omega (arith, i_in))))
 
-    nonempty : (blocks : List (List Entry)) (i : ℕ) (last : List Entry) → i < length blocks → AllByRecursion (λ b. 0 < length b) blocks → 0 < length (get_or blocks i last)
-    nonempty [] i last i_in all = absurd (omega (arith, i_in))
-    nonempty (block ∷ blocks) zero last i_in all = all.0
-    nonempty (block ∷ blocks) (suc i) last i_in all = nonempty blocks i last (omega (arith, i_in)) all.1
-
-pub place-open : (blocks : List (List Entry)) (last : List Entry) (shown sealed before : ℕ) → IsPlace blocks last shown sealed before → (sealed < length blocks → shown + 1 - before < length (get_or blocks sealed last)) → IsPlace blocks last (shown + 1) sealed before
+place-open : (blocks : List (List Entry)) (last : List Entry) (shown sealed before : ℕ) → IsPlace blocks last shown sealed before → (sealed < length blocks → shown + 1 - before < length (get_or blocks sealed last)) → IsPlace blocks last (shown + 1) sealed before
 place-open blocks last shown sealed before place open_ = record {
   sealed_within = place.sealed_within;
   before_is = place.before_is;
   before_within = omega (arith, place.before_within);
   next_open = λ less. omega (arith, open_ less, place.before_within);
 }
+
+-- the next update is of the next block
+next-within : (blocks : List (List Entry)) (last : List Entry) (shown sealed before : ℕ) → IsPlace blocks last shown sealed before → shown < length (updates_in blocks last) → shown + 1 - before ≤ length (get_or blocks sealed last)
+next-within blocks last shown sealed before place all =
+    elim (cases_eq sealed (length blocks)) [
+      | inl same ↦
+          let own : length (get_or blocks sealed last) ≡ length last = ap length (ap (λ n. get_or blocks n last) same ∙ get_or-end blocks last) in
+          let whole : length (flat_map (λ b. b) (take sealed blocks)) ≡ length (flat_map (λ b. b) blocks) = ap (λ (l : List (List Entry)). length (flat_map (λ b. b) l)) (ap (λ n. take n blocks) same ∙ take-length blocks) in
+          omega (arith, own, whole, place.before_is, all, length-append (flat_map (λ (b : List Entry). b) blocks) last)
+      | inr other ↦
+          let less : sealed < length blocks = omega (arith, other, place.sealed_within) in
+          omega (arith, place.next_open less, place.before_within)
+    ]
+
+-- the rows of the next block that are shown with one more update
+rows-next : (blocks : List (List Entry)) (last : List Entry) (shown sealed before loose : ℕ) (entry : Entry) → IsPlace blocks last shown sealed before → loose ≡ total_rows (take (shown - before) (get_or blocks sealed last)) → shown < length (updates_in blocks last) → slice_get (updates_in blocks last) shown ≡ Some entry
+    → total_rows (take (shown + 1 - before) (get_or blocks sealed last)) ≡ loose + entry_rows entry
+rows-next blocks last shown sealed before loose entry place loose_is less next =
+    let whole = updates_in blocks last in
+    let own = get_or blocks sealed last in
+    let P = flat_map (λ (b : List Entry). b) (take sealed blocks) in
+    let size : before + (shown + 1 - before) ≡ shown + 1 = omega (arith, place.before_within) in
+    let more : P ++ take (shown + 1 - before) own ≡ take shown whole ++ entry ∷ [] =
+    cut-next blocks last sealed before (shown + 1 - before) place.sealed_within place.before_is (next-within blocks last shown sealed before place less) ∙ ap (λ n. take n whole) size ∙ take_more_got whole shown entry next in
+    let was : P ++ take (shown - before) own ≡ take shown whole = first-shown blocks last shown sealed before place (omega (arith, less)) in
+    omega (arith, ap total_rows more, ap total_rows was, loose_is, total-push (take shown whole) entry, sum_by-append entry_rows P (take (shown + 1 - before) own), sum_by-append entry_rows P (take (shown - before) own))
+
+-- where an update makes the loose rows a block, it is the last of the next block
+seals-next : (blocks : List (List Entry)) (last : List Entry) (shown sealed before : ℕ) → IsPlace blocks last shown sealed before → AllByRecursion IsFull blocks → total_rows last < 1024 → shown < length (updates_in blocks last) → 1024 ≤ total_rows (take (shown + 1 - before) (get_or blocks sealed last))
+    → (sealed < length blocks) × (shown + 1 - before ≡ length (get_or blocks sealed last))
+seals-next blocks last shown sealed before place full grows all enough =
+    let n = shown + 1 - before in
+    let within = next-within blocks last shown sealed before place all in
+    elim (cases_eq sealed (length blocks)) [
+      | inl same ↦
+          let own : total_rows (take n (get_or blocks sealed last)) ≡ total_rows (take n last) = ap (λ l. total_rows (take n l)) (ap (λ i. get_or blocks i last) same ∙ get_or-end blocks last) in
+          absurd (omega (arith, own, enough, grows, sum_by-take-le entry_rows last n))
+      | inr other ↦
+          let less : sealed < length blocks = omega (arith, other, place.sealed_within) in
+          let own = get_or blocks sealed last in
+          let is = full-got blocks sealed last less full in (
+            less,
+            elim (cases_eq n (length own)) [
+              | inl size ↦ size
+              | inr short ↦ absurd (omega (arith, enough, is.only_then, total-take n (length own - 1) own (omega (arith, short, within))))
+            ],
+          )
+    ]
+
+-- and where it doesn't, that block goes on
+opens-next : (blocks : List (List Entry)) (last : List Entry) (shown sealed before : ℕ) → IsPlace blocks last shown sealed before → AllByRecursion IsFull blocks → shown < length (updates_in blocks last) → total_rows (take (shown + 1 - before) (get_or blocks sealed last)) < 1024
+    → sealed < length blocks → shown + 1 - before < length (get_or blocks sealed last)
+opens-next blocks last shown sealed before place full all few less =
+    let n = shown + 1 - before in
+    let own = get_or blocks sealed last in
+    let within = next-within blocks last shown sealed before place all in
+    elim (cases_eq n (length own)) [
+      | inl size ↦
+          let whole : total_rows (take n own) ≡ total_rows own = ap (λ i. total_rows (take i own)) size ∙ ap total_rows (take-length own) in
+          absurd (omega (arith, whole, few, (full-got blocks sealed last less full).enough))
+      | inr short ↦ omega (arith, short, within)
+    ]
+
+-- the updates, after the next of them
+pub kept-pushed : (blocks : List (List Entry)) (last : List Entry) (held shown room sealed before loose : ℕ) (counts : List ℕ) (rows : ℕ) (entry : Entry) (sealed' before' loose' left : ℕ) → IsKept blocks last held shown room sealed before loose counts rows
+    → take 1 (take room (drop shown (updates_in blocks last))) ≡ entry ∷ [] → (mark_of entry).table < length counts → left + 1 ≡ room
+    → (1024 ≤ loose + entry_rows entry → (sealed' ≡ sealed + 1) × (before' ≡ shown + 1) × (loose' ≡ 0)) → (loose + entry_rows entry < 1024 → (sealed' ≡ sealed) × (before' ≡ before) × (loose' ≡ loose + entry_rows entry))
+    → IsKept blocks last held (shown + 1) left sealed' before' loose' (set counts (mark_of entry).table (get_or counts (mark_of entry).table 0 + (mark_of entry).rows)) (rows + entry_rows entry)
+kept-pushed blocks last held shown room sealed before loose counts rows entry sealed' before' loose' left kept next t_in less seals opens =
+    let whole = updates_in blocks last in
+    let own = get_or blocks sealed last in
+    let counts' = set counts (mark_of entry).table (get_or counts (mark_of entry).table 0 + (mark_of entry).rows) in
+    let got = next-got whole shown room entry next in
+    let there : shown < length whole = omega (arith, kept.all_within, kept.store.held_is, less) in
+    let grows = kept.grows (omega (arith, less)) in
+    let now = rows-next blocks last shown sealed before loose entry kept.place kept.loose_is there got in
+    let counted : (s l : ℕ) → filled_more (record { blocks = sealed; loose = loose }) (entry_rows entry) ≡ record { blocks = s; loose = l } → IsCounted (take (shown + 1) whole) counts' (rows + entry_rows entry) s l =
+    λ s l filled_so. subst (λ u. IsCounted u counts' (rows + entry_rows entry) s l) (sym (take_more_got whole shown entry got)) (counts-pushed (take shown whole) entry counts rows sealed loose s l kept.counted t_in filled_so) in
+    elim (leb_tells 1024 (loose + entry_rows entry)) [
+      | inl tells ↦
+          let enough : 1024 ≤ total_rows (take (shown + 1 - before) own) = omega (arith, now, tells.1) in
+          let is = seals-next blocks last shown sealed before kept.place kept.store.full grows there enough in
+          let s = seals tells.1 in
+          let none : (shown + 1) - (shown + 1) ≡ 0 = omega arith in
+          rw (s.0, s.1, s.2) (record {
+            store = kept.store;
+            all_within = omega (arith, kept.all_within, less);
+            place = place-sealed blocks last shown sealed before kept.place kept.store.full is.0 is.1;
+            loose_is = ap (λ n. total_rows (take n (get_or blocks (sealed + 1) last))) (sym none);
+            grows = λ some. grows;
+            counted = counted (sealed + 1) 0 (filled-full sealed loose (entry_rows entry) tells.1);
+          })
+      | inr tells ↦
+          let few : total_rows (take (shown + 1 - before) own) < 1024 = omega (arith, now, tells.1) in
+          let o = opens tells.1 in
+          rw (o.0, o.1, o.2) (record {
+            store = kept.store;
+            all_within = omega (arith, kept.all_within, less);
+            place = place-open blocks last shown sealed before kept.place (opens-next blocks last shown sealed before kept.place kept.store.full there few);
+            loose_is = sym now;
+            grows = λ some. grows;
+            counted = counted sealed (loose + entry_rows entry) (filled-open sealed loose (entry_rows entry) tells.1);
+          })
+    ]
+
+-- no more blocks are sealed than updates are shown
+pub sealed-few : (blocks : List (List Entry)) (last : List Entry) (held shown room sealed before loose : ℕ) (counts : List ℕ) (rows : ℕ) → IsKept blocks last held shown room sealed before loose counts rows → sealed ≤ shown
+sealed-few blocks last held shown room sealed before loose counts rows kept =
+    omega (arith, full-blocks (take sealed blocks) (all-take IsFull sealed blocks kept.store.full), length-take sealed blocks, kept.place.sealed_within, kept.place.before_is, kept.place.before_within)
 
 -- a store begins with itself
 pub grew-none : (blocks : List (List Entry)) (last : List Entry) → Grew blocks last blocks last
@@ -231,7 +370,7 @@ grew-none blocks last = record { begins = take-length (updates_in blocks last); 
 pub store-appended : (blocks : List (List Entry)) (last : List Entry) (held : ℕ) (entry : Entry) → IsStore blocks last held → IsStore blocks (last ++ entry ∷ []) (held + 1)
 store-appended blocks last held entry store = record {
   held_is = omega (arith, store.held_is, length-append (flat_map (λ (b : List Entry). b) blocks) last, length-append (flat_map (λ (b : List Entry). b) blocks) (last ++ entry ∷ []), length-append last (entry ∷ []));
-  some = store.some;
+  full = store.full;
 }
 
 pub updates-appended : (blocks : List (List Entry)) (last : List Entry) (entry : Entry) → updates_in blocks (last ++ entry ∷ []) ≡ updates_in blocks last ++ entry ∷ []
@@ -251,7 +390,7 @@ get_or-last : {X : Type 0} (xs : List X) (x d : X) → get_or (xs ++ x ∷ []) (
 get_or-last [] x d = refl
 get_or-last (y ∷ xs) x d = get_or-last xs x d
 
-longer : {X : Type 0} (xs ys : List X) → take (length xs) ys ≡ xs → length xs ≤ length ys
+pub longer : {X : Type 0} (xs ys : List X) → take (length xs) ys ≡ xs → length xs ≤ length ys
 longer xs ys begins = omega (arith, ap length begins, length-take (length xs) ys)
 
 pub grew-appended : (blocks : List (List Entry)) (last : List Entry) (more : List (List Entry)) (next : List Entry) (entry : Entry) → Grew blocks last more next → Grew blocks last more (next ++ entry ∷ [])
@@ -269,13 +408,12 @@ updates-sealed blocks last =
     append-nil (flat_map (λ (b : List Entry). b) (blocks ++ last ∷ [])) ∙ flat_map-append (λ (b : List Entry). b) blocks (last ∷ []) ∙ ap (λ l. flat_map (λ (b : List Entry). b) blocks ++ l) (append-nil last)
 
 -- one update more, which fills the block
-pub store-sealed : (blocks : List (List Entry)) (last : List Entry) (held : ℕ) (entry : Entry) → IsStore blocks last held → IsStore (blocks ++ (last ++ entry ∷ []) ∷ []) [] (held + 1)
-store-sealed blocks last held entry store =
+pub store-sealed : (blocks : List (List Entry)) (last : List Entry) (held : ℕ) (entry : Entry) → IsStore blocks last held → total_rows last < 1024 → 1024 ≤ total_rows (last ++ entry ∷ []) → IsStore (blocks ++ (last ++ entry ∷ []) ∷ []) [] (held + 1)
+store-sealed blocks last held entry store few enough =
     let whole = ap length (updates-sealed blocks (last ++ entry ∷ [])) in
-    let one = length-append last (entry ∷ []) in
     record {
       held_is = omega (arith, (store-appended blocks last held entry store).held_is, whole);
-      some = all-append (λ (b : List Entry). 0 < length b) blocks ((last ++ entry ∷ []) ∷ []) store.some (omega (arith, one), tt);
+      full = all-append IsFull blocks ((last ++ entry ∷ []) ∷ []) store.full (full-pushed last entry few enough, tt);
     }
 
 pub updates-filled : (blocks : List (List Entry)) (last : List Entry) (entry : Entry) → updates_in (blocks ++ (last ++ entry ∷ []) ∷ []) [] ≡ updates_in blocks last ++ entry ∷ []
@@ -306,17 +444,17 @@ grew-sealed blocks last more next entry grew =
     }
 
 -- what holds of each update that is shown holds of those after the sealed blocks
-pub first-all : (P : Entry → Type 0) (blocks : List (List Entry)) (last : List Entry) (held shown room sealed before : ℕ) (counts : List ℕ) (rows : ℕ) → IsKept blocks last held shown room sealed before counts rows → AllByRecursion P (take shown (updates_in blocks last))
+pub first-all : (P : Entry → Type 0) (blocks : List (List Entry)) (last : List Entry) (held shown room sealed before loose : ℕ) (counts : List ℕ) (rows : ℕ) → IsKept blocks last held shown room sealed before loose counts rows → AllByRecursion P (take shown (updates_in blocks last))
     → AllByRecursion P (updates_in (take sealed blocks) (take (shown - before) (get_or blocks sealed last)))
-first-all P blocks last held shown room sealed before counts rows kept all =
+first-all P blocks last held shown room sealed before loose counts rows kept all =
     subst (AllByRecursion P) (sym (first-shown blocks last shown sealed before kept.place (omega (arith, kept.store.held_is, kept.all_within)))) all
 
-pub first-whole : (blocks : List (List Entry)) (last : List Entry) (held shown room sealed before : ℕ) (counts : List ℕ) (rows : ℕ) → IsKept blocks last held shown room sealed before counts rows
+pub first-whole : (blocks : List (List Entry)) (last : List Entry) (held shown room sealed before loose : ℕ) (counts : List ℕ) (rows : ℕ) → IsKept blocks last held shown room sealed before loose counts rows
     → updates_in (take sealed blocks) (take (shown - before) (get_or blocks sealed last)) ≡ take shown (updates_in blocks last)
-first-whole blocks last held shown room sealed before counts rows kept = first-shown blocks last shown sealed before kept.place (omega (arith, kept.store.held_is, kept.all_within))
+first-whole blocks last held shown room sealed before loose counts rows kept = first-shown blocks last shown sealed before kept.place (omega (arith, kept.store.held_is, kept.all_within))
 
-pub length-shown : (blocks : List (List Entry)) (last : List Entry) (held shown room sealed before : ℕ) (counts : List ℕ) (rows : ℕ) → IsKept blocks last held shown room sealed before counts rows → length (take shown (updates_in blocks last)) ≡ shown
-length-shown blocks last held shown room sealed before counts rows kept = omega (arith, kept.store.held_is, kept.all_within, length-take shown (updates_in blocks last))
+pub length-shown : (blocks : List (List Entry)) (last : List Entry) (held shown room sealed before loose : ℕ) (counts : List ℕ) (rows : ℕ) → IsKept blocks last held shown room sealed before loose counts rows → length (take shown (updates_in blocks last)) ≡ shown
+length-shown blocks last held shown room sealed before loose counts rows kept = omega (arith, kept.store.held_is, kept.all_within, length-take shown (updates_in blocks last))
 
 drop-seam : {X : Type 0} (xs ys : List X) → drop (length xs) (xs ++ ys) ≡ ys
 drop-seam [] ys = refl

@@ -1,6 +1,7 @@
 pub mod Blocks
 pub mod Chronicle
 pub mod Day
+pub mod Filled
 pub mod Joined
 pub mod Rows
 pub mod Schema

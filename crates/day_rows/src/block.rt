@@ -1,5 +1,5 @@
 //! Blocks: the columns of consecutive updates, and a mark for each update.
-ghost use Rattle.std.specs.Prelude.{◌≡◌, ℕ, ◌<◌, ◌≤◌, ◌+◌, ◌^◌, ◌++◌, [], ◌∷◌, ◌==◌, if◌then◌else◌};
+ghost use Rattle.std.specs.Prelude.{◌≡◌, ◌↔◌, ℕ, ◌<◌, ◌≤◌, ◌+◌, ◌-◌, ◌^◌, ◌++◌, [], ◌∷◌, ◌==◌, if◌then◌else◌, true, min};
 ghost use Rattle.std.specs.Prelude.{length, map, take, drop, replicate, slice_get, vec_len, IfOk, IfErr, OnOk, OnErr, MatchOption};
 ghost use Rattle.std.specs.List.{AllByRecursion, sum_by};
 ghost use Rattle.day_rows.specs.Blocks.{IsBlock, mark_of, rows_marked, atoms_at, columns_with, tables_with};
@@ -38,7 +38,7 @@ pub struct Block {
     tables: Vec<Table>,
     // for each update its mark, in order
     marks: Vec<Mark>,
-    // the number of rows of all updates
+    // the number of rows of all updates; it saturates
     rows: u64,
     // the updates themselves, for contracts alone
     of: Trace<Entry>,
@@ -54,7 +54,7 @@ impl Model for Block {
 
     ghost view = { λ b. b.of };
 
-    ghost invariant = { λ b. IsBlock b.of b.tables.items b.marks.items };
+    ghost invariant = { λ b. IsBlock b.of b.tables.items b.marks.items b.rows };
 }
 
 // Adds tables without columns, until there is one with this index.
@@ -69,12 +69,14 @@ fn add_tables(alloc: Global, tables: &mut Vec<Table>, index: usize) -> Result<()
     Ok(())
 }
 
-// The room that a new column gets for the rows of an update: none without rows, and at least that of a small block.
+// The room that a new column gets, where the first update has this many rows: for as many updates of that size as seal a
+// block; where two do, for the first alone, since a vector that grows has room for twice as many.
 fn room_for(rows: usize) -> usize {
-    if rows == 0 {
-        return 0;
+    let least = BLOCK_ROWS as usize;
+    if rows == 0 || rows >= least / 2 {
+        return rows;
     }
-    rows.max(BLOCK_ROWS as usize)
+    rows.saturating_mul(least.div_ceil(rows))
 }
 
 // Appends an update's columns to those of its table. An error changes no atom.
@@ -201,7 +203,9 @@ impl Block {
     }
 
     /// Whether it has as many rows as a block that is sealed.
-    pub fn is_full(&self) -> bool {
+    pub fn is_full(&self) -> bool
+        ensures { (result ≡ true) ↔ (1024 ≤ total_rows self.now) }
+    {
         self.rows >= BLOCK_ROWS
     }
 
@@ -315,8 +319,10 @@ impl Block {
     }
 }
 
-// The number of rows of all updates with these marks.
-fn rows_of_marks(marks: &[Mark]) -> u64 {
+// The number of rows of all updates with these marks; it saturates.
+fn rows_of_marks(marks: &[Mark]) -> u64
+    ensures { result ≡ min (sum_by (λ mark. mark.rows) marks.now) (2 ^ 64 - 1) }
+{
     let mut rows = 0u64;
     for mark in marks {
         rows = rows.saturating_add(u64::from(mark.rows));

@@ -4,7 +4,7 @@ ghost use Rattle.std.specs.List.{flat_map};
 ghost use Rattle.q_values.specs.declared.atom.Atom.TheVariants as a;
 ghost use Rattle.day_rows.specs.Joined.{joined};
 
-use crate::block::{Block, SharedBlock};
+use crate::block::Block;
 use q_values::{Column, Kind, NoMemory, Symbols, Vector};
 use std::alloc::Global;
 
@@ -48,30 +48,28 @@ pub fn append_block(
     }
 }
 
-/// The `n` atoms from the row `from` on of a table's column in the blocks; fewer where it ends before. The number that it
-/// returns beside them is that of the atoms past the blocks that don't belong to the part.
+/// The `n` atoms from the row `from` on of a table's column in the blocks; fewer where it ends before.
 pub fn join_blocks(
     alloc: Global,
-    blocks: &[SharedBlock],
+    blocks: &[&Block],
     table: u32,
     column: usize,
     kind: Kind,
     from: usize,
     n: usize,
-) -> Result<(Vector, usize), NoMemory>
-    ensures found { IfOk result (λ p. p.0 ≡ record {
+) -> Result<Vector, NoMemory>
+    ensures { IfOk result (λ found. found ≡ record {
       kind = kind;
-      atoms = take n (drop from (joined table column (flat_map (λ block. block) blocks.now)));
+      atoms = take n (drop from (joined table column (flat_map (λ block. block.now) blocks.now)));
     }) }
-    ensures skip { IfOk result (λ p. p.1 ≡ from - length (joined table column (flat_map (λ block. block) blocks.now))) }
 {
     let mut found = Vector::new(alloc, kind);
     found.reserve(n)?;
     let mut skip = from;
     for block in blocks {
-        skip = append_block(&mut found, block.block(), table, column, skip, n)?;
+        skip = append_block(&mut found, block, table, column, skip, n)?;
     }
-    Ok((found, skip))
+    Ok(found)
 }
 
 /// Puts the symbols of a block's column at the end, lent; nothing where the block has none. A column of another kind answers

@@ -34,6 +34,7 @@
 
 mod admits;
 mod block;
+mod blocks;
 mod chronicle;
 mod closed_day;
 mod copies;

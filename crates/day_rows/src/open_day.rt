@@ -6,6 +6,7 @@ ghost use Rattle.q_values.specs.declared.kind.Kind.{Kind};
 ghost use Rattle.q_values.specs.Order.{IsOrder, atom_cmp};
 ghost use Rattle.day_rows.specs.Rows.{column_of, symbol_of};
 ghost use Rattle.day_rows.specs.Day.{Day, Opened, IsDay, IsUpdate, AreTableKinds, HasColumn, total_rows, arrived};
+ghost use Rattle.day_rows.specs.Filled.{filled};
 
 use crate::admits::{are_updates, total_of};
 use crate::closed_day::{ClosedDay, DayOrder, order_tables};
@@ -136,13 +137,16 @@ impl OpenDay {
 
     /// The number of rows after the last sealed block.
     pub fn loose_rows(&self) -> usize
-        ensures { result < 1024 }
+        ensures below { result < 1024 }
+        ensures value { result ≡ (filled self.now.day.updates).loose }
     {
         self.updates.loose_rows() as usize
     }
 
     /// The number of sealed blocks. The push after which a block has at least 1,024 rows seals it.
-    pub fn blocks(&self) -> usize {
+    pub fn blocks(&self) -> usize
+        ensures { result ≡ (filled self.now.day.updates).blocks }
+    {
         self.updates.blocks()
     }
 

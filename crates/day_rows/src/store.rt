@@ -7,8 +7,9 @@ ghost use Rattle.q_values.specs.Order.{IsOrder, atom_cmp};
 ghost use Rattle.q_values.specs.declared.atom.Atom.TheVariants as a;
 ghost use Rattle.day_rows.specs.Joined.{joined};
 
-use crate::block::{Block, SharedBlock};
-use crate::copies::{add_symbols, append_block, join_blocks};
+use crate::block::Block;
+use crate::blocks::Blocks;
+use crate::copies::{add_symbols, join_blocks};
 use crate::entry::Entry;
 use crate::schema::Kinds;
 use q_groups::Groups;
@@ -20,37 +21,22 @@ use std::mem;
 #[derive(Drop)]
 pub struct Store {
     /// The blocks that are full, in order.
-    pub blocks: Vec<SharedBlock>,
+    pub blocks: Blocks,
     /// The block of the updates after them.
     pub last: Block,
     /// The number of all updates.
     pub held: usize,
 }
 
-// The same blocks, which are shared and not copied.
-fn share_blocks(alloc: Global, blocks: &[SharedBlock]) -> Result<Vec<SharedBlock>, NoMemory>
-    ensures { IfOk result (λ shared. shared.items ≡ blocks.now) }
-{
-    let mut shared = Vec::with_capacity(alloc, blocks.len())?;
-    for block in blocks {
-        shared.push(block.share()?)?;
-    }
-    Ok(shared)
-}
-
 // Copies of the updates of the blocks, in order. `kinds` are those of each table's columns.
-fn split_blocks(
-    alloc: Global,
-    blocks: &[SharedBlock],
-    kinds: &[Kinds],
-) -> Result<Vec<Entry>, NoMemory>
-    requires updates { AllByRecursion (IsUpdate kinds.now) (flat_map (λ block. block) blocks.now) }
-    requires bounded { total_rows (flat_map (λ block. block) blocks.now) ≤ 4294967295 }
-    ensures { IfOk result (λ entries. entries.items ≡ flat_map (λ block. block) blocks.now) }
+fn split_blocks(alloc: Global, blocks: &[&Block], kinds: &[Kinds]) -> Result<Vec<Entry>, NoMemory>
+    requires updates { AllByRecursion (IsUpdate kinds.now) (flat_map (λ block. block.now) blocks.now) }
+    requires bounded { total_rows (flat_map (λ block. block.now) blocks.now) ≤ 4294967295 }
+    ensures { IfOk result (λ entries. entries.items ≡ flat_map (λ block. block.now) blocks.now) }
 {
     let mut entries = Vec::new(alloc);
     for block in blocks {
-        entries = block.block().split(alloc, kinds, entries)?;
+        entries = block.split(alloc, kinds, entries)?;
     }
     Ok(entries)
 }
@@ -58,12 +44,12 @@ fn split_blocks(
 impl Store {
     /// No updates. It takes no memory.
     pub fn new(alloc: Global) -> Store
-        ensures blocks { result.blocks.items ≡ [] }
+        ensures blocks { result.blocks ≡ [] }
         ensures last { result.last ≡ [] }
         ensures held { result.held ≡ 0 }
     {
         Store {
-            blocks: Vec::new(alloc),
+            blocks: Blocks::new(alloc),
             last: Block::new(alloc),
             held: 0,
         }
@@ -72,18 +58,14 @@ impl Store {
     // Moves the block that grows to the full ones. An error changes nothing.
     fn seal(&mut self, alloc: Global) -> Result<(), NoMemory>
         ensures held { self.new.held ≡ self.old.held }
-        ensures ok { OnOk result (self.new.blocks.items ≡ self.old.blocks.items ++ self.old.last ∷ []) }
+        ensures ok { OnOk result (self.new.blocks ≡ self.old.blocks ++ self.old.last ∷ []) }
         ensures fresh { OnOk result (self.new.last ≡ []) }
-        ensures blocks { OnErr result (self.new.blocks.items ≡ self.old.blocks.items) }
+        ensures blocks { OnErr result (self.new.blocks ≡ self.old.blocks) }
         ensures last { OnErr result (self.new.last ≡ self.old.last) }
     {
-        self.blocks.reserve(1)?;
         let full = mem::replace(&mut self.last, Block::new(alloc));
-        match SharedBlock::new(alloc, full) {
-            Ok(block) => {
-                self.blocks.push_reserved(block);
-                Ok(())
-            }
+        match self.blocks.push(alloc, full) {
+            Ok(()) => Ok(()),
             Err(full) => {
                 self.last = full;
                 Err(NoMemory)
@@ -93,11 +75,13 @@ impl Store {
 
     /// Appends these updates, whose columns are copied. After an error some of them may have been appended.
     pub fn extend(&mut self, alloc: Global, entries: &[Entry]) -> Result<(), NoMemory>
-        requires store { IsStore self.old.blocks.items self.old.last self.old.held }
+        requires store { IsStore self.old.blocks self.old.last self.old.held }
+        requires grows { total_rows self.old.last < 1024 }
         requires bounded { total_rows entries.now ≤ 4294967295 }
-        ensures store { IsStore self.new.blocks.items self.new.last self.new.held }
-        ensures grew { Grew self.old.blocks.items self.old.last self.new.blocks.items self.new.last }
-        ensures ok { OnOk result (updates_in self.new.blocks.items self.new.last ≡ updates_in self.old.blocks.items self.old.last ++ entries.now) }
+        ensures store { IsStore self.new.blocks self.new.last self.new.held }
+        ensures grew { Grew self.old.blocks self.old.last self.new.blocks self.new.last }
+        ensures ok { OnOk result (updates_in self.new.blocks self.new.last ≡ updates_in self.old.blocks self.old.last ++ entries.now) }
+        ensures grows { OnOk result (total_rows self.new.last < 1024) }
     {
         if entries.len() > usize::MAX - self.held {
             return Err(NoMemory);
@@ -124,16 +108,16 @@ impl Store {
     ) -> Result<Store, NoMemory>
         requires few { length kinds.now ≤ 64 }
         requires held { before + n < 2 ^ 64 }
-        requires sealed { sealed ≤ length self.now.blocks.items }
-        requires within { n ≤ length (get_or self.now.blocks.items sealed self.now.last) }
-        requires updates { AllByRecursion (IsUpdate kinds.now) (take n (get_or self.now.blocks.items sealed self.now.last)) }
-        requires bounded { total_rows (take n (get_or self.now.blocks.items sealed self.now.last)) ≤ 4294967295 }
-        ensures blocks { IfOk result (λ store. store.blocks.items ≡ take sealed self.now.blocks.items) }
-        ensures last { IfOk result (λ store. store.last ≡ take n (get_or self.now.blocks.items sealed self.now.last)) }
+        requires sealed { sealed ≤ length self.now.blocks }
+        requires within { n ≤ length (get_or self.now.blocks sealed self.now.last) }
+        requires updates { AllByRecursion (IsUpdate kinds.now) (take n (get_or self.now.blocks sealed self.now.last)) }
+        requires bounded { total_rows (take n (get_or self.now.blocks sealed self.now.last)) ≤ 4294967295 }
+        ensures blocks { IfOk result (λ store. store.blocks ≡ take sealed self.now.blocks) }
+        ensures last { IfOk result (λ store. store.last ≡ take n (get_or self.now.blocks sealed self.now.last)) }
         ensures held { IfOk result (λ store. store.held ≡ before + n) }
     {
         let last = self.next(sealed).first(alloc, kinds, n)?;
-        let blocks = share_blocks(alloc, &self.blocks[..sealed])?;
+        let blocks = self.blocks.first(alloc, sealed)?;
         Ok(Store {
             blocks,
             last,
@@ -143,7 +127,7 @@ impl Store {
 
     /// Becomes this one.
     pub fn replace(&mut self, fresh: Store)
-        ensures blocks { self.new.blocks.items ≡ fresh.blocks.items }
+        ensures blocks { self.new.blocks ≡ fresh.blocks }
         ensures last { self.new.last ≡ fresh.last }
         ensures held { self.new.held ≡ fresh.held }
     {
@@ -152,12 +136,21 @@ impl Store {
 
     /// The full block with this index; the one that grows after them.
     pub fn next(&self, index: usize) -> &Block
-        ensures { result.now ≡ get_or self.now.blocks.items index self.now.last }
+        ensures { result.now ≡ get_or self.now.blocks index self.now.last }
     {
-        if index < self.blocks.len() {
-            return self.blocks[index].block();
+        match self.blocks.get(index) {
+            Some(block) => block,
+            None => &self.last,
         }
-        &self.last
+    }
+
+    // All blocks, lent, in order.
+    fn all(&self, alloc: Global) -> Result<Vec<&Block>, NoMemory>
+        ensures { IfOk result (λ all. flat_map (λ block. block.now) all.items ≡ updates_in self.now.blocks self.now.last) }
+    {
+        let mut all = self.blocks.lent(alloc)?;
+        all.push(&self.last)?;
+        Ok(all)
     }
 
     /// The `n` atoms from the row `from` on of a table's column, in the order of arrival; fewer where it ends before.
@@ -172,24 +165,24 @@ impl Store {
     ) -> Result<Vector, NoMemory>
         ensures { IfOk result (λ found. found ≡ record {
           kind = kind;
-          atoms = take n (drop from (joined table column (updates_in self.now.blocks.items self.now.last)));
+          atoms = take n (drop from (joined table column (updates_in self.now.blocks self.now.last)));
         }) }
     {
-        let (mut found, skip) = join_blocks(alloc, &self.blocks, table, column, kind, from, n)?;
-        append_block(&mut found, &self.last, table, column, skip, n)?;
+        let blocks = self.all(alloc)?;
+        let found = join_blocks(alloc, &blocks, table, column, kind, from, n)?;
         Ok(found)
     }
 
     // The symbols of a table's column, lent, in the order of arrival.
     fn symbols(&self, alloc: Global, table: u32, column: usize) -> Result<Vec<&Symbols>, NoMemory>
         ensures { IfOk result (λ parts. map (λ t. a.Symbol t) (flat_map (λ part. part.now) parts.items)
-            ≡ joined table column (updates_in self.now.blocks.items self.now.last)) }
+            ≡ joined table column (updates_in self.now.blocks self.now.last)) }
     {
-        let mut parts = Vec::with_capacity(alloc, self.blocks.len())?;
-        for block in &self.blocks {
-            add_symbols(&mut parts, block.block(), table, column)?;
+        let blocks = self.all(alloc)?;
+        let mut parts = Vec::with_capacity(alloc, blocks.len())?;
+        for block in &blocks {
+            add_symbols(&mut parts, block, table, column)?;
         }
-        add_symbols(&mut parts, &self.last, table, column)?;
         Ok(parts)
     }
 
@@ -202,7 +195,7 @@ impl Store {
         n: usize,
     ) -> Result<Vec<u32>, NoMemory>
         ensures { IfOk result (λ order. IsOrder atom_cmp
-            (take n (joined table column (updates_in self.now.blocks.items self.now.last))) order.items) }
+            (take n (joined table column (updates_in self.now.blocks self.now.last))) order.items) }
     {
         let parts = self.symbols(alloc, table, column)?;
         let groups = Groups::of_symbols(alloc, &parts, n)?;
@@ -220,17 +213,18 @@ impl Store {
         n: usize,
     ) -> Result<Vec<Entry>, NoMemory>
         requires few { length kinds.now ≤ 64 }
-        requires sealed { sealed ≤ length self.now.blocks.items }
-        requires within { n ≤ length (get_or self.now.blocks.items sealed self.now.last) }
+        requires sealed { sealed ≤ length self.now.blocks }
+        requires within { n ≤ length (get_or self.now.blocks sealed self.now.last) }
         requires updates { AllByRecursion (IsUpdate kinds.now)
-            (flat_map (λ block. block) (take sealed self.now.blocks.items) ++ take n (get_or self.now.blocks.items sealed self.now.last)) }
+            (flat_map (λ block. block) (take sealed self.now.blocks) ++ take n (get_or self.now.blocks sealed self.now.last)) }
         requires bounded { total_rows
-            (flat_map (λ block. block) (take sealed self.now.blocks.items) ++ take n (get_or self.now.blocks.items sealed self.now.last)) ≤ 4294967295 }
+            (flat_map (λ block. block) (take sealed self.now.blocks) ++ take n (get_or self.now.blocks sealed self.now.last)) ≤ 4294967295 }
         ensures { IfOk result (λ entries. entries.items
-            ≡ flat_map (λ block. block) (take sealed self.now.blocks.items) ++ take n (get_or self.now.blocks.items sealed self.now.last)) }
+            ≡ flat_map (λ block. block) (take sealed self.now.blocks) ++ take n (get_or self.now.blocks sealed self.now.last)) }
     {
         let last = self.next(sealed).first(alloc, kinds, n)?;
-        let entries = split_blocks(alloc, &self.blocks[..sealed], kinds)?;
+        let blocks = self.blocks.lent(alloc)?;
+        let entries = split_blocks(alloc, &blocks[..sealed], kinds)?;
         last.split(alloc, kinds, entries)
     }
 }

@@ -2,8 +2,9 @@
 ghost use Rattle.std.specs.Prelude.{◌≡◌, ◌<◌, ◌≤◌, ◌+◌, ◌^◌, ◌++◌, [], ◌∷◌, length, take, drop, replicate, get_or, set, IfOk, OnOk, OnErr};
 ghost use Rattle.std.specs.List.{AllByRecursion, sum_by};
 ghost use Rattle.q_values.specs.Order.{IsOrder, atom_cmp};
-ghost use Rattle.day_rows.specs.Blocks.{mark_of, IsPlace};
+ghost use Rattle.day_rows.specs.Blocks.{mark_of};
 ghost use Rattle.day_rows.specs.Day.{IsUpdate, entry_rows, total_rows};
+ghost use Rattle.day_rows.specs.Filled.{filled};
 ghost use Rattle.day_rows.specs.Joined.{joined, rows_in};
 
 use crate::admits::rows_of_entry;
@@ -44,11 +45,11 @@ impl Model for Updates {
 
     ghost view = { λ u. record {
       tables = length u.counts.items;
-      updates = take u.shown (updates_in u.store.blocks.items u.store.last);
-      room = take u.room (drop u.shown (updates_in u.store.blocks.items u.store.last));
+      updates = take u.shown (updates_in u.store.blocks u.store.last);
+      room = take u.room (drop u.shown (updates_in u.store.blocks u.store.last));
     } };
 
-    ghost invariant = { λ u. IsKept u.store.blocks.items u.store.last u.store.held u.shown u.room u.sealed u.before u.counts.items u.rows };
+    ghost invariant = { λ u. IsKept u.store.blocks u.store.last u.store.held u.shown u.room u.sealed u.before u.loose u.counts.items u.rows };
 }
 
 // This many zeros.
@@ -56,13 +57,6 @@ fn zeros(alloc: Global, n: usize) -> Result<Vec<u32>, NoMemory>
     ensures { IfOk result (λ found. found.items ≡ replicate n 0) }
 {
     Ok(vec![in alloc; 0u32; n]?)
-}
-
-// How many of this many rows after the last sealed block are left after it once a block is sealed where they are enough.
-fn rows_after_seal(rows: u64) -> u64
-    ensures { result < 1024 }
-{
-    if rows >= BLOCK_ROWS { 0 } else { rows }
 }
 
 // Adds an entry's rows to the count of its table.
@@ -78,27 +72,25 @@ fn add_rows(counts: &mut Vec<u32>, entry: &Entry)
     counts[index] += mark.rows;
 }
 
-// How many blocks are sealed, and the number of their updates, after one more update: it seals the next block where it is
-// the last of it.
+// How many blocks are sealed, the number of their updates and the number of rows after them, once there are `shown`
+// updates, the last of which has this many rows: it seals the block that then has enough.
 fn place_after(
-    store: &Store,
-    held: usize,
+    rows: u64,
     shown: usize,
     sealed: usize,
     before: usize,
-) -> (usize, usize)
-    requires place { IsPlace store.now.blocks.items store.now.last shown sealed before }
-    requires some { AllByRecursion (λ block. 0 < length block) store.now.blocks.items }
-    requires counted { shown < held }
-    ensures { IsPlace store.now.blocks.items store.now.last (shown + 1) result.0 result.1 }
+    loose: u64,
+) -> (usize, usize, u64)
+    requires fits { loose + rows < 2 ^ 64 }
+    requires few { sealed < shown }
+    ensures full { 1024 ≤ loose + rows → (result.0 ≡ sealed + 1) × (result.1 ≡ shown) × (result.2 ≡ 0) }
+    ensures open { loose + rows < 1024 → (result.0 ≡ sealed) × (result.1 ≡ before) × (result.2 ≡ loose + rows) }
 {
-    if sealed < store.blocks.len() {
-        let updates = store.blocks[sealed].block().len();
-        if updates <= shown + 1 - before {
-            return (sealed + 1, before + updates);
-        }
+    let loose = loose + rows;
+    if loose < BLOCK_ROWS {
+        return (sealed, before, loose);
     }
-    (sealed, before)
+    (sealed + 1, shown, 0)
 }
 
 // The number of updates that are shown, and one more of those that are held.
@@ -172,16 +164,21 @@ impl Updates {
         ensures { self.new ≡ record self.old { updates = self.old.updates ++ entry.now ∷ []; room = drop 1 self.old.room } }
     {
         let rows = rows_of_entry(entry) as u64;
-        let held = self.store.held;
-        let (sealed, before) = place_after(&self.store, held, self.shown, self.sealed, self.before);
-        let shown = count_one(held, self.shown);
+        let shown = count_one(self.store.held, self.shown);
+        let (sealed, before, loose) = place_after(
+            rows,
+            shown,
+            self.sealed,
+            self.before,
+            self.loose,
+        );
         add_rows(&mut self.counts, entry);
         self.rows += rows;
-        self.loose = rows_after_seal(self.loose.saturating_add(rows));
         self.shown = shown;
         self.room -= 1;
         self.sealed = sealed;
         self.before = before;
+        self.loose = loose;
     }
 
     /// The same updates, without room for more: sealed blocks are shared, and the columns of the other updates are copied.
@@ -223,13 +220,16 @@ impl Updates {
 
     /// The number of rows after the last sealed block.
     pub fn loose_rows(&self) -> u64
-        ensures { result < 1024 }
+        ensures below { result < 1024 }
+        ensures value { result ≡ (filled self.now.updates).loose }
     {
-        rows_after_seal(self.loose)
+        self.loose
     }
 
     /// The number of sealed blocks.
-    pub fn blocks(&self) -> usize {
+    pub fn blocks(&self) -> usize
+        ensures { result ≡ (filled self.now.updates).blocks }
+    {
         self.sealed
     }
 

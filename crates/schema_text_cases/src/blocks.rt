@@ -144,3 +144,28 @@ fn many_rows_are_given_back(rt: HostRuntime) -> Result<(), Fail> {
     assert!(rt; prices(ended.updates(alloc)?.as_slice()) == Some(125003));
     Ok(())
 }
+
+// A full block in each update.
+const FULL: [i64; 300] = [1024; 300];
+
+// Whether a copy of a day with this many blocks has the same updates, and stays as it is while the day goes on.
+fn copy_stands(alloc: Global, count: usize) -> Result<bool, Fail> {
+    let full = &FULL[..count.min(FULL.len())];
+    let rows = 1024 * full.len() as i64;
+    let mut day = filled(alloc, 0, full)?;
+    let copied = day.copy(alloc)?;
+    log(alloc, &mut day, trades(alloc, rows, 5)?)?;
+    let counted = copied.blocks() == count && copied.loose_rows() == 0 && day.loose_rows() == 5;
+    let before = prices(copied.updates(alloc)?.as_slice()) == Some(rows);
+    let after = prices(day.updates(alloc)?.as_slice()) == Some(rows + 5);
+    Ok(counted && before && after)
+}
+
+#[test]
+fn copies_of_many_blocks_stand(rt: HostRuntime) -> Result<(), Fail> {
+    let alloc = rt.alloc();
+    for count in [1usize, 127, 128, 129, 256, 300] {
+        assert!(rt; copy_stands(alloc, count)?);
+    }
+    Ok(())
+}

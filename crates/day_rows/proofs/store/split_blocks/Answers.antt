@@ -1,13 +1,12 @@
-use Rattle.std.proofs.Common.{arith, ap, subst, sym}
-use Rattle.std.specs.List.{AllByRecursion, sum_by}
+use Rattle.std.proofs.Common.{arith}
 use Rattle.day_rows.specs.Day.{IsUpdate, entry_rows}
 use Rattle.day_rows.proofs.BlockLemmas.{block-sum, block-all}
 use Rattle.day_rows.proofs.store.split_blocks.Goals as goal
 
 pub split-requires-clause-updates : goal.split-requires-clause-updates
 split-requires-clause-updates c =
-    subst (AllByRecursion (IsUpdate c.args.kinds.now)) (sym c.block.ensures) (block-all (IsUpdate c.args.kinds.now) c.args.blocks.now c.loop-block.block-index c.block-item.result c.loop-block-test.true c.block-item.is c.requires.updates)
+    block-all (λ block. block.now) (IsUpdate c.args.kinds.now) c.args.blocks.now c.loop-block.block-index c.block-item.result c.loop-block-test.true c.block-item.is c.requires.updates
 
 pub split-requires-clause-bounded : goal.split-requires-clause-bounded
 split-requires-clause-bounded c =
-    omega (arith, ap (sum_by entry_rows) c.block.ensures, block-sum entry_rows c.args.blocks.now c.loop-block.block-index c.block-item.result c.loop-block-test.true c.block-item.is, c.requires.bounded)
+    omega (arith, block-sum (λ block. block.now) entry_rows c.args.blocks.now c.loop-block.block-index c.block-item.result c.loop-block-test.true c.block-item.is, c.requires.bounded)

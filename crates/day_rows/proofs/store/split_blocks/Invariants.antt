@@ -3,4 +3,4 @@ use Rattle.std.specs.List.{flat_map}
 use Rattle.day_rows.proofs.store.split_blocks.Given as goal
 
 abbrev pub invariant-loop-block : goal.invariant-loop-block
-invariant-loop-block l = l.entries.items ≡ flat_map (λ block. block) (take l.block-index l.blocks)
+invariant-loop-block l = l.entries.items ≡ flat_map (λ block. block.now) (take l.block-index l.blocks)

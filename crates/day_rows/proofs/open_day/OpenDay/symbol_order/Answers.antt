@@ -1,4 +1,4 @@
-use Rattle.std.proofs.Common.{List, arith, ap, ◌≡◌, ◌∙◌, sym, subst, length, map, take}
+use Rattle.std.proofs.Common.{List, arith, ap, ◌∙◌, sym, subst, length, map, take}
 use Rattle.std.proofs.lemmas.List.{length-map}
 use Rattle.std.proofs.lemmas.Option.{slice_get_within}
 use Rattle.q_values.specs.Order.{IsOrder, atom_cmp}

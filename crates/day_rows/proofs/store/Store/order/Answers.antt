@@ -14,5 +14,5 @@ returns c =
     let symbol : List ℕ → Atom = λ t. a.Symbol t in
     let found = flat_map (λ part. part.now) c.deref.result.now in
     let same = sym (take-map symbol c.args.n found) ∙ ap (take c.args.n) (ap (λ parts. map symbol (flat_map (λ part. part.now) parts)) c.deref.ensures.value ∙ c.in_ok-parts.ensures) in
-    c.in_ok-order.ensures (take c.args.n (joined c.args.table c.args.column (updates_in c.args.self.now.blocks.items c.args.self.now.last)))
+    c.in_ok-order.ensures (take c.args.n (joined c.args.table c.args.column (updates_in c.args.self.now.blocks c.args.self.now.last)))
     (subst (λ (l : List Atom). AreGroups same_atom atom_cmp l c.in_ok-groups.groups) same c.in_ok-groups.ensures)

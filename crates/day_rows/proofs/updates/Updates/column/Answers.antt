@@ -6,7 +6,7 @@ use Rattle.day_rows.proofs.updates.Updates.column.Goals as goal
 
 pub returns : goal.returns
 returns c =
-    let whole = updates_in c.self.inside.store.blocks.items c.self.inside.store.last in
+    let whole = updates_in c.self.inside.store.blocks c.self.inside.store.last in
     let within = rw (← c.self.view_is) at c.requires in
     c.in_ok-found.ensures
     ∙ ap (λ a. record { kind = c.args.kind; atoms = a }) (part-shown c.args.table c.args.column c.args.n c.args.from c.self.inside.shown whole within)

@@ -8,7 +8,7 @@ use Rattle.day_rows.proofs.updates.Updates.order.Goals as goal
 
 pub returns : goal.returns
 returns c =
-    let whole = updates_in c.self.inside.store.blocks.items c.self.inside.store.last in
+    let whole = updates_in c.self.inside.store.blocks c.self.inside.store.last in
     let within = rw (← c.self.view_is) at c.requires in
     let from_zero : 0 + c.args.n ≤ length (joined c.args.table c.args.column (take c.self.inside.shown whole)) = omega (arith, within) in
     subst (λ (l : List Atom). IsOrder atom_cmp l c.in_ok-order.order.items)

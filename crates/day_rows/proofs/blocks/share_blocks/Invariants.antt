@@ -1,5 +1,5 @@
 use Rattle.std.proofs.Common.{◌≡◌, take}
-use Rattle.day_rows.proofs.store.share_blocks.Given as goal
+use Rattle.day_rows.proofs.blocks.share_blocks.Given as goal
 
 abbrev pub invariant-loop-block : goal.invariant-loop-block
 invariant-loop-block l = l.shared.items ≡ take l.block-index l.blocks
