@@ -13,8 +13,8 @@ ghost use Rattle.ipc_codec.specs.Written.{head, text_bytes, element_bytes, vecto
 use crate::lengths::encoded_length;
 use byteorder::{ByteOrder, LittleEndian};
 use q_values::{
-    Atom, Column, Element, Form, NoMemory, ShortSymbol, Sym, Symbols, TableValue, Value, Values,
-    Vector,
+    Arena, Atom, Column, Element, Form, NoMemory, ShortSymbol, Sym, Symbols, TableValue, Value,
+    Values, Vector,
 };
 
 // How many short symbols are written at a time.
@@ -134,7 +134,7 @@ fn put_short_symbols(out: &mut Vec<u8>, symbols: &[ShortSymbol]) -> Result<(), N
 }
 
 #[tactic(auto, using(crate::proofs::WritingLemmas::begins))]
-fn put_texts(out: &mut Vec<u8>, symbols: &Symbols) -> Result<(), NoMemory>
+fn put_texts(out: &mut Vec<u8>, symbols: &Arena) -> Result<(), NoMemory>
     ensures ok { OnOk result (out.new.items ≡ out.old.items ++ flat_map text_bytes symbols.now) }
     ensures err { OnErr result (Begins out.old.items out.new.items) }
 {
@@ -150,7 +150,7 @@ fn put_symbols(out: &mut Vec<u8>, symbols: &Symbols) -> Result<(), NoMemory>
 {
     match symbols.form() {
         Form::Short(items) => put_short_symbols(out, items),
-        Form::Long(_) => put_texts(out, symbols),
+        Form::Long(arena) => put_texts(out, arena),
     }
 }
 
