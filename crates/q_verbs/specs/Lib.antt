@@ -1,11 +1,8 @@
 pub mod Aggregates
 pub mod Kinds
-pub mod Loops
-pub mod Numbers
-pub mod Places
-pub mod Laws
 pub mod Like
 pub mod Lists
-pub mod Tests
-pub mod Lanes
+pub mod Numbers
+pub mod Places
 pub mod Sides
+pub mod Tests

@@ -21,6 +21,10 @@ abbrev pub spread : ℕ → Side → List Atom
 spread n (s.Column items) = items.now.atoms
 spread n (s.Atom x) = replicate n x.now
 
+-- the items of a side on its own: an atom is one
+abbrev pub items_of : Side → List Atom
+items_of side = spread 1 side
+
 -- two columns have one length
 abbrev pub AreBeside : Side → Side → Type 0
 AreBeside (s.Column items) (s.Column others) = length items.now.atoms ≡ length others.now.atoms

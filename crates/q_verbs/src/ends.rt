@@ -1,8 +1,8 @@
-//! The greatest and least values and the nulls of the kinds.
+//! The nulls of the kinds.
 ghost use Rattle.std.specs.Prelude.{◌≡◌, ◌≢◌, IsTrue, IfOk, is_ok};
 ghost use Rattle.q_values.specs.declared.kind.Kind.TheVariants as k;
 ghost use Rattle.q_values.specs.Kind.{storage_of};
-ghost use Rattle.q_verbs.specs.Aggregates.{stored_atom, greatest, lowest, null_of};
+ghost use Rattle.q_verbs.specs.Aggregates.{stored_atom, null_of};
 
 use q_values::{Atom, Kind, NoMemory, Storage, Sym};
 use std::alloc::Global;
@@ -42,38 +42,8 @@ impl Ends {
     }
 }
 
-/// The greatest value of a kind; of a symbol the empty one.
-pub(crate) fn greatest_of(alloc: Global, kind: Kind) -> Result<Atom, NoMemory>
-    ensures value { IfOk result (λ x. x ≡ greatest kind) }
-    ensures ok { kind ≢ k.Symbol → IsTrue (is_ok result) }
-{
-    let ends = Ends {
-        boolean: true,
-        byte: u8::MAX,
-        short: i16::MAX,
-        integer: i32::MAX,
-        long: i64::MAX,
-    };
-    ends.atom(alloc, kind)
-}
-
-/// The greatest value of a kind negated; 0 for a boolean, a byte or a character.
-pub(crate) fn lowest_of(alloc: Global, kind: Kind) -> Result<Atom, NoMemory>
-    ensures value { IfOk result (λ x. x ≡ lowest kind) }
-    ensures ok { kind ≢ k.Symbol → IsTrue (is_ok result) }
-{
-    let ends = Ends {
-        boolean: false,
-        byte: 0,
-        short: -i16::MAX,
-        integer: -i32::MAX,
-        long: -i64::MAX,
-    };
-    ends.atom(alloc, kind)
-}
-
 /// The null of a kind, or the value that is used as one.
-pub(crate) fn null_atom(alloc: Global, kind: Kind) -> Result<Atom, NoMemory>
+pub fn null_atom(alloc: Global, kind: Kind) -> Result<Atom, NoMemory>
     ensures value { IfOk result (λ x. x ≡ null_of kind) }
     ensures ok { kind ≢ k.Symbol → IsTrue (is_ok result) }
 {

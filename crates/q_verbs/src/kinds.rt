@@ -43,7 +43,7 @@ fn has_number(x: Kind) -> bool
 }
 
 /// Whether the left side has the kind `a` and the right side the kind `b`.
-pub(crate) fn have(a: Kind, b: Kind, left: Kind, right: Kind) -> bool
+pub fn have(a: Kind, b: Kind, left: Kind, right: Kind) -> bool
     ensures { result ≡ are a b left right }
 {
     left == a && right == b

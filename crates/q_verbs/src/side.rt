@@ -1,6 +1,5 @@
 //! The sides of a verb with two sides.
-ghost use Rattle.std.specs.Prelude.{◌≡◌, ◌≢◌, length};
-ghost use Rattle.q_values.specs.declared.kind.Kind.TheVariants as k;
+ghost use Rattle.std.specs.Prelude.{◌≡◌};
 ghost use Rattle.q_verbs.specs.Sides.{side_kind, rows};
 
 use q_values::{Atom, Kind, Vector};
@@ -27,7 +26,7 @@ impl Side<'_> {
 }
 
 /// The number of items of a column among the two sides; 1 of two atoms.
-pub(crate) fn rows_of(left: &Side<'_>, right: &Side<'_>) -> usize
+pub fn rows_of(left: &Side<'_>, right: &Side<'_>) -> usize
     ensures { result ≡ rows left.now right.now }
 {
     match (left, right) {

@@ -1,4 +1,5 @@
-//! Tests of `q_verbs`: each verb over whole columns, against rows that were worked out apart from its code.
+//! Tests of `q_binary`, `q_unary` and `q_matching`: each verb over whole columns, against rows that were worked out apart
+//! from its code.
 //!
 //! They are a crate of their own, since a crate with tests in it is proved twice.
 //!
@@ -7,13 +8,14 @@
 //!   items.
 //! - `kinds_rows` has the kind of each verb's result for each pair of kinds.
 //! - `table_test` reads the rows, runs the verbs and compares.
+//! - `sizes` runs `in`, `within`, `min`, `max` and `neg` over 1,000 and 100,000 rows of each width.
 //! - `examples` has the published ones (KX, Q for Mortals, 4).
 //!
 //! ```text
 //! (Verb::Add, &["i 1 0N; i 2 2; i 3 0N"])      // 1 0N + 2 2 is 3 0N
 //! ```
 //!
-//! A new verb gets rows in these tables. What holds of all columns is proved, in `q_verbs`, and not tested.
+//! A new verb gets rows in these tables. What holds of all columns is proved, in these crates, and not tested.
 #![tactic(auto)]
 
 #[cfg(test)]
@@ -22,6 +24,8 @@ mod examples;
 mod kinds_rows;
 #[cfg(test)]
 mod one_side_rows;
+#[cfg(test)]
+mod sizes;
 #[cfg(test)]
 mod table_test;
 #[cfg(test)]

@@ -6,11 +6,11 @@ ghost use Rattle.q_verbs.specs.Lists.{is_unary};
 ghost use Rattle.q_verbs.specs.Aggregates.{is_aggregate};
 
 use crate::{kinds_rows, one_side_rows, two_sides_rows};
+use q_binary::binary;
+use q_matching::{is_in, is_like, is_within};
+use q_unary::{aggregate, unary};
 use q_values::{Atom, Column, Kind, NoMemory, Sym, Symbols, Vector};
-use q_verbs::{
-    Side, Verb, Verb1, aggregate, binary, is_in, is_like, is_within, result_kind, result_kind1,
-    unary,
-};
+use q_verbs::{Side, Verb, Verb1, result_kind, result_kind1};
 use std::alloc::Global;
 use std::test::Fail;
 
@@ -43,7 +43,7 @@ fn kind_of_word(word: &str) -> Option<Kind> {
     }
 }
 
-fn null_number(kind: Kind) -> i64 {
+pub(crate) fn null_number(kind: Kind) -> i64 {
     match kind {
         Kind::Short => i64::from(i16::MIN),
         Kind::Long | Kind::Timestamp | Kind::Timespan => i64::MIN,
@@ -95,7 +95,7 @@ fn wide_atom(kind: Kind, number: i64) -> Option<Atom> {
     }
 }
 
-fn atom_of_number(kind: Kind, number: i64) -> Option<Atom> {
+pub(crate) fn atom_of_number(kind: Kind, number: i64) -> Option<Atom> {
     match narrow_atom(kind, number) {
         Some(atom) => Some(atom),
         None => wide_atom(kind, number),
@@ -165,7 +165,7 @@ fn is_same_column(some: &Column, others: &Column) -> bool {
     }
 }
 
-fn is_same(some: &Vector, others: &Vector) -> bool {
+pub(crate) fn is_same(some: &Vector, others: &Vector) -> bool {
     some.kind() == others.kind() && is_same_column(some.column(), others.column())
 }
 
@@ -205,7 +205,7 @@ fn by_place(
     }
 }
 
-fn among(alloc: Global, left: &Vector, items: &Vector) -> Result<Option<Vector>, NoMemory> {
+fn among(alloc: Global, left: &Side<'_>, items: &Side<'_>) -> Result<Option<Vector>, NoMemory> {
     match result_kind(Verb::In, left.kind(), items.kind()) {
         Some(_) => {
             let found = is_in(alloc, left, items)?;
@@ -217,7 +217,7 @@ fn among(alloc: Global, left: &Vector, items: &Vector) -> Result<Option<Vector>,
 
 fn between_atoms(
     alloc: Global,
-    left: &Vector,
+    left: &Side<'_>,
     low: &Atom,
     high: &Atom,
 ) -> Result<Option<Vector>, NoMemory> {
@@ -233,7 +233,7 @@ fn between_atoms(
     }
 }
 
-fn between(alloc: Global, left: &Vector, ends: &Vector) -> Result<Option<Vector>, NoMemory> {
+fn between(alloc: Global, left: &Side<'_>, ends: &Vector) -> Result<Option<Vector>, NoMemory> {
     if ends.len() != 2 {
         return Ok(None);
     }
@@ -243,7 +243,7 @@ fn between(alloc: Global, left: &Vector, ends: &Vector) -> Result<Option<Vector>
     Ok(found)
 }
 
-fn alike(alloc: Global, left: &Vector, pattern: &Vector) -> Result<Option<Vector>, NoMemory> {
+fn alike(alloc: Global, left: &Side<'_>, pattern: &Vector) -> Result<Option<Vector>, NoMemory> {
     if left.kind() != Kind::Symbol {
         return Ok(None);
     }
@@ -256,6 +256,21 @@ fn alike(alloc: Global, left: &Vector, pattern: &Vector) -> Result<Option<Vector
     }
 }
 
+// What a verb that tests the items of a side finds.
+fn found_of_test(
+    alloc: Global,
+    verb: Verb,
+    left: &Side<'_>,
+    right: &Vector,
+) -> Result<Option<Vector>, NoMemory> {
+    match verb {
+        Verb::In => among(alloc, left, &Side::Column(right)),
+        Verb::Within => between(alloc, left, right),
+        Verb::Like => alike(alloc, left, right),
+        _ => Ok(None),
+    }
+}
+
 // The verb's result for the two columns; `None` where it doesn't take them.
 fn found_of_two(
     alloc: Global,
@@ -263,11 +278,10 @@ fn found_of_two(
     left: &Vector,
     right: &Vector,
 ) -> Result<Option<Vector>, NoMemory> {
-    match verb {
-        Verb::In => among(alloc, left, right),
-        Verb::Within => between(alloc, left, right),
-        Verb::Like => alike(alloc, left, right),
-        _ => by_place(alloc, verb, left, right),
+    if goes_by_place(verb) {
+        by_place(alloc, verb, left, right)
+    } else {
+        found_of_test(alloc, verb, &Side::Column(left), right)
     }
 }
 
@@ -352,6 +366,28 @@ fn atoms_give(
     Ok(left_holds && right_holds && both_hold)
 }
 
+// Whether a verb that tests the items of a side gives the same for each item as an atom.
+fn tests_hold(
+    alloc: Global,
+    verb: Verb,
+    left: &Vector,
+    right: &Vector,
+    wanted: &Vector,
+) -> Result<bool, NoMemory> {
+    for i in 0..left.len() {
+        if i >= wanted.len() {
+            return Ok(false);
+        }
+        let atom = left.at(alloc, i)?;
+        let one = wanted.take(alloc, i, 1)?;
+        let found = found_of_test(alloc, verb, &Side::Atom(&atom), right)?;
+        if !has_item(found, &one, 0, alloc)? {
+            return Ok(false);
+        }
+    }
+    Ok(true)
+}
+
 // Whether each item of the row stands as an atom beside the other column.
 fn atoms_hold(
     alloc: Global,
@@ -361,7 +397,7 @@ fn atoms_hold(
     wanted: &Vector,
 ) -> Result<bool, NoMemory> {
     if !goes_by_place(verb) {
-        return Ok(true);
+        return tests_hold(alloc, verb, left, right, wanted);
     }
     for i in 0..left.len() {
         if !atoms_give(alloc, verb, left, right, wanted, i)? {
@@ -399,7 +435,7 @@ fn row_holds(alloc: Global, verb: Verb, row: &str) -> Result<bool, Fail> {
 }
 
 // A column of one.
-fn vector_of_atom(alloc: Global, atom: Atom) -> Result<Vector, Fail> {
+pub(crate) fn vector_of_atom(alloc: Global, atom: Atom) -> Result<Vector, Fail> {
     let mut items = Vector::new(alloc, atom.kind());
     items.push(atom)?;
     Ok(items)

@@ -1,7 +1,7 @@
 -- What a query that fits its table has, over rows that have its columns.
-use Rattle.std.proofs.Common.{◌≡◌, ℕ, ◌==◌, Bool, true, false, cond, not, ◌&&◌, ◌||◌, List, [], ◌∷◌, ◌++◌, length, map, refl, sym, ap, ◌∙◌, zero, suc, All, Option, Some, None, subst, arith}
+use Rattle.std.proofs.Common.{◌≡◌, ℕ, ◌==◌, Bool, true, false, cond, not, ◌&&◌, ◌||◌, List, [], ◌∷◌, ◌++◌, length, map, refl, sym, ap, ◌∙◌, All, Option, Some, None, subst, arith}
 use Rattle.std.specs.Prelude.{is_some, option_and_then}
-use Rattle.std.specs.List.{list_all, list_any, flat_map}
+use Rattle.std.specs.List.{list_all, list_any}
 use Rattle.std.proofs.lemmas.List.Elements.{All-nil, All-cons, All-head, All-tail, All-weaker}
 use Rattle.q_values.specs.Kind.{is, type_number, kind_at}
 use Rattle.q_values.specs.declared.kind.Kind.{Kind}
@@ -11,18 +11,20 @@ use Rattle.day_rows.specs.declared.schema.Shape.{Shape}
 use Rattle.qsql_request.specs.Forms.{Form, constant, column, one, two, ColumnForm, QueryForm}
 use Rattle.qsql_request.specs.Names.{names_in, names_in_columns, names_in_phrases, names_of}
 use Rattle.qsql_request.specs.Shapes.{shape, is_list}
-use Rattle.qsql_request.specs.Unbuilt.{has_unbuilt, is_nameless, is_unbuilt_column, is_unbuilt_phrase, has_unbuilt_parts, has_list, has_not_scalar, has_not_rows, has_wrong_shape, is_unbuilt_query, is_empty}
+use Rattle.qsql_request.specs.Unbuilt.{has_unbuilt, is_nameless, is_unbuilt_column, is_unbuilt_phrase, has_unbuilt_parts, has_list, has_not_scalar, has_not_rows, has_wrong_shape, is_wrong_exec, is_unbuilt_query, is_empty}
 use Rattle.qsql_request.specs.Views.{form, column_form, query_of}
 use Rattle.qsql_request.specs.declared.request.Col.{Col}
 use Rattle.qsql_request.specs.declared.request.Expr.{Expr}
 use Rattle.qsql_request.specs.declared.request.Query.{Query}
-use Rattle.qsql_eval.specs.Frames.{Frame, kind_beside}
-use Rattle.qsql_eval.specs.Judgement.{Judgement, unknown, mistyped, fits, column_kind, kind_in, kind_of_both, is_within, are_ends, is_boolean, has_kind, has_kinds, is_typed, all_columns, first_unknown, judged_by_type, judged_by_names, judged_over, IsFit}
-use Rattle.qsql_eval.specs.Ready.{IsReady, IsAnswerable}
-use Rattle.qsql_eval.specs.Values.{kept, rows_where}
+use Rattle.qsql_values.specs.Frames.{Frame, kind_beside}
+use Rattle.qsql_values.specs.Kinds.{column_kind, kind_in, kind_of_both, is_within, are_ends}
+use Rattle.qsql_eval.specs.Judgement.{Judgement, unknown, mistyped, fits, is_boolean, has_kind, has_kinds, is_typed, all_columns, first_unknown, judged_by_names, IsFit, has_none_left}
+use Rattle.qsql_values.specs.Ready.{IsReady}
+use Rattle.qsql_eval.specs.Ready.{IsAnswerable}
+use Rattle.qsql_values.specs.Values.{kept, rows_where}
 use Rattle.qsql_eval.specs.Views.{needed, is_kind, has_column, has_columns}
 use Rattle.qsql_eval.proofs.ReadyLemmas.{AreReady, AreFlat}
-use Rattle.qsql_eval.proofs.ShapeLemmas.{neither}
+use Rattle.qsql_values.proofs.ShapeLemmas.{neither}
 
 no : {P : Type 0} → false ≡ true → P
 no e = absurd cc
@@ -30,19 +32,19 @@ no e = absurd cc
 no_again : {P : Type 0} → true ≡ false → P
 no_again e = absurd cc
 
-both : (a b : Bool) → (a && b) ≡ true → (a ≡ true) × (b ≡ true)
+pub both : (a b : Bool) → (a && b) ≡ true → (a ≡ true) × (b ≡ true)
 both true b h = (refl, h)
 both false b h = no h
 
-negated : (b : Bool) → not b ≡ true → b ≡ false
+pub negated : (b : Bool) → not b ≡ true → b ≡ false
 negated true h = no h
 negated false h = refl
 
-All-left : {X : Type 0} (P : X → Type 0) (xs ys : List X) → All P (xs ++ ys) → All P xs
+pub All-left : {X : Type 0} (P : X → Type 0) (xs ys : List X) → All P (xs ++ ys) → All P xs
 All-left P [] ys h = All-nil P
 All-left P (x ∷ xs) ys h = All-cons P x xs (All-head P x (xs ++ ys) h) (All-left P xs ys (All-tail P x (xs ++ ys) h))
 
-All-right : {X : Type 0} (P : X → Type 0) (xs ys : List X) → All P (xs ++ ys) → All P ys
+pub All-right : {X : Type 0} (P : X → Type 0) (xs ys : List X) → All P (xs ++ ys) → All P ys
 All-right P [] ys h = h
 All-right P (x ∷ xs) ys h = All-right P xs ys (All-tail P x (xs ++ ys) h)
 
@@ -170,38 +172,57 @@ kind_there None p h = no h
 kind_there (Some x) None h = no h
 kind_there (Some x) (Some y) h = refl
 
-abbrev Has : Shape → Frame → List ℕ → Type 0
+abbrev pub Has : Shape → Frame → List ℕ → Type 0
 Has table frame name = has_column table (kind_beside frame) name ≡ true
 
-all_of : {X : Type 0} (test : X → Bool) (xs : List X) → list_all test xs ≡ true → All (λ (x : X). test x ≡ true) xs
+pub all_of : {X : Type 0} (test : X → Bool) (xs : List X) → list_all test xs ≡ true → All (λ (x : X). test x ≡ true) xs
 all_of {X = X} test [] h = All-nil (λ (x : X). test x ≡ true)
 all_of {X = X} test (x ∷ xs) h = let b = both (test x) (list_all test xs) h in All-cons (λ (y : X). test y ≡ true) x xs b.0 (all_of test xs b.1)
 
-agree_of : (table : Shape) (frame : Frame) (names : List (List ℕ)) → All (Has table frame) names → Agree (kind_beside frame) (column_kind table) names
+pub agree_of : (table : Shape) (frame : Frame) (names : List (List ℕ)) → All (Has table frame) names → Agree (kind_beside frame) (column_kind table) names
 agree_of table frame names has = All-weaker (Has table frame) (λ (n : List ℕ). kind_beside frame n ≡ column_kind table n) (λ n h. kind_is (column_kind table n) (kind_beside frame n) h) names has
 
-there_of : (table : Shape) (frame : Frame) (names : List (List ℕ)) → All (Has table frame) names → All (λ (n : List ℕ). is_some (kind_beside frame n) ≡ true) names
+pub there_of : (table : Shape) (frame : Frame) (names : List (List ℕ)) → All (Has table frame) names → All (λ (n : List ℕ). is_some (kind_beside frame n) ≡ true) names
 there_of table frame names has = All-weaker (Has table frame) (λ (n : List ℕ). is_some (kind_beside frame n) ≡ true) (λ n h. kind_there (column_kind table n) (kind_beside frame n) h) names has
 
 -- what is known of a typed query
-record Parts (table : Shape) (q : QueryForm) : Type 0 where
-  columns : list_all (has_kind (column_kind table)) q.columns ≡ true
-  phrases : list_all (λ (p : Form). is_boolean (kind_in (column_kind table) p)) q.phrases ≡ true
-  built_columns : list_any is_unbuilt_column q.columns ≡ false
-  built_phrases : list_any is_unbuilt_phrase q.phrases ≡ false
-  shape : has_wrong_shape q ≡ false
+pub record Parts (table : Shape) (q : QueryForm) : Type 0 where
+  pub columns : list_all (has_kind (column_kind table)) q.columns ≡ true
+  pub by : list_all (has_kind (column_kind table)) q.by ≡ true
+  pub phrases : list_all (λ (p : Form). is_boolean (kind_in (column_kind table) p)) q.phrases ≡ true
+  pub built_columns : list_any is_unbuilt_column q.columns ≡ false
+  pub built_by : list_any is_unbuilt_column q.by ≡ false
+  pub built_phrases : list_any is_unbuilt_phrase q.phrases ≡ false
+  pub shape : has_wrong_shape q ≡ false
+  pub exec : is_wrong_exec q ≡ false
+  pub left : has_none_left table q ≡ false
 
-parts_of : (table : Shape) (q : QueryForm) → IsFit table q → Parts table q
+pub parts_of : (table : Shape) (q : QueryForm) → IsFit table q → Parts table q
 parts_of table q fit =
     let typed = both (not (is_unbuilt_query q)) (has_kinds (column_kind table) q && _) (typed_of table q fit) in
-    let kinds = both (has_kinds (column_kind table) q) _ typed.1 in
+    let kinds = both (has_kinds (column_kind table) q) (not (has_none_left table q)) typed.1 in
     let three = both (list_all (has_kind (column_kind table)) q.columns) _ kinds.0 in
     let two_left = both (list_all (has_kind (column_kind table)) q.by) _ three.1 in
     let built = neither (has_unbuilt_parts q) _ (negated (is_unbuilt_query q) typed.0) in
     let shaped = neither (has_wrong_shape q) _ built.1 in
+    let execs = neither (is_wrong_exec q) _ shaped.1 in
     let first = neither (list_any is_unbuilt_column q.columns) _ built.0 in
     let second = neither (list_any is_unbuilt_column q.by) _ first.1 in
-    record { columns = three.0; phrases = two_left.1; built_columns = first.0; built_phrases = second.1; shape = shaped.0 }
+    record {
+      columns = three.0;
+      by = two_left.0;
+      phrases = two_left.1;
+      built_columns = first.0;
+      built_by = second.0;
+      built_phrases = second.1;
+      shape = shaped.0;
+      exec = execs.0;
+      left = negated (has_none_left table q) kinds.1;
+    }
+
+pub none_of : {X : Type 0} (xs : List X) → is_empty xs ≡ true → xs ≡ []
+none_of [] h = refl
+none_of (x ∷ xs) h = no h
 
 flat_so : (q : Query) → (query_of q).by ≡ [] → has_wrong_shape (query_of q) ≡ false → q.exec ≡ false → has_list (map column_form q.columns) ≡ false
 flat_so q none shape select =
@@ -211,13 +232,13 @@ flat_so q none shape select =
     wrong_with : List ColumnForm → Bool
     wrong_with b = has_not_scalar (map column_form q.columns) || has_not_rows b
 
-needed_names : (q : QueryForm) (table : Shape) (P : List ℕ → Type 0) → All P (needed q table) → All P (names_of q)
+pub needed_names : (q : QueryForm) (table : Shape) (P : List ℕ → Type 0) → All P (needed q table) → All P (names_of q)
 needed_names q table P h = All-left P (names_of q) _ h
 
-needed_all : (q : QueryForm) (table : Shape) (P : List ℕ → Type 0) → q.columns ≡ [] → All P (needed q table) → All P (all_columns table)
+pub needed_all : (q : QueryForm) (table : Shape) (P : List ℕ → Type 0) → q.columns ≡ [] → All P (needed q table) → All P (all_columns table)
 needed_all q table P none h = subst (λ (cs : List ColumnForm). All P (cond (is_empty cs) (all_columns table) [])) none (All-right P (names_of q) _ h)
 
-pub fit_answerable : (table : Shape) (q : Query) (frame : Frame) → IsFit table (query_of q) → has_columns table (query_of q) frame ≡ true → (query_of q).by ≡ [] → IsAnswerable frame table q
+pub fit_answerable : (table : Shape) (q : Query) (frame : Frame) → IsFit table (query_of q) → has_columns table (query_of q) frame ≡ true → is_empty (query_of q).by ≡ true → IsAnswerable frame table q
 fit_answerable table q frame fit has_all none =
     let has = all_of (has_column table (kind_beside frame)) (needed (query_of q) table) has_all in
     let parts = parts_of table (query_of q) fit in
@@ -225,7 +246,7 @@ fit_answerable table q frame fit has_all none =
     let own = All-left (Has table frame) (names_in_columns (query_of q).columns) _ named in
     record {
       ready = ready_columns frame (column_kind table) q.columns (agree_of table frame (names_in_columns (query_of q).columns) own) parts.columns parts.built_columns;
-      flat = λ select. flat_columns q.columns (flat_so q none parts.shape select);
+      flat = λ select. flat_columns q.columns (flat_so q (none_of (query_of q).by none) parts.shape select);
       every = λ empty. there_of table frame (all_columns table) (needed_all (query_of q) table (Has table frame) (ap (map column_form) empty) has);
     }
 

@@ -1,7 +1,6 @@
-pub mod BesideLemmas
 pub mod FitLemmas
-pub mod FrameLemmas
-pub mod OperandLemmas
-pub mod PlacesLemmas
+pub mod FrameRules
+pub mod GroupFit
+pub mod GroupLemmas
 pub mod ReadyLemmas
-pub mod ShapeLemmas
+pub mod TableLemmas

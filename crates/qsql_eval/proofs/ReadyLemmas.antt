@@ -1,6 +1,6 @@
 -- The columns of a result.
-use Rattle.std.proofs.Common.{◌≡◌, ◌==◌, ℕ, ℤ, get_or, ◌-◌, ◌<◌, ◌≤◌, Bool, true, false, cond, ◌&&◌, List, [], ◌∷◌, length, take, drop, map, replicate, refl, sym, ap, ◌∙◌, arith, zero, suc, All, Option, Some, None, subst, min}
-use Rattle.std.specs.Prelude.{is_some, pos, negsuc}
+use Rattle.std.proofs.Common.{◌≡◌, ◌==◌, ℕ, ℤ, get_or, ◌-◌, ◌<◌, Bool, true, false, cond, ◌&&◌, List, [], ◌∷◌, length, map, replicate, refl, sym, ap, ◌∙◌, arith, suc, All, Option, Some, None, subst, min}
+use Rattle.std.specs.Prelude.{pos, negsuc}
 use Rattle.std.specs.List.{list_all}
 use Rattle.std.proofs.lemmas.List.{length-map, length-replicate, length-take, length-drop}
 use Rattle.std.proofs.lemmas.List.Elements.{All-nil, All-cons, All-head, All-tail}
@@ -18,13 +18,14 @@ use Rattle.qsql_request.specs.Views.{form, column_form}
 use Rattle.qsql_request.specs.declared.request.Col.{Col}
 use Rattle.qsql_request.specs.declared.shapes.Shape.{Shape}
 use Rattle.qsql_request.specs.declared.shapes.Shape.TheVariants as s
-use Rattle.qsql_eval.specs.Frames.{Frame, kind_beside, column_in, field_in}
+use Rattle.qsql_values.specs.Frames.{Frame, kind_beside, column_in, field_in}
 use Rattle.qsql_eval.specs.Meaning.{values_of, is_atom_of, one_kind, limited, limited_column, spread, row_count}
-use Rattle.qsql_eval.specs.Operands.{HasShape}
-use Rattle.qsql_eval.specs.Ready.{IsReady, are_scalars}
-use Rattle.qsql_eval.specs.Values.{val, items_in}
-use Rattle.qsql_eval.proofs.FrameLemmas.{Even}
-use Rattle.qsql_eval.proofs.ShapeLemmas.{val_shape}
+use Rattle.qsql_values.specs.Operands.{HasShape}
+use Rattle.qsql_values.specs.Ready.{IsReady}
+use Rattle.qsql_eval.specs.Ready.{are_scalars}
+use Rattle.qsql_values.specs.Values.{val, items_in}
+use Rattle.qsql_values.proofs.FrameLemmas.{Even}
+use Rattle.qsql_values.proofs.ShapeLemmas.{val_shape}
 
 no : {P : Type 0} → false ≡ true → P
 no e = absurd cc
@@ -67,7 +68,7 @@ even_limited first n (c ∷ columns) even =
     (limited_length first c.atoms (replicate n absent) (All-head (λ (d : Contents). length d.atoms ≡ n) c columns even ∙ sym (length-replicate n absent)))
     (even_limited first n columns (All-tail (λ (d : Contents). length d.atoms ≡ n) c columns even))
 
-even_rows : (n : ℕ) (columns : List Contents) → Even n columns → Even (rows_of columns) columns
+pub even_rows : (n : ℕ) (columns : List Contents) → Even n columns → Even (rows_of columns) columns
 even_rows n [] even = All-nil (λ (d : Contents). length d.atoms ≡ 0)
 even_rows n (c ∷ columns) even = subst (λ (m : ℕ). Even m (c ∷ columns)) (sym (All-head (λ (d : Contents). length d.atoms ≡ n) c columns even)) even
 

@@ -2,14 +2,17 @@
 use Rattle.std.specs.Prelude.{◌≡◌, ℕ, Bool, List, map, length, Some}
 use Rattle.q_values.specs.Contents.{Contents}
 use Rattle.q_values.specs.Table.{rows_of}
-use Rattle.qsql_eval.specs.Beside.{beside}
-use Rattle.qsql_eval.specs.Frames.{AreColumns, column_in, frame_of}
-use Rattle.qsql_eval.specs.Places.{places_from, column_at}
-use Rattle.qsql_eval.specs.Values.{selected}
+use Rattle.qsql_values.specs.Beside.{beside}
+use Rattle.qsql_values.specs.Frames.{AreColumns, column_in, frame_of}
+use Rattle.q_filter.specs.Places.{places_from}
+use Rattle.qsql_values.specs.Places.{column_at}
+use Rattle.qsql_values.specs.Values.{selected}
 
 -- a column read from the rows of columns is the column of that name
 abbrev pub ColumnsAreRead : Type 0
-ColumnsAreRead = (names : List (List ℕ)) (columns : List Contents) (name : List ℕ) (column : Contents) → AreColumns names columns → beside name names columns ≡ Some column → column_in (frame_of names columns) name ≡ column
+ColumnsAreRead =
+    (names : List (List ℕ)) (columns : List Contents) (name : List ℕ) (column : Contents) → AreColumns names columns
+    → beside name names columns ≡ Some column → column_in (frame_of names columns) name ≡ column
 
 -- the rows of columns that keep the items at some indices are the rows at these indices
 abbrev pub RowsAreKept : Type 0

@@ -1,11 +1,7 @@
-pub mod Beside
-pub mod Frames
+pub mod Groups
 pub mod Judgement
 pub mod Laws
-pub mod Values
 pub mod Meaning
-pub mod Operands
-pub mod Places
 pub mod Ready
 pub mod Spans
 pub mod Views

@@ -1,20 +1,21 @@
--- The value of a query without `by`.
-use Rattle.std.specs.Prelude.{ℕ, ℤ, pos, negsuc, ◌-◌, suc, Bool, true, false, ◌&&◌, if◌then◌else◌}
+-- The value of a query.
+use Rattle.std.specs.Prelude.{ℕ, ℤ, pos, negsuc, ◌-◌, suc, Bool, false, not, if◌then◌else◌}
 use Rattle.std.specs.Prelude.{List, [], ◌∷◌, map, length, take, drop, replicate, Option, Some, None}
-use Rattle.std.specs.List.{list_all, flat_map}
+use Rattle.std.specs.List.{list_all, filter, flat_map}
 use Rattle.q_values.specs.Atom.{kind_of}
 use Rattle.q_values.specs.Contents.{Contents}
 use Rattle.q_values.specs.Kind.{is}
-use Rattle.q_values.specs.Tree.{Grid, Tree, atom, vector, list, dict, table, items_of}
-use Rattle.q_values.specs.declared.atom.Atom.{Atom}
+use Rattle.q_values.specs.Tree.{Grid, Tree, atom, vector, list, dict, table, keyed, identity, items_of}
 use Rattle.q_values.specs.declared.atom.Atom.TheVariants as a
 use Rattle.q_values.specs.declared.kind.Kind.{Kind}
 use Rattle.q_values.specs.declared.kind.Kind.TheVariants as k
-use Rattle.qsql_request.specs.Forms.{Form, ColumnForm, QueryForm}
+use Rattle.qsql_request.specs.Forms.{ColumnForm, QueryForm}
 use Rattle.qsql_request.specs.Shapes.{is_atom}
 use Rattle.qsql_request.specs.Unbuilt.{column_name, is_empty}
-use Rattle.qsql_eval.specs.Frames.{Frame, column_in}
-use Rattle.qsql_eval.specs.Values.{items_in, val, kept}
+use Rattle.qsql_values.specs.Frames.{Frame, column_in}
+use Rattle.qsql_values.specs.Values.{items_in, val, kept}
+use Rattle.qsql_eval.specs.Groups.{Groups, groups, keys_by_group, last_rows, value_by_group}
+use Rattle.qsql_eval.specs.Judgement.{is_name_of_by}
 
 -- the values of columns, in order
 abbrev pub values_of : Frame → List ColumnForm → List Tree
@@ -77,9 +78,46 @@ execution_of names (value ∷ other ∷ values) = dict (names_vector names) (tog
 abbrev pub execution : QueryForm → Frame → Tree
 execution q frame = execution_of (map column_name q.columns) (values_of frame q.columns)
 
-abbrev pub value_over_kept : List (List ℕ) → QueryForm → Frame → Tree
-value_over_kept all q frame = if q.exec then execution q frame else selection all q frame
+-- the key columns of a table with `by`
+abbrev pub key_grid : List ColumnForm → Groups → Grid
+key_grid by g = record { names = map column_name by; columns = keys_by_group g }
 
--- the value of a query without `by` over rows of its table; `all` is the columns of a `select` that names none
+-- columns with one item for each group
+abbrev pub group_columns : List ColumnForm → Groups → List Contents
+group_columns cs g = map (λ (c : ColumnForm). value_by_group g c.expr) cs
+
+-- the columns that a `select` with `by` shows where it names none: those that the columns after `by` don't name
+abbrev pub other_names : List (List ℕ) → QueryForm → List (List ℕ)
+other_names all q = filter (λ (name : List ℕ). not (is_name_of_by q name)) all
+
+-- the last row of each group, in columns with these names
+abbrev pub last_grid : List (List ℕ) → Groups → Grid
+last_grid names g = record { names = names; columns = map (column_in (last_rows g)) names }
+
+abbrev pub column_grid : List ColumnForm → Groups → Grid
+column_grid cs g = record { names = map column_name cs; columns = group_columns cs g }
+
+-- the other columns of a table with `by`: those of the query, or else the last row of each group
+abbrev pub value_grid : List (List ℕ) → QueryForm → Groups → Grid
+value_grid all q g = if is_empty q.columns then last_grid (other_names all q) g else column_grid q.columns g
+
+-- `exec` with `by`: a dictionary from the keys to the values
+abbrev pub dictionary_of : List Contents → List Contents → Tree
+dictionary_of (key ∷ []) (value ∷ []) = dict (vector key) (vector value)
+dictionary_of keys values = identity
+
+-- the value of a query with `by` over its groups: a keyed table, or the dictionary of an `exec`
+abbrev pub value_over_groups : List (List ℕ) → QueryForm → Groups → Tree
+value_over_groups all q g =
+    if q.exec then dictionary_of (keys_by_group g) (group_columns q.columns g) else keyed (key_grid q.by g) (value_grid all q g)
+
+-- the value of a query without `by`
+abbrev pub value_over_rows : List (List ℕ) → QueryForm → Frame → Tree
+value_over_rows all q frame = if q.exec then execution q frame else selection all q frame
+
+abbrev pub value_over_kept : List (List ℕ) → QueryForm → Frame → Tree
+value_over_kept all q frame = if is_empty q.by then value_over_rows all q frame else value_over_groups all q (groups q.by frame)
+
+-- the value of a query over rows of its table; `all` is the columns of a `select` that names none
 abbrev pub meaning : List (List ℕ) → QueryForm → Frame → Tree
 meaning all q frame = value_over_kept all q (kept q.phrases frame)

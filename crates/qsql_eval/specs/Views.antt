@@ -7,8 +7,9 @@ use Rattle.day_rows.specs.declared.schema.Shape.{Shape}
 use Rattle.qsql_request.specs.Forms.{QueryForm}
 use Rattle.qsql_request.specs.Names.{names_of}
 use Rattle.qsql_request.specs.Unbuilt.{is_empty}
-use Rattle.qsql_eval.specs.Frames.{Frame, kind_beside}
-use Rattle.qsql_eval.specs.Judgement.{Judgement, unknown, mistyped, fits, column_kind, all_columns, judged_over}
+use Rattle.qsql_values.specs.Frames.{Frame, kind_beside}
+use Rattle.qsql_values.specs.Kinds.{column_kind}
+use Rattle.qsql_eval.specs.Judgement.{Judgement, unknown, mistyped, all_columns}
 use Rattle.qsql_eval.specs.declared.typed.CheckRefusal.{CheckRefusal}
 use Rattle.qsql_eval.specs.declared.typed.CheckRefusal.TheVariants.{NoName, WrongType, NoMemory}
 

@@ -4,19 +4,20 @@ ghost use Rattle.std.specs.List.{list_any, list_all};
 ghost use Rattle.std.specs.Str.{bytes_eq};
 ghost use Rattle.qsql_request.specs.Views.{form, column_form, query_of};
 ghost use Rattle.qsql_request.specs.Unbuilt.{column_name};
-ghost use Rattle.qsql_eval.specs.Judgement.{column_kind, kind_in, is_boolean, has_kind, has_kinds, has_none_left, is_typed};
+ghost use Rattle.qsql_values.specs.Kinds.{column_kind, kind_in};
+ghost use Rattle.qsql_eval.specs.Judgement.{is_boolean, has_kind, has_kinds, has_none_left, is_typed};
 ghost use Rattle.qsql_eval.specs.Judgement.{first_unknown, table_named, judged_over, judgement, fits};
 ghost use Rattle.qsql_eval.specs.Views.{RefusesQuery, NamesOrMemory};
 
-use crate::kinds::{kind_of_column, kind_of_expr};
 use crate::typed::{CheckRefusal, Typed};
 use day_rows::{Schema, Shape};
 use q_values::{Kind, Sym};
 use qsql_request::{Col, Expr, Query, is_query_unbuilt, name_of_column, names_of_query};
+use qsql_values::{kind_of_column, kind_of_expr};
 use std::alloc::Global;
 
 // The table of the schema with this name.
-#[tactic(auto, using(crate::proofs::BesideLemmas::table_here, crate::proofs::BesideLemmas::table_next))]
+#[tactic(auto, using(crate::proofs::TableLemmas::table_here, crate::proofs::TableLemmas::table_next))]
 fn table_of<'a>(name: &[u8], schema: &'a Schema) -> Option<&'a Shape>
     ensures { option_copied result ≡ table_named name.now schema.now }
 {
@@ -81,7 +82,8 @@ fn have_all_kinds(table: &Shape, query: &Query) -> bool
         && are_phrases(table, query.phrases.as_slice())
 }
 
-fn is_column_named(columns: &[Col], name: &[u8]) -> bool
+/// Whether one of the columns has this name.
+pub fn is_column_named(columns: &[Col], name: &[u8]) -> bool
     ensures { result ≡ list_any (bytes_eq name.now) (map column_name (map column_form columns.now)) }
 {
     for column in columns {

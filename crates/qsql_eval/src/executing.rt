@@ -6,13 +6,12 @@ ghost use Rattle.q_values.specs.Tree.{tree, list, dict, items_of};
 ghost use Rattle.qsql_request.specs.Unbuilt.{column_name};
 ghost use Rattle.qsql_request.specs.Views.{form, column_form};
 ghost use Rattle.qsql_eval.specs.Meaning.{values_of, is_atom_of, one_kind, together_of, together, names_vector, execution_of};
-ghost use Rattle.qsql_eval.specs.Ready.{IsReady};
-ghost use Rattle.qsql_eval.specs.Values.{items_in, val};
+ghost use Rattle.qsql_values.specs.Ready.{IsReady};
+ghost use Rattle.qsql_values.specs.Values.{items_in, val};
 
-use crate::scope::Scope;
-use crate::values::value_of;
 use q_values::{Atom, Column, Kind, NoMemory, Pair, Symbols, Value, Values, Vector, VectorRefusal};
 use qsql_request::{Col, name_of_column};
+use qsql_values::{Scope, value_of};
 use std::alloc::Global;
 
 // The value of a column.
@@ -71,11 +70,12 @@ fn are_of_kind(values: &[Value], kind: Kind) -> bool
     true
 }
 
-fn push_atom(alloc: Global, atoms: &mut Vector, atom: &Atom) -> Result<(), NoMemory>
-    requires { kind_of atom.now ≡ atoms.old.kind }
-    ensures { OnOk result (atoms.new ≡ record atoms.old { atoms = atoms.old.atoms ++ atom.now ∷ [] }) }
+/// Puts an atom at the end of atoms of its kind.
+pub fn push_atom(atoms: &mut Vector, atom: Atom) -> Result<(), NoMemory>
+    requires { kind_of atom ≡ atoms.old.kind }
+    ensures { OnOk result (atoms.new ≡ record atoms.old { atoms = atoms.old.atoms ++ atom ∷ [] }) }
 {
-    match atoms.push(atom.copy(alloc)?) {
+    match atoms.push(atom) {
         Ok(()) => Ok(()),
         Err(VectorRefusal::KindMismatch) => unreachable!(),
         Err(VectorRefusal::NoMemory) => Err(NoMemory),
@@ -87,7 +87,7 @@ fn push_item(alloc: Global, atoms: &mut Vector, value: &Value) -> Result<(), NoM
     ensures { OnOk result (atoms.new ≡ record atoms.old { atoms = atoms.old.atoms ++ (items_in (tree value.now)).atoms }) }
 {
     match value {
-        Value::Atom(atom) => push_atom(alloc, atoms, atom),
+        Value::Atom(atom) => push_atom(atoms, atom.copy(alloc)?),
         Value::Vector(_) => unreachable!(),
         Value::List(_) => unreachable!(),
         Value::Dict(_) => unreachable!(),

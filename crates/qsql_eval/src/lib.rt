@@ -7,29 +7,27 @@
 //! let typed = check(alloc, &query, &schema)?;     // Err(CheckRefusal::NoName(..)) where a column isn't there
 //! ```
 //!
-//! What is found of a query is in `specs/Judgement.antt`, the value of an expression and the rows that phrases keep in
-//! `specs/Values.antt`, and the value of a query in `specs/Meaning.antt`.
+//! [`eval`] gives the value of a typed query over the [`Rows`] of its table. With `by` it groups the rows (`grouping`, over
+//! `q_keys`), and evaluates each column over the rows of each group (`by_group`).
+//!
+//! What is found of a query is in `specs/Judgement.antt`, rows grouped by the columns after `by` in `specs/Groups.antt`, and
+//! the value of a query in `specs/Meaning.antt`. The value of an expression and the rows that phrases keep are in the crate
+//! `qsql_values`.
 //!
 //! The crate reads no text (`qsql_parse` does), knows no dates beside the column `date` (whoever makes the rows does), and
 //! joins no tables.
 #![tactic(auto)]
 
-mod beside;
+mod by_group;
 mod checking;
 mod evaluation;
 mod executing;
-mod keeping;
-mod kinds;
+mod grouping;
 pub mod laws;
 mod limiting;
-mod one_side;
-mod operand;
 mod rows;
-mod scope;
 mod selecting;
-mod two_sides;
 mod typed;
-mod values;
 
 pub use checking::check;
 pub use evaluation::eval;

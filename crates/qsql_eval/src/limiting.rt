@@ -1,11 +1,11 @@
 //! The first or the last rows of a result.
 ghost use Rattle.std.specs.Prelude.{◌≡◌, IfOk};
 ghost use Rattle.qsql_eval.specs.Meaning.{limited_column};
-ghost use Rattle.qsql_eval.specs.Operands.{contents_of};
+ghost use Rattle.qsql_values.specs.Operands.{contents_of};
 ghost use Rattle.qsql_eval.specs.Spans.{IsSpan};
 
-use crate::operand::Held;
 use q_values::{NoMemory, Vector};
+use qsql_values::Held;
 use std::alloc::Global;
 
 // Where the rows that `[n]` leaves of `size` begin, and how many they are.
@@ -22,8 +22,8 @@ fn span_of(first: &Option<i64>, size: usize) -> (usize, usize)
     }
 }
 
-/// A copy of the rows of a column that `[n]` leaves.
-pub fn limited(alloc: Global, column: &Vector, first: &Option<i64>) -> Result<Vector, NoMemory>
+// A copy of the rows of a column that `[n]` leaves.
+fn limited(alloc: Global, column: &Vector, first: &Option<i64>) -> Result<Vector, NoMemory>
     ensures { IfOk result (λ v. v ≡ limited_column first.now column.now) }
 {
     let (from, count) = span_of(first, column.len());

@@ -3,17 +3,16 @@ ghost use Rattle.std.specs.Prelude.{◌≡◌, IfOk, IfSome, IfNone, map};
 ghost use Rattle.std.specs.List.{list_all};
 ghost use Rattle.q_values.specs.Table.{rows_of};
 ghost use Rattle.qsql_request.specs.Views.{query_of};
-ghost use Rattle.qsql_eval.specs.Beside.{beside};
-ghost use Rattle.qsql_eval.specs.Frames.{AreColumns, frame_of, kind_beside, are_even};
+ghost use Rattle.qsql_values.specs.Beside.{beside};
+ghost use Rattle.qsql_values.specs.Frames.{AreColumns, frame_of, kind_beside, are_even};
 ghost use Rattle.qsql_eval.specs.Judgement.{all_columns};
 ghost use Rattle.qsql_eval.specs.Views.{is_kind, has_column, has_columns};
 
-use crate::beside::item_beside;
-use crate::kinds::kind_of_column;
 use crate::typed::Typed;
 use day_rows::Shape;
 use q_values::{Columns, Kind, Names, NoMemory, Sym, Vector};
 use qsql_request::names_of_query;
+use qsql_values::{item_beside, kind_of_column};
 use std::alloc::Global;
 
 /// Rows, as named columns of one length: those of a table in the documented order, with `date` and `i` where a query names
@@ -49,7 +48,7 @@ fn size_of(columns: &[Vector]) -> usize
 
 impl Rows {
     /// Rows of these columns; `None` where there isn't a name for each, or where they have not one length.
-    #[tactic(auto, using(crate::proofs::FrameLemmas::even_columns, crate::proofs::FrameLemmas::columns_even))]
+    #[tactic(auto, using(crate::proofs::FrameRules::evenness))]
     pub fn new(names: Names, columns: Columns) -> Option<Rows>
         ensures names { IfSome result (λ r. r.names ≡ names) }
         ensures columns { IfSome result (λ r. r.columns ≡ columns) }
@@ -65,7 +64,7 @@ impl Rows {
 }
 
 // The kind of the column with this name.
-#[tactic(auto, using(crate::proofs::FrameLemmas::kind_some, crate::proofs::FrameLemmas::kind_none))]
+#[tactic(auto, using(crate::proofs::FrameRules::kinds))]
 fn kind_named(name: &[u8], names: &[Sym], columns: &[Vector]) -> Option<Kind>
     ensures { result ≡ beside name.now names.now (map (λ c. c.kind) columns.now) }
 {

@@ -4,20 +4,19 @@ ghost use Rattle.q_values.specs.Tree.{tree};
 ghost use Rattle.qsql_request.specs.Shapes.{shape, is_list};
 ghost use Rattle.qsql_request.specs.Unbuilt.{column_name};
 ghost use Rattle.qsql_request.specs.Views.{form, column_form};
-ghost use Rattle.qsql_eval.specs.Frames.{column_in, kind_beside};
+ghost use Rattle.qsql_values.specs.Frames.{column_in, kind_beside};
 ghost use Rattle.qsql_eval.specs.Judgement.{all_columns};
 ghost use Rattle.qsql_eval.specs.Meaning.{values_of, spread, row_count, limited_column, grid_of, grid_of_columns};
-ghost use Rattle.qsql_eval.specs.Operands.{operand_tree};
-ghost use Rattle.qsql_eval.specs.Ready.{IsReady, are_scalars};
-ghost use Rattle.qsql_eval.specs.Values.{val};
+ghost use Rattle.qsql_values.specs.Operands.{operand_tree};
+ghost use Rattle.qsql_values.specs.Ready.{IsReady};
+ghost use Rattle.qsql_eval.specs.Ready.{are_scalars};
+ghost use Rattle.qsql_values.specs.Values.{val};
 
-use crate::limiting::{limited, limited_held};
-use crate::operand::{Held, Operand, repeated};
-use crate::scope::Scope;
-use crate::values::value_of;
+use crate::limiting::limited_held;
 use day_rows::Shape;
 use q_values::{Columns, Names, NoMemory, Sym, TableValue, Value, Vector};
 use qsql_request::{Col, Shape as Form, name_of_column, shape_of_expr};
+use qsql_values::{Held, Operand, Scope, repeated, value_of};
 use std::alloc::Global;
 
 fn are_atoms(columns: &[Col]) -> bool
@@ -90,7 +89,8 @@ fn shown_columns(
     Ok(made)
 }
 
-fn names_of(alloc: Global, columns: &[Col]) -> Result<Names, NoMemory>
+/// The names of these columns.
+pub fn names_of(alloc: Global, columns: &[Col]) -> Result<Names, NoMemory>
     ensures { IfOk result (λ v. v ≡ map column_name (map column_form columns.now)) }
 {
     let mut names = Names::with_capacity(alloc, columns.len())?;
@@ -118,8 +118,8 @@ pub fn some_columns(
     Ok(Value::Table(TableValue { names, columns }))
 }
 
-// The names of a table's columns, `date` first.
-fn names_in(alloc: Global, table: &Shape) -> Result<Names, NoMemory>
+/// The names of a table's columns, `date` first.
+pub fn names_in(alloc: Global, table: &Shape) -> Result<Names, NoMemory>
     ensures { IfOk result (λ v. v ≡ all_columns table.now) }
 {
     let mut names = Names::with_capacity(alloc, table.names.len())?;
@@ -130,7 +130,8 @@ fn names_in(alloc: Global, table: &Shape) -> Result<Names, NoMemory>
     Ok(names)
 }
 
-fn columns_named(
+/// The columns with these names.
+pub fn columns_named(
     alloc: Global,
     names: &[Sym],
     first: &Option<i64>,
@@ -141,7 +142,8 @@ fn columns_named(
 {
     let mut columns = Columns::with_capacity(alloc, names.len())?;
     for name in names {
-        columns.push(limited(alloc, scope.column(name.bytes()), first)?)?;
+        let column = scope.column(alloc, name.bytes())?;
+        columns.push(limited_held(alloc, column, first)?)?;
     }
     Ok(columns)
 }

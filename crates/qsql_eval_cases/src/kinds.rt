@@ -6,6 +6,7 @@ use q_values::{ByteKind, Column, Columns, IntegerKind, LongKind, Symbols, Vector
 use qsql_eval::Rows;
 use schema_text::read_schema;
 use std::alloc::Global;
+use std::process::Abort;
 use std::test::Fail;
 
 const SCHEMA: &[u8] =
@@ -112,11 +113,43 @@ const ANSWERS: [(&[u8], &[u8]); 44] = [
     (b"select b,h from t where n>0N", b"b=b[1 0] h=h[1 -32768]"),
 ];
 
+// The keys ascend, and a null is the least.
+const GROUPS: [(&[u8], &[u8]); 6] = [
+    (
+        b"select count i by n from t",
+        b"n=i[-2147483648 -7 2]|x=j[1 1 1]",
+    ),
+    (
+        b"select first j by h from t",
+        b"h=h[-32768 1 3]|j=j[5 9223372036854775807 -9223372036854775808]",
+    ),
+    (b"select sum n by b from t", b"b=b[0 1]|n=i[2 -7]"),
+    (
+        b"exec last sym by d from t",
+        b"d[-2147483648 8767 8769]!s[ a b]",
+    ),
+    (b"select count i by sym from t", b"sym=s[ a b]|x=j[1 1 1]"),
+    (
+        b"select max g by b,u from t",
+        b"b=b[0 1 1] u=u[571 -2147483648 570]|g=x[1 255 0]",
+    ),
+];
+
+fn assert_kinds(rt: &impl Abort, alloc: Global, cases: &[(&[u8], &[u8])]) -> Result<(), Fail> {
+    match read_schema(alloc, SCHEMA) {
+        Ok(schema) => assert_answers(rt, alloc, &schema, &three_rows(alloc)?, cases),
+        Err(_) => Err(Fail::from("no schema")),
+    }
+}
+
+#[test]
+fn null_keys(rt: HostRuntime) -> Result<(), Fail> {
+    let alloc = rt.alloc();
+    assert_kinds(&rt, alloc, &GROUPS)
+}
+
 #[test]
 fn nulls_and_ends(rt: HostRuntime) -> Result<(), Fail> {
     let alloc = rt.alloc();
-    match read_schema(alloc, SCHEMA) {
-        Ok(schema) => assert_answers(&rt, alloc, &schema, &three_rows(alloc)?, &ANSWERS),
-        Err(_) => Err(Fail::from("no schema")),
-    }
+    assert_kinds(&rt, alloc, &ANSWERS)
 }

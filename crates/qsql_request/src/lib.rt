@@ -36,5 +36,5 @@ pub use judging::shape_of_expr;
 pub use mentions::name_of_column;
 pub use names::names_of_query;
 pub use request::{AjQuery, Col, Cols, Expr, Exprs, Query, Request, Source, SubRequest};
-pub use shapes::Shape;
+pub use shapes::{Shape, is_test};
 pub use unbuilt::{is_query_unbuilt, is_request_unbuilt};

@@ -57,26 +57,67 @@ pub fn five(alloc: Global) -> Result<Vector, NoMemory>
 }
 
 // A letter and three digits.
-fn name_of(i: u32) -> [u8; 4] {
-    let n = ((u64::from(i).wrapping_mul(STEP) >> 32) % 1000) as u32;
+fn name_of(n: u32) -> [u8; 4] {
     let digit = |d: u32| b'0' + (d % 10) as u8;
     [b'S', digit(n / 100), digit(n / 10), digit(n)]
 }
 
-/// `count` symbols of a letter and three digits.
-pub fn symbols(alloc: Global, count: u32) -> Result<Vector> {
+/// `count` symbols of a letter and three digits, in no order.
+pub fn symbols(alloc: Global, count: u32, step: u64) -> Result<Vector> {
     let mut items = Vector::new(alloc, Kind::Symbol);
     for i in 0..count {
-        items.push(Atom::Symbol(Sym::of(alloc, &name_of(i))?))?;
+        let number = ((u64::from(i).wrapping_mul(step) >> 32) % 1000) as u32;
+        items.push(Atom::Symbol(Sym::of(alloc, &name_of(number))?))?;
     }
     Ok(items)
 }
 
-/// Five of those symbols.
-pub fn five_symbols(alloc: Global) -> Result<Vector> {
+// Six letters, for the digits of a number.
+fn letters_of(n: u32) -> [u8; 6] {
+    let letter = |d: u32| b'a' + (d % 10) as u8;
+    [
+        letter(n / 100_000),
+        letter(n / 10_000),
+        letter(n / 1000),
+        letter(n / 100),
+        letter(n / 10),
+        letter(n),
+    ]
+}
+
+// The number of a row, of `many`, in no order.
+fn number_of(row: u32, many: u32) -> u32 {
+    let number = (u64::from(row).wrapping_mul(STEP) >> 32) as u32;
+    match number.checked_rem(many) {
+        Some(number) => number,
+        None => 0,
+    }
+}
+
+/// `count` symbols of six letters, of which there are `many`, in no order.
+pub fn names(alloc: Global, count: u32, many: u32) -> Result<Vector> {
     let mut items = Vector::new(alloc, Kind::Symbol);
-    for name in ["S002", "S003", "S005", "S007", "S011"] {
-        items.push(Atom::Symbol(Sym::of(alloc, name.as_bytes())?))?;
+    for row in 0..count {
+        let name = letters_of(number_of(row, many));
+        items.push(Atom::Symbol(Sym::of(alloc, &name)?))?;
+    }
+    Ok(items)
+}
+
+/// `count` dates, of which there are a thousand, in no order.
+pub fn dates(alloc: Global, count: u32) -> Result<Vector, NoMemory> {
+    let mut items = Vec::with_capacity(alloc, count as usize)?;
+    for row in 0..count {
+        items.push(number_of(row, 1000).cast_signed())?;
+    }
+    Ok(Vector::from_column(Column::Integers(IntegerKind::Date, items)))
+}
+
+/// The first `count` of the symbols of a letter and three digits.
+pub fn first_symbols(alloc: Global, count: u32) -> Result<Vector> {
+    let mut items = Vector::new(alloc, Kind::Symbol);
+    for number in 0..count {
+        items.push(Atom::Symbol(Sym::of(alloc, &name_of(number))?))?;
     }
     Ok(items)
 }

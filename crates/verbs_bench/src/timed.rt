@@ -8,17 +8,18 @@ ghost use Rattle.q_verbs.specs.Sides.{AreBeside};
 
 use crate::made;
 use anyhow::{Result, bail};
+use q_binary::binary;
 use q_filter::places_where;
+use q_matching::{is_in, is_like};
+use q_unary::{aggregate, unary};
 use q_values::{Atom, IntegerKind, Kind, Vector};
-use q_verbs::{
-    Side, Verb, Verb1, aggregate, binary, is_in, is_like, result_kind, result_kind1, unary,
-};
+use q_verbs::{Side, Verb, Verb1, result_kind, result_kind1};
 use std::alloc::Global;
 use std::rt::Clock;
 use std::time::Instant;
 
 /// How often each call is timed.
-const ROUNDS: u32 = 5;
+pub const ROUNDS: u32 = 5;
 
 /// Symbols that begin with `S4`.
 const PREFIX: &[u8] = b"S4*";
@@ -37,7 +38,8 @@ fn number_of(atom: &Atom) -> i64 {
     }
 }
 
-fn sum_of(alloc: Global, items: &Vector) -> Result<i64> {
+/// The sum of a column.
+pub fn sum_of(alloc: Global, items: &Vector) -> Result<i64> {
     match result_kind1(Verb1::Sum, items.kind()) {
         Some(_) => Ok(number_of(&aggregate(alloc, Verb1::Sum, items)?)),
         None => bail!("no sum"),
@@ -106,7 +108,8 @@ fn binary_timed<R: Clock + Print>(
     Ok(())
 }
 
-fn columns_timed<R: Clock + Print>(
+/// Times a verb between two columns.
+pub fn columns_timed<R: Clock + Print>(
     rt: &R,
     alloc: Global,
     name: &str,
@@ -129,6 +132,21 @@ fn columns_timed<R: Clock + Print>(
     )
 }
 
+/// Times a verb between a column and an atom.
+pub fn one_timed<R: Clock + Print>(
+    rt: &R,
+    alloc: Global,
+    name: &str,
+    verb: Verb,
+    left: &Vector,
+    right: &Atom,
+) -> Result<()>
+    requires { IsTrue (is_by_place verb) }
+{
+    let left = Side::Column(left);
+    binary_timed(rt, alloc, name, verb, &left, &Side::Atom(right))
+}
+
 // Times the filter of one column by the booleans of another comparison, and the gathering of what is kept.
 fn filter_timed<R: Clock + Print>(
     rt: &R,
@@ -148,10 +166,11 @@ fn filter_timed<R: Clock + Print>(
     Ok(())
 }
 
-fn in_timed<R: Clock + Print>(
+/// Times `in` among the items of a column.
+pub fn in_timed<R: Clock + Print>(
     rt: &R,
     alloc: Global,
-    what: &str,
+    name: &str,
     left: &Vector,
     items: &Vector,
 ) -> Result<()> {
@@ -159,19 +178,20 @@ fn in_timed<R: Clock + Print>(
         bail!("no such kinds");
     }
     let start = Instant::now(rt)?;
-    let found = is_in(alloc, left, items)?;
+    let found = is_in(alloc, &Side::Column(left), &Side::Column(items))?;
     let nanos = start.elapsed(rt)?.as_nanos();
     let sum = sum_of(alloc, &found)?;
-    println!(rt; "{what} in {nanos} {sum}")?;
+    println!(rt; "{name} {nanos} {sum}")?;
     Ok(())
 }
 
-fn like_timed<R: Clock + Print>(rt: &R, alloc: Global, items: &Vector) -> Result<()> {
+/// Times `like` with a pattern that a symbol begins with.
+pub fn like_timed<R: Clock + Print>(rt: &R, alloc: Global, items: &Vector) -> Result<()> {
     if items.kind() != Kind::Symbol {
         bail!("no symbols");
     }
     let start = Instant::now(rt)?;
-    let found = is_like(alloc, items, PREFIX)?;
+    let found = is_like(alloc, &Side::Column(items), PREFIX)?;
     let nanos = start.elapsed(rt)?.as_nanos();
     let sum = sum_of(alloc, &found)?;
     println!(rt; "symbols like {nanos} {sum}")?;
@@ -297,7 +317,7 @@ fn codes_reported<R: Clock + Print>(rt: &R, alloc: Global, count: u32) -> Result
     let codes = made::codes(alloc, count)?;
     let five = made::five(alloc)?;
     for _ in 0..ROUNDS {
-        in_timed(rt, alloc, "longs", &codes, &five)?;
+        in_timed(rt, alloc, "longs in", &codes, &five)?;
     }
     Ok(())
 }
@@ -310,17 +330,5 @@ pub fn report_longs<R: Clock + Print + AllocGlobal>(rt: &R, count: u32) -> Resul
     dates_reported(rt, alloc, count)?;
     filter_reported(rt, alloc, count)?;
     codes_reported(rt, alloc, count)?;
-    Ok(())
-}
-
-/// Times `in` and `like` over `count` symbols.
-pub fn report_symbols<R: Clock + Print + AllocGlobal>(rt: &R, count: u32) -> Result<()> {
-    let alloc = rt.alloc();
-    let items = made::symbols(alloc, count)?;
-    let five = made::five_symbols(alloc)?;
-    for _ in 0..ROUNDS {
-        in_timed(rt, alloc, "symbols", &items, &five)?;
-        like_timed(rt, alloc, &items)?;
-    }
     Ok(())
 }

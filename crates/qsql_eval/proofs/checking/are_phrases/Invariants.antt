@@ -2,7 +2,8 @@ use Rattle.std.proofs.Common.{◌≡◌, drop, map}
 use Rattle.std.specs.List.{list_all}
 use Rattle.qsql_request.specs.Views.{form}
 use Rattle.qsql_request.specs.Forms.{Form}
-use Rattle.qsql_eval.specs.Judgement.{is_boolean, kind_in, column_kind}
+use Rattle.qsql_values.specs.Kinds.{kind_in, column_kind}
+use Rattle.qsql_eval.specs.Judgement.{is_boolean}
 use Rattle.qsql_eval.proofs.checking.are_phrases.Given as goal
 
 abbrev pub invariant-loop-phrase : goal.invariant-loop-phrase

@@ -1,5 +1,6 @@
 use Rattle.std.proofs.Common.{◌≡◌, drop, map}
-use Rattle.qsql_eval.specs.Judgement.{first_unknown, column_kind}
+use Rattle.qsql_values.specs.Kinds.{column_kind}
+use Rattle.qsql_eval.specs.Judgement.{first_unknown}
 use Rattle.qsql_eval.proofs.checking.unknown_among.Given as goal
 
 abbrev pub invariant-loop-name : goal.invariant-loop-name

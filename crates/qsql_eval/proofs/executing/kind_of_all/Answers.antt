@@ -1,4 +1,4 @@
-use Rattle.std.proofs.Common.{◌≡◌, ◌<◌, true, false, length, arith, sym, ◌∙◌}
+use Rattle.std.proofs.Common.{◌<◌, true, false, length, arith, sym, ◌∙◌}
 use Rattle.qsql_eval.proofs.ReadyLemmas.{one_kind_of}
 use Rattle.qsql_eval.proofs.executing.kind_of_all.Goals as goal
 

@@ -1,5 +1,5 @@
 use Rattle.std.proofs.Common.{sym}
-use Rattle.qsql_eval.proofs.FrameLemmas.{column-lent}
+use Rattle.qsql_values.proofs.FrameLemmas.{column-lent}
 use Rattle.qsql_eval.proofs.laws.columns_are_read.Goals as goal
 
 pub returns : goal.returns

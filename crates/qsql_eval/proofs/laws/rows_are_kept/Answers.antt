@@ -1,6 +1,6 @@
 use Rattle.std.proofs.Common.{ap}
-use Rattle.qsql_eval.specs.Frames.{Frame}
-use Rattle.qsql_eval.proofs.PlacesLemmas.{frame-selected}
+use Rattle.qsql_values.specs.Frames.{Frame}
+use Rattle.qsql_values.proofs.PlacesLemmas.{frame-selected}
 use Rattle.qsql_eval.proofs.laws.rows_are_kept.Goals as goal
 
 pub returns : goal.returns

@@ -1,5 +1,5 @@
 use Rattle.std.proofs.Common.{◌≡◌, drop}
-use Rattle.qsql_eval.specs.Frames.{are_even}
+use Rattle.qsql_values.specs.Frames.{are_even}
 use Rattle.qsql_eval.proofs.rows.are_of_size.Given as goal
 
 abbrev pub invariant-loop-column : goal.invariant-loop-column

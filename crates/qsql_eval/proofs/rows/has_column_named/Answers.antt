@@ -1,8 +1,8 @@
-use Rattle.std.proofs.Common.{◌≡◌, ℕ, List, Option, map, ap, ◌∙◌}
+use Rattle.std.proofs.Common.{ℕ, List, Option, map, ap, ◌∙◌}
 use Rattle.q_values.specs.Contents.{Contents}
 use Rattle.q_values.specs.declared.kind.Kind.{Kind}
-use Rattle.qsql_eval.specs.Beside.{beside}
-use Rattle.qsql_eval.specs.Judgement.{column_kind}
+use Rattle.qsql_values.specs.Beside.{beside}
+use Rattle.qsql_values.specs.Kinds.{column_kind}
 use Rattle.qsql_eval.specs.Views.{is_kind}
 use Rattle.qsql_eval.proofs.rows.has_column_named.Goals as goal
 

@@ -1,6 +1,6 @@
 use Rattle.std.proofs.Common.{◌≡◌, drop}
 use Rattle.std.specs.List.{list_all}
-use Rattle.qsql_eval.specs.Frames.{frame_of, kind_beside}
+use Rattle.qsql_values.specs.Frames.{frame_of, kind_beside}
 use Rattle.qsql_eval.specs.Views.{has_column}
 use Rattle.qsql_eval.proofs.rows.have_every_column.Given as goal
 

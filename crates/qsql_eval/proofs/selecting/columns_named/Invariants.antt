@@ -1,5 +1,5 @@
 use Rattle.std.proofs.Common.{◌≡◌, map, take}
-use Rattle.qsql_eval.specs.Frames.{column_in}
+use Rattle.qsql_values.specs.Frames.{column_in}
 use Rattle.qsql_eval.specs.Meaning.{limited_column}
 use Rattle.qsql_eval.proofs.selecting.columns_named.Given as goal
 

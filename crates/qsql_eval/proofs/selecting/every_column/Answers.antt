@@ -1,4 +1,4 @@
-use Rattle.std.proofs.Common.{◌≡◌, ℕ, ◌<◌, List, length, ap, arith, subst, sym}
+use Rattle.std.proofs.Common.{ℕ, ◌<◌, List, length, arith, subst, sym}
 use Rattle.qsql_eval.proofs.ReadyLemmas.{every_table}
 use Rattle.qsql_eval.proofs.selecting.every_column.Goals as goal
 

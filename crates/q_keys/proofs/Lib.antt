@@ -1,0 +1,4 @@
+pub mod AscendingLemmas
+pub mod RankingLemmas
+pub mod KeyLemmas
+pub mod RowLemmas

@@ -1,0 +1,6 @@
+pub mod Ascending
+pub mod Ranking
+pub mod Keys
+pub mod Laws
+pub mod Pairs
+pub mod Spans

@@ -1,0 +1,170 @@
+//! The items of a side, as the loops of the verbs read them, and the loop over two sides.
+ghost use Rattle.std.specs.Prelude.{◌≡◌, ◌<◌, List, length, map, Some, slice_get, IfOk};
+ghost use Rattle.std.specs.Mem.{FitsInMemory};
+ghost use Rattle.std.specs.Simd.Lanes.{zip2};
+ghost use Rattle.q_lanes.specs.Lanes.{lane_items};
+
+use std::alloc::{AllocError, Global};
+use std::slice::from_ref;
+
+/// The items of a column, or one item that stands at each index.
+#[derive(Drop)]
+pub enum Lane<'a, T: Copy> {
+    /// The items of a column.
+    Each(&'a [T]),
+    /// The item of an atom.
+    Every(T),
+}
+
+impl<T: Copy> Lane<'_, T> {
+    /// The items of a column, or the one item, as a slice.
+    pub fn alone(&self) -> &[T]
+        requires { FitsInMemory T.row }
+        ensures { result.now ≡ lane_items 1 self.now }
+    {
+        match self {
+            Lane::Each(items) => items,
+            Lane::Every(item) => from_ref(item),
+        }
+    }
+}
+
+/// Items at the indices below a count.
+pub trait Items<T> {
+    ghost list: { Self → List T };
+
+    /// Their number.
+    fn count(&self) -> usize
+        ensures { result ≡ length (list self.now) };
+
+    /// The item at the index.
+    fn item(&self, i: usize) -> T
+        requires { i < length (list self.now) }
+        ensures { slice_get (list self.now) i ≡ Some result };
+}
+
+// The items of a slice.
+#[derive(Drop)]
+struct Slice<'a, T> {
+    items: &'a [T],
+}
+
+impl<T: Copy> Items<T> for Slice<'_, T> {
+    ghost list = { λ s. s.items.now };
+
+    fn count(&self) -> usize {
+        self.items.len()
+    }
+
+    fn item(&self, i: usize) -> T {
+        self.items[i]
+    }
+}
+
+// One item at each index.
+#[derive(Drop)]
+struct Repeated<T> {
+    item: T,
+    count: usize,
+}
+
+impl<T: Copy> Items<T> for Repeated<T> {
+    ghost use Rattle.std.specs.Prelude.{replicate};
+
+    ghost list = { λ s. replicate s.count s.item };
+
+    fn count(&self) -> usize {
+        self.count
+    }
+
+    fn item(&self, _i: usize) -> T {
+        self.item
+    }
+}
+
+/// What a verb makes of two items.
+pub trait Step<T, U> {
+    ghost value: { T → T → U };
+
+    /// The result for two items.
+    fn apply(x: &T, y: &T) -> U
+        ensures { result ≡ value x.now y.now };
+}
+
+fn zip_items<S: Step<T, U>, T: Copy, U: Drop, L: Items<T>, R: Items<T>>(
+    alloc: Global,
+    left: &L,
+    right: &R,
+) -> Result<Vec<U>, AllocError>
+    requires { length (L.list left.now) ≡ length (R.list right.now) }
+    ensures { IfOk result (λ v. v.items ≡ zip2 S.value (L.list left.now) (R.list right.now)) }
+{
+    let count = left.count();
+    let mut values = Vec::with_capacity(alloc, count)?;
+    for i in 0..count {
+        values.push_reserved(S::apply(&left.item(i), &right.item(i)));
+    }
+    Ok(values)
+}
+
+/// The results for each two items of sides of `count` items.
+pub fn zip_lanes<S: Step<T, U>, T: Copy, U: Drop>(
+    alloc: Global,
+    count: usize,
+    left: &Lane<'_, T>,
+    right: &Lane<'_, T>,
+) -> Result<Vec<U>, AllocError>
+    requires left { length (lane_items count left.now) ≡ count }
+    requires right { length (lane_items count right.now) ≡ count }
+    ensures { IfOk result
+        (λ v. v.items ≡ zip2 S.value (lane_items count left.now) (lane_items count right.now)) }
+{
+    match (left, right) {
+        (Lane::Each(some), Lane::Each(others)) => {
+            zip_items::<S, T, U, _, _>(alloc, &Slice { items: some }, &Slice { items: others })
+        }
+        (Lane::Each(some), Lane::Every(other)) => {
+            let others = Repeated {
+                item: *other,
+                count,
+            };
+            zip_items::<S, T, U, _, _>(alloc, &Slice { items: some }, &others)
+        }
+        (Lane::Every(item), Lane::Each(others)) => {
+            let some = Repeated { item: *item, count };
+            zip_items::<S, T, U, _, _>(alloc, &some, &Slice { items: others })
+        }
+        (Lane::Every(item), Lane::Every(other)) => {
+            let some = Repeated { item: *item, count };
+            let others = Repeated {
+                item: *other,
+                count,
+            };
+            zip_items::<S, T, U, _, _>(alloc, &some, &others)
+        }
+    }
+}
+
+/// What a verb makes of one item.
+pub trait Rule<T, U> {
+    ghost value: { Self → T → U };
+
+    /// The result for an item.
+    fn apply(&self, x: &T) -> U
+        ensures { result ≡ value self.now x.now };
+}
+
+/// The rule's result for each item.
+pub fn map_items<P: Rule<T, U>, T: Copy, U: Drop>(
+    alloc: Global,
+    rule: &P,
+    items: &[T],
+) -> Result<Vec<U>, AllocError>
+    ensures { IfOk result (λ v. v.items ≡ map (P.value rule.now) items.now) }
+{
+    let mut values = Vec::with_capacity(alloc, items.len())?;
+    for item in items {
+        values.push_reserved(rule.apply(item));
+    }
+    Ok(values)
+}

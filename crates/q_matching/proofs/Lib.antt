@@ -1,0 +1,4 @@
+pub mod AmongLemmas
+pub mod LawLemmas
+pub mod LikeLemmas
+pub mod WithinLemmas

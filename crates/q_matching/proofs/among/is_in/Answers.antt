@@ -1,0 +1,16 @@
+use Rattle.std.proofs.Common.{Bool, List, map, ap, ◌∙◌}
+use Rattle.q_values.specs.Contents.{Contents}
+use Rattle.q_values.specs.declared.atom.Atom.{Atom}
+use Rattle.q_values.specs.declared.atom.Atom.TheVariants as a
+use Rattle.q_values.specs.declared.kind.Kind.TheVariants as k
+use Rattle.q_verbs.specs.Sides.{items_of}
+use Rattle.q_verbs.specs.Tests.{is_among}
+use Rattle.q_lanes.proofs.MapLemmas.{map-mapped}
+use Rattle.q_matching.proofs.among.is_in.Goals as goal
+
+pub returns : goal.returns
+returns c =
+    let of_atoms : List Atom → Contents = λ atoms. record { kind = k.Boolean; atoms = atoms } in
+    let boolean : Bool → Atom = λ b. a.Boolean b in
+    let test : Atom → Bool = λ x. is_among (items_of c.args.items.now) x in
+    c.booleans.ensures ∙ ap of_atoms (ap (map boolean) c.in_ok-values.ensures ∙ map-mapped boolean test (items_of c.args.left.now))

@@ -1,0 +1,19 @@
+use Rattle.std.proofs.Common.{rules, negsuc, FitsSigned, ◌∙◌}
+use Rattle.std.specs.Int.{w64, int_max}
+use Rattle.std.proofs.lemmas.Int.{to_z-of_z}
+use Rattle.q_lanes.proofs.OrderLemmas.{worth_cmp-64}
+use Rattle.q_unary.proofs.ExtremeLemmas.{greatest_step, bottom-64, null-64}
+use Rattle.q_unary.proofs.extremes.greater_64.Goals as goal
+
+pub returns : goal.returns
+returns c =
+    let x = c.args.x.now in
+    let best = c.args.best in
+    let x_fits : FitsSigned w64 x = search rules in
+    let best_fits : FitsSigned w64 best = search rules in
+    let result_fits : FitsSigned w64 c.max.result = search rules in
+    λ chosen e.
+    to_z-of_z w64 c.max.result result_fits
+    ∙ c.max.ensures.value
+    ∙ (λ i. int_max (to_z-of_z w64 best best_fits i) (to_z-of_z w64 x x_fits i))
+    ∙ greatest_step w64 (negsuc 9223372036854775806) best x (worth_cmp-64 best x best_fits x_fits) (bottom-64 x) (null-64 best x best_fits x_fits) chosen e

@@ -1,0 +1,11 @@
+use Rattle.std.proofs.Common.{rules, FitsSigned, ap, ◌∙◌}
+use Rattle.std.specs.Int.{w16, int_wrapping_neg}
+use Rattle.std.proofs.lemmas.Int.{to_z-of_z}
+use Rattle.q_unary.proofs.OneSideLemmas.{negated-16}
+use Rattle.q_unary.proofs.one_side.negated_16.Goals as goal
+
+pub returns : goal.returns
+returns c =
+    let fits : FitsSigned w16 c.args.x.now = search rules in
+    let result : FitsSigned w16 c.wrapping_neg.result = search rules in
+    to_z-of_z w16 c.wrapping_neg.result result ∙ c.wrapping_neg.ensures ∙ ap (int_wrapping_neg w16) (to_z-of_z w16 c.args.x.now fits) ∙ negated-16 c.args.x.now fits

@@ -1,0 +1,289 @@
+//! The least and the greatest of a column.
+ghost use Rattle.std.specs.Prelude.{◌≡◌, pos, negsuc, Some, true, false, if◌then◌else◌, IsTrue, unwrap_or};
+ghost use Rattle.std.specs.Int.{w16, w32, w64};
+ghost use Rattle.std.specs.Ordering.{is_ge, is_le};
+ghost use Rattle.q_unary.specs.Extremes.{Picks, extreme};
+ghost use Rattle.q_values.specs.Column.{contents};
+ghost use Rattle.q_verbs.specs.Aggregates.{chosen_of, greatest, lowest, number_of};
+ghost use Rattle.q_verbs.specs.Kinds.{is_number};
+ghost use Rattle.q_verbs.specs.Numbers.{number_in};
+ghost use Rattle.q_verbs.specs.Places.{chosen};
+ghost use Rattle.q_verbs.specs.declared.verb.Verb.TheVariants as v;
+
+use q_lanes::Number;
+use q_values::{Atom, Column};
+
+// Numbers of which the least and the greatest are sought, with no branch for a null. The null is the least number of its
+// width, so it is never the greatest; where the least is sought, a null counts as the greatest value.
+trait Extremal: Number {
+    ghost top: { Self };
+
+    ghost bottom: { Self };
+
+    // The greatest value.
+    fn greatest_value() -> Self
+        ensures { result ≡ top };
+
+    // The greatest value negated; 0 of 8 bits.
+    fn lowest_value() -> Self
+        ensures { result ≡ bottom };
+
+    // The lesser of the least so far and one more item, which may be the null.
+    fn lesser(best: Self, x: &Self) -> Self
+        ensures { Picks is_le Self.number top best x.now result };
+
+    // The greater of the greatest so far and one more item, which may be the null.
+    fn greater(best: Self, x: &Self) -> Self
+        ensures { Picks is_ge Self.number bottom best x.now result };
+}
+
+fn lesser_bit(best: bool, x: &bool) -> bool
+    ensures { Picks is_le (λ b. Some (pos (if b then 1 else 0))) true best x.now result }
+{
+    best && *x
+}
+
+fn greater_bit(best: bool, x: &bool) -> bool
+    ensures { Picks is_ge (λ b. Some (pos (if b then 1 else 0))) false best x.now result }
+{
+    best || *x
+}
+
+impl Extremal for bool {
+    ghost use Rattle.std.specs.Prelude.{true, false};
+
+    ghost top = { true };
+
+    ghost bottom = { false };
+
+    fn greatest_value() -> bool {
+        true
+    }
+
+    fn lowest_value() -> bool {
+        false
+    }
+
+    fn lesser(best: bool, x: &bool) -> bool {
+        lesser_bit(best, x)
+    }
+
+    fn greater(best: bool, x: &bool) -> bool {
+        greater_bit(best, x)
+    }
+}
+
+fn lesser_byte(best: u8, x: &u8) -> u8
+    ensures { Picks is_le (λ n. Some (pos n)) 255 best x.now result }
+{
+    best.min(*x)
+}
+
+fn greater_byte(best: u8, x: &u8) -> u8
+    ensures { Picks is_ge (λ n. Some (pos n)) 0 best x.now result }
+{
+    best.max(*x)
+}
+
+impl Extremal for u8 {
+    ghost top = { 255 };
+
+    ghost bottom = { 0 };
+
+    fn greatest_value() -> u8 {
+        u8::MAX
+    }
+
+    fn lowest_value() -> u8 {
+        0
+    }
+
+    fn lesser(best: u8, x: &u8) -> u8 {
+        lesser_byte(best, x)
+    }
+
+    fn greater(best: u8, x: &u8) -> u8 {
+        greater_byte(best, x)
+    }
+}
+
+// The number, or the greatest one for the null.
+fn number_or_top_16(x: i16) -> i16
+    ensures { result ≡ unwrap_or (number_in w16 x) (pos 32767) }
+{
+    if x > i16::MIN { x } else { i16::MAX }
+}
+
+fn lesser_16(best: i16, x: &i16) -> i16
+    ensures { Picks is_le (number_in w16) (pos 32767) best x.now result }
+{
+    best.min(number_or_top_16(*x))
+}
+
+fn greater_16(best: i16, x: &i16) -> i16
+    ensures { Picks is_ge (number_in w16) (negsuc 32766) best x.now result }
+{
+    best.max(*x)
+}
+
+impl Extremal for i16 {
+    ghost use Rattle.std.specs.Prelude.{pos, negsuc};
+
+    ghost top = { pos 32767 };
+
+    ghost bottom = { negsuc 32766 };
+
+    fn greatest_value() -> i16 {
+        i16::MAX
+    }
+
+    fn lowest_value() -> i16 {
+        -i16::MAX
+    }
+
+    fn lesser(best: i16, x: &i16) -> i16 {
+        lesser_16(best, x)
+    }
+
+    fn greater(best: i16, x: &i16) -> i16 {
+        greater_16(best, x)
+    }
+}
+
+// The number, or the greatest one for the null.
+fn number_or_top_32(x: i32) -> i32
+    ensures { result ≡ unwrap_or (number_in w32 x) (pos 2147483647) }
+{
+    if x > i32::MIN { x } else { i32::MAX }
+}
+
+fn lesser_32(best: i32, x: &i32) -> i32
+    ensures { Picks is_le (number_in w32) (pos 2147483647) best x.now result }
+{
+    best.min(number_or_top_32(*x))
+}
+
+fn greater_32(best: i32, x: &i32) -> i32
+    ensures { Picks is_ge (number_in w32) (negsuc 2147483646) best x.now result }
+{
+    best.max(*x)
+}
+
+impl Extremal for i32 {
+    ghost use Rattle.std.specs.Prelude.{pos, negsuc};
+
+    ghost top = { pos 2147483647 };
+
+    ghost bottom = { negsuc 2147483646 };
+
+    fn greatest_value() -> i32 {
+        i32::MAX
+    }
+
+    fn lowest_value() -> i32 {
+        -i32::MAX
+    }
+
+    fn lesser(best: i32, x: &i32) -> i32 {
+        lesser_32(best, x)
+    }
+
+    fn greater(best: i32, x: &i32) -> i32 {
+        greater_32(best, x)
+    }
+}
+
+// The number, or the greatest one for the null.
+fn number_or_top_64(x: i64) -> i64
+    ensures { result ≡ unwrap_or (number_in w64 x) (pos 9223372036854775807) }
+{
+    if x > i64::MIN { x } else { i64::MAX }
+}
+
+fn lesser_64(best: i64, x: &i64) -> i64
+    ensures { Picks is_le (number_in w64) (pos 9223372036854775807) best x.now result }
+{
+    best.min(number_or_top_64(*x))
+}
+
+fn greater_64(best: i64, x: &i64) -> i64
+    ensures { Picks is_ge (number_in w64) (negsuc 9223372036854775806) best x.now result }
+{
+    best.max(*x)
+}
+
+impl Extremal for i64 {
+    ghost use Rattle.std.specs.Prelude.{pos, negsuc};
+
+    ghost top = { pos 9223372036854775807 };
+
+    ghost bottom = { negsuc 9223372036854775806 };
+
+    fn greatest_value() -> i64 {
+        i64::MAX
+    }
+
+    fn lowest_value() -> i64 {
+        -i64::MAX
+    }
+
+    fn lesser(best: i64, x: &i64) -> i64 {
+        lesser_64(best, x)
+    }
+
+    fn greater(best: i64, x: &i64) -> i64 {
+        greater_64(best, x)
+    }
+}
+
+fn least_of_items<T: Extremal>(items: &[T]) -> T
+    ensures { result ≡ extreme is_le T.number T.top items.now }
+{
+    let mut best = T::greatest_value();
+    for item in items {
+        best = T::lesser(best, item);
+    }
+    best
+}
+
+fn greatest_of_items<T: Extremal>(items: &[T]) -> T
+    ensures { result ≡ extreme is_ge T.number T.bottom items.now }
+{
+    let mut best = T::lowest_value();
+    for item in items {
+        best = T::greater(best, item);
+    }
+    best
+}
+
+/// The least item of a column but the nulls, or the greatest value of the kind.
+pub(crate) fn least_of(column: &Column) -> Atom
+    requires { IsTrue (is_number (contents column.now).kind) }
+    ensures { result ≡ unwrap_or (chosen_of number_of (chosen v.Lesser) (contents column.now).atoms)
+        (greatest (contents column.now).kind) }
+{
+    match column {
+        Column::Booleans(items) => Atom::Boolean(least_of_items(items.as_slice())),
+        Column::Bytes(kind, items) => kind.atom(least_of_items(items.as_slice())),
+        Column::Shorts(items) => Atom::Short(least_of_items(items.as_slice())),
+        Column::Integers(kind, items) => kind.atom(&least_of_items(items.as_slice())),
+        Column::Longs(kind, items) => kind.atom(&least_of_items(items.as_slice())),
+        Column::Symbols(_) => unreachable!(),
+    }
+}
+
+/// The greatest item of a column, or the greatest value of the kind negated where it has only nulls.
+pub(crate) fn greatest_of(column: &Column) -> Atom
+    requires { IsTrue (is_number (contents column.now).kind) }
+    ensures { result ≡ unwrap_or (chosen_of number_of (chosen v.Greater) (contents column.now).atoms)
+        (lowest (contents column.now).kind) }
+{
+    match column {
+        Column::Booleans(items) => Atom::Boolean(greatest_of_items(items.as_slice())),
+        Column::Bytes(kind, items) => kind.atom(greatest_of_items(items.as_slice())),
+        Column::Shorts(items) => Atom::Short(greatest_of_items(items.as_slice())),
+        Column::Integers(kind, items) => kind.atom(&greatest_of_items(items.as_slice())),
+        Column::Longs(kind, items) => kind.atom(&greatest_of_items(items.as_slice())),
+        Column::Symbols(_) => unreachable!(),
+    }
+}

@@ -1,5 +1,0 @@
-use Rattle.q_verbs.proofs.LawLemmas.{any_bytes_match_all}
-use Rattle.q_verbs.proofs.laws.any_bytes_match_all.Goals as goal
-
-pub returns : goal.returns
-returns c = any_bytes_match_all

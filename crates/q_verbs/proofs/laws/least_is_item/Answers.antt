@@ -1,5 +1,0 @@
-use Rattle.q_verbs.proofs.LeastLemmas.{least_is_item}
-use Rattle.q_verbs.proofs.laws.least_is_item.Goals as goal
-
-pub returns : goal.returns
-returns c = least_is_item

@@ -1,5 +1,0 @@
-use Rattle.q_verbs.proofs.LawLemmas.{plain_pattern_is_itself}
-use Rattle.q_verbs.proofs.laws.plain_pattern_is_itself.Goals as goal
-
-pub returns : goal.returns
-returns c = plain_pattern_is_itself

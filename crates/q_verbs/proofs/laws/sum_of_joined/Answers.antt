@@ -1,5 +1,0 @@
-use Rattle.q_verbs.proofs.LawLemmas.{sum_of_joined}
-use Rattle.q_verbs.proofs.laws.sum_of_joined.Goals as goal
-
-pub returns : goal.returns
-returns c = sum_of_joined

@@ -1,6 +1,0 @@
-use Rattle.std.proofs.Common.{◌≡◌, map, take}
-use Rattle.qsql_eval.specs.Places.{column_at}
-use Rattle.qsql_eval.proofs.keeping.columns_at.Given as goal
-
-abbrev pub invariant-loop-column : goal.invariant-loop-column
-invariant-loop-column l = l.gathered.items ≡ map (column_at l.places) (take l.column-index l.columns)

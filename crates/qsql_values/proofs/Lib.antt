@@ -1,0 +1,7 @@
+pub mod BesideLemmas
+pub mod ByRowLemmas
+pub mod FrameLemmas
+pub mod KeepingLemmas
+pub mod OperandLemmas
+pub mod PlacesLemmas
+pub mod ShapeLemmas
