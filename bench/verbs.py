@@ -33,8 +33,22 @@ CALLS = (
     ("dates", "above", "date>date"),
     ("longs", "filter", "x where one in 16"),
     ("longs", "in", "x in five"),
+    ("symbols", "equal", "s=t"),
+    ("symbols", "equal_one", "s=`S042"),
     ("symbols", "in", "s in five"),
+    ("symbols", "in_50", "s in fifty"),
     ("symbols", "like", 's like "S4*"'),
+    ("symbols", "order", "iasc s"),
+    ("groups", "symbols_100", "by 100 symbols"),
+    ("sum_by", "symbols_100", "sum by them"),
+    ("last_by", "symbols_100", "last by them"),
+    ("max_by", "symbols_100", "max by them"),
+    ("groups", "symbols_100000", "by 100000"),
+    ("sum_by", "symbols_100000", "sum by them"),
+    ("last_by", "symbols_100000", "last by them"),
+    ("max_by", "symbols_100000", "max by them"),
+    ("groups", "dates", "by 1000 dates"),
+    ("sum_by", "dates", "sum by them"),
 )
 
 
@@ -42,17 +56,18 @@ def main():
     parser = argparse.ArgumentParser(description=__doc__.splitlines()[0])
     parser.add_argument("--longs", type=int, default=10_000_000, metavar="N", help="longs of a column (10000000)")
     parser.add_argument("--symbols", type=int, default=1_000_000, metavar="N", help="symbols of a column (1000000)")
+    parser.add_argument("--rows", type=int, default=10_000_000, metavar="N", help="rows that are grouped (10000000)")
     parser.add_argument("--runs", type=int, default=3, metavar="N", help="runs of each program, of five rounds (3)")
     parser.add_argument("--program", help="the program, if it is built already")
     parser.add_argument("--python", default=sys.executable, help="a Python that has numpy (the one that runs this)")
     options = parser.parse_args()
-    if min(options.longs, options.symbols, options.runs) < 1:
+    if min(options.longs, options.symbols, options.rows, options.runs) < 1:
         parser.error("N is at least 1")
     if subprocess.run([options.python, "-c", "import numpy"], stderr=subprocess.DEVNULL).returncode != 0:
         sys.exit("verbs.py: needs numpy, which is Debian's python3-numpy; --python names a Python that has it")
-    arguments = [str(options.longs), str(options.symbols)]
+    arguments = [str(options.longs), str(options.symbols), str(options.rows)]
     program = options.program or programs.proved("verbs_bench")
-    beside = [options.python, os.path.join(programs.HERE, "verbs_numpy.py"), arguments[0]]
+    beside = [options.python, os.path.join(programs.HERE, "verbs_numpy.py"), arguments[0], arguments[2]]
     own, loops, arrays = {}, {}, {}
     with tempfile.TemporaryDirectory() as folder:
         loop = programs.compiled(folder, "verbs", "-C", "target-cpu=x86-64-v2")
@@ -60,7 +75,7 @@ def main():
             programs.best_of([program, *arguments], own)
             programs.best_of(beside, arrays)
             programs.best_of([loop, *arguments], loops)
-    counts = {"symbols": options.symbols}
+    counts = {"symbols": options.symbols, **dict.fromkeys(("groups", "sum_by", "last_by", "max_by"), options.rows)}
     print(f"{'':18} {'rows':>11} {'ms':>9} {'ns/row':>8} {'numpy ms':>9} {'to numpy':>8} {'loop ms':>9} {'to loop':>8}")
     for what, call, shown in CALLS:
         took, total = own[what, call]

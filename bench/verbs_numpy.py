@@ -10,6 +10,7 @@ import time
 import numpy
 
 ROUNDS = 5
+GROUP_ROUNDS = 1
 STEP = numpy.uint64(0x9E37_79B9_7F4A_7C15)
 OTHER_STEP = numpy.uint64(0xD1B5_4A32_D192_ED03)
 
@@ -61,4 +62,45 @@ def report(count):
         timed("longs", "in", lambda: numpy.isin(few, five))
 
 
+def by_group(name, keys, items):
+    """The groups of keys in ascending order, and aggregates of items by group."""
+    for _ in range(GROUP_ROUNDS):
+        start = time.perf_counter_ns()
+        values, codes = numpy.unique(keys, return_inverse=True)
+        took = time.perf_counter_ns() - start
+        print("groups", name, took, len(values))
+        many = len(values)
+        last, greatest = numpy.zeros(many, numpy.int32), numpy.full(many, -(2**31) + 1, numpy.int32)
+        timed("sum_by", name, lambda: numpy.bincount(codes, weights=items, minlength=many).astype(numpy.int64).astype(numpy.int32))
+        timed("last_by", name, lambda: last_of(last, codes, items))
+        timed("max_by", name, lambda: max_of(greatest, codes, items))
+
+
+def last_of(found, codes, items):
+    found[codes] = items
+    return found
+
+
+def max_of(found, codes, items):
+    numpy.maximum.at(found, codes, items)
+    return found
+
+
+def report_groups(count):
+    items = integers(count, OTHER_STEP)
+    numbers = longs(count, STEP).view(numpy.uint64) >> numpy.uint64(32)
+    by_group("symbols_100", names(numbers % numpy.uint64(100)), items)
+    by_group("symbols_100000", names(numbers % numpy.uint64(100_000)), items)
+    by_group("dates", (numbers % numpy.uint64(1000)).astype(numpy.int32), items)
+
+
+def names(numbers):
+    """Symbols of six letters, for the digits of the numbers."""
+    letters = numpy.empty((len(numbers), 6), numpy.uint8)
+    for place in range(6):
+        letters[:, 5 - place] = (numbers // numpy.uint64(10**place)) % numpy.uint64(10) + numpy.uint64(ord("a"))
+    return letters.view("S6").ravel()
+
+
 report(int(sys.argv[1]))
+report_groups(int(sys.argv[2]))

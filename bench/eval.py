@@ -1,0 +1,57 @@
+#!/usr/bin/env python3
+"""Times queries over rows of `trade` in memory, compared with numpy and pandas over the same rows.
+
+Prints the milliseconds of each text, the best of all rounds, and its ratio to the faster of the two; ends with an error where results
+differ. Needs the kit's `rt`, numpy and pandas (Debian's python3-numpy and python3-pandas), and installs nothing.
+"""
+
+import argparse
+import os
+import subprocess
+import sys
+
+import programs
+
+# The name of each query in the output of the programs, and its text.
+TEXTS = (
+    ("sum_size", "exec sum size from trade"),
+    ("one_symbol", "select from trade where sym=`S42,time within 0D10 0D10:30"),
+    ("count_two", "exec count i from trade where size>500,price<10250"),
+    ("range", "exec max price-min price from trade"),
+)
+
+
+def show(best, rows):
+    print(f"{'':62} {'rows':>11} {'ms':>9} {'numpy ms':>9} {'pandas ms':>9} {'ratio':>6}")
+    for name, text in TEXTS:
+        took, total = best["eval", name]
+        others = [best[library, name] for library in ("numpy", "pandas")]
+        if any(other_total != total for _, other_total in others):
+            sys.exit(f"eval.py: {text} has differing results: {total} and {[other_total for _, other_total in others]}")
+        in_numpy, in_pandas = (other_took for other_took, _ in others)
+        ratio = took / min(in_numpy, in_pandas)
+        print(f"{text:62} {rows:11,} {took / 1e6:9.2f} {in_numpy / 1e6:9.2f} {in_pandas / 1e6:9.2f} {ratio:6.2f}")
+
+
+def main():
+    parser = argparse.ArgumentParser(description=__doc__.splitlines()[0])
+    parser.add_argument("--rows", type=int, nargs="+", default=[1_000_000, 10_000_000], metavar="N", help="rows (1000000 10000000)")
+    parser.add_argument("--runs", type=int, default=3, metavar="N", help="runs of each program, of five rounds (3)")
+    parser.add_argument("--program", help="the program, if it is built already")
+    parser.add_argument("--python", default=sys.executable, help="a Python that has numpy and pandas (the one that runs this)")
+    options = parser.parse_args()
+    if min(options.runs, *options.rows) < 1:
+        parser.error("N is at least 1")
+    if subprocess.run([options.python, "-c", "import numpy, pandas"], stderr=subprocess.DEVNULL).returncode != 0:
+        sys.exit("eval.py: needs numpy and pandas, which are Debian's python3-numpy and python3-pandas; --python names a Python that has them")
+    program = options.program or programs.proved("eval_bench")
+    for rows in options.rows:
+        best = {}
+        for _ in range(options.runs):
+            programs.best_of([program, str(rows)], best)
+            programs.best_of([options.python, os.path.join(programs.HERE, "eval_arrays.py"), str(rows)], best)
+        show(best, rows)
+
+
+if __name__ == "__main__":
+    main()
