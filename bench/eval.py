@@ -1,7 +1,8 @@
 #!/usr/bin/env python3
 """Times queries over rows of `trade` in memory, compared with numpy and pandas over the same rows.
 
-Prints the milliseconds of each text, the best of all rounds, and its ratio to the faster of the two; ends with an error where results
+Prints the milliseconds of each text, the best of all rounds, and its ratio to the faster of the two (texts with `by` are compared with
+pandas alone); ends with an error where results
 differ. Needs the kit's `rt`, numpy and pandas (Debian's python3-numpy and python3-pandas), and installs nothing.
 """
 
@@ -18,19 +19,23 @@ TEXTS = (
     ("one_symbol", "select from trade where sym=`S42,time within 0D10 0D10:30"),
     ("count_two", "exec count i from trade where size>500,price<10250"),
     ("range", "exec max price-min price from trade"),
+    ("last_by_sym", "select last price by sym from trade"),
+    ("count_by_date", "select count i by date from trade"),
+    ("bars", "select first, max, min, last price, sum size by sym, 0D00:05 xbar time"),
+    ("sum_by_many", "select sum size by sym from trade (100,000 symbols)"),
 )
 
 
 def show(best, rows):
-    print(f"{'':62} {'rows':>11} {'ms':>9} {'numpy ms':>9} {'pandas ms':>9} {'ratio':>6}")
+    print(f"{'':74} {'rows':>11} {'ms':>9} {'numpy ms':>9} {'pandas ms':>9} {'ratio':>6}")
     for name, text in TEXTS:
         took, total = best["eval", name]
-        others = [best[library, name] for library in ("numpy", "pandas")]
-        if any(other_total != total for _, other_total in others):
-            sys.exit(f"eval.py: {text} has differing results: {total} and {[other_total for _, other_total in others]}")
-        in_numpy, in_pandas = (other_took for other_took, _ in others)
-        ratio = took / min(in_numpy, in_pandas)
-        print(f"{text:62} {rows:11,} {took / 1e6:9.2f} {in_numpy / 1e6:9.2f} {in_pandas / 1e6:9.2f} {ratio:6.2f}")
+        others = {library: best[library, name] for library in ("numpy", "pandas") if (library, name) in best}
+        if any(other_total != total for _, other_total in others.values()):
+            sys.exit(f"eval.py: {text} has differing results: {total} and {[other_total for _, other_total in others.values()]}")
+        shown = [f"{others[library][0] / 1e6:9.2f}" if library in others else f"{'-':>9}" for library in ("numpy", "pandas")]
+        ratio = took / min(other_took for other_took, _ in others.values())
+        print(f"{text:74} {rows:11,} {took / 1e6:9.2f} {shown[0]} {shown[1]} {ratio:6.2f}")
 
 
 def main():

@@ -17,16 +17,21 @@ OTHER_STEP = numpy.uint64(0xD1B5_4A32_D192_ED03)
 DAY = 86_400_000_000_000
 TEN = 36_000_000_000_000
 HALF_PAST_TEN = 37_800_000_000_000
+FIVE_MINUTES = 300_000_000_000
 
 
 def numbers(count, least, step):
     return ((numpy.arange(count, dtype=numpy.uint64) * step) >> numpy.uint64(54)).astype(numpy.int64) + least
 
 
+def mixed(count, symbols):
+    """The number of each row's symbol."""
+    return ((numpy.arange(count, dtype=numpy.uint64) * STEP) >> numpy.uint64(32)) % numpy.uint64(symbols)
+
+
 def names(count):
     """The number of each row's symbol, and the symbols."""
-    codes = (((numpy.arange(count, dtype=numpy.uint64) * STEP) >> numpy.uint64(32)) % numpy.uint64(100)).astype(numpy.int8)
-    return codes, [f"S{number:02}" for number in range(100)]
+    return mixed(count, 100).astype(numpy.int8), [f"S{number:02}" for number in range(100)]
 
 
 def rows(count):
@@ -65,6 +70,21 @@ def one_symbol(columns):
     return {name: column[kept] for name, column in columns.items()}
 
 
+def bars(frame):
+    grouped = frame.groupby([frame["sym"], frame["time"] // FIVE_MINUTES * FIVE_MINUTES], observed=True)
+    return grouped.agg(o=("price", "first"), h=("price", "max"), low=("price", "min"), c=("price", "last"), size=("size", "sum"))
+
+
+def report_groups(count, frame):
+    """Queries with `by`, over symbols as categories."""
+    timed("pandas", "last_by_sym", lambda: frame.groupby("sym", observed=True)[["price"]].last())
+    timed("pandas", "count_by_date", lambda: frame.groupby("date").size().to_frame())
+    timed("pandas", "bars", lambda: bars(frame))
+    many = frame[["size"]].copy()
+    many["sym"] = pandas.Categorical.from_codes(mixed(count, 100_000).astype(numpy.int32), [f"S{number:05}" for number in range(100_000)])
+    timed("pandas", "sum_by_many", lambda: many.groupby("sym", observed=True)[["size"]].sum())
+
+
 def report(count):
     columns, frame = rows(count)
     price, size = columns["price"], columns["size"]
@@ -76,6 +96,7 @@ def report(count):
     timed("pandas", "one_symbol", lambda: frame[(frame["sym"] == "S42") & frame["time"].between(TEN, HALF_PAST_TEN)])
     timed("pandas", "count_two", lambda: ((frame["size"] > 500) & (frame["price"] < 10250)).sum())
     timed("pandas", "range", lambda: frame["price"].max() - frame["price"].min())
+    report_groups(count, frame)
 
 
 report(int(sys.argv[1]))

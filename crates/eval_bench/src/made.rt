@@ -41,17 +41,48 @@ fn dates(alloc: Global, count: u32) -> Result<Vector, NoMemory> {
     Ok(Vector::from_column(Column::Integers(IntegerKind::Date, items)))
 }
 
+/// How many symbols there are.
+#[derive(Clone, Copy)]
+pub enum Spread {
+    /// `S00` to `S99`.
+    Hundred,
+    /// `S00000` to `S99999`.
+    Many,
+}
+
+fn digit(d: u64) -> u8 {
+    b'0' + (d % 10) as u8
+}
+
 // `S` and two digits.
-fn name_of(i: u32) -> [u8; 3] {
-    let n = ((u64::from(i).wrapping_mul(STEP) >> 32) % 100) as u32;
-    let digit = |d: u32| b'0' + (d % 10) as u8;
+fn short_name(n: u64) -> [u8; 3] {
     [b'S', digit(n / 10), digit(n)]
 }
 
-fn symbols(alloc: Global, count: u32) -> Result<Vector> {
+// `S` and five digits.
+fn long_name(n: u64) -> [u8; 6] {
+    [
+        b'S',
+        digit(n / 10_000),
+        digit(n / 1000),
+        digit(n / 100),
+        digit(n / 10),
+        digit(n),
+    ]
+}
+
+fn symbol_of(alloc: Global, i: u32, spread: Spread) -> Result<Sym> {
+    let mixed = u64::from(i).wrapping_mul(STEP) >> 32;
+    match spread {
+        Spread::Hundred => Ok(Sym::of(alloc, &short_name(mixed % 100))?),
+        Spread::Many => Ok(Sym::of(alloc, &long_name(mixed % 100_000))?),
+    }
+}
+
+fn symbols(alloc: Global, count: u32, spread: Spread) -> Result<Vector> {
     let mut items = Vector::new(alloc, Kind::Symbol);
     for i in 0..count {
-        items.push(Atom::Symbol(Sym::of(alloc, &name_of(i))?))?;
+        items.push(Atom::Symbol(symbol_of(alloc, i, spread)?))?;
     }
     Ok(items)
 }
@@ -64,8 +95,8 @@ fn names(alloc: Global) -> Result<Names> {
     Ok(names)
 }
 
-/// `count` rows of `trade`, with 100 symbols, prices from 10,000 and sizes from 1, both of ten bits.
-pub fn rows(alloc: Global, count: u32) -> Result<Rows> {
+/// `count` rows of `trade`, with so many symbols, prices from 10,000 and sizes from 1, both of ten bits.
+pub fn rows(alloc: Global, count: u32, spread: Spread) -> Result<Rows> {
     let between = match DAY.checked_div(u64::from(count)) {
         Some(between) => between,
         None => DAY,
@@ -73,7 +104,7 @@ pub fn rows(alloc: Global, count: u32) -> Result<Rows> {
     let mut columns = Columns::new(alloc);
     columns.push(dates(alloc, count)?)?;
     columns.push(ascending(alloc, count, between, LongKind::Timespan)?)?;
-    columns.push(symbols(alloc, count)?)?;
+    columns.push(symbols(alloc, count, spread)?)?;
     columns.push(numbers(alloc, count, 10_000, OTHER_STEP)?)?;
     columns.push(numbers(alloc, count, 1, STEP)?)?;
     columns.push(ascending(alloc, count, 1, LongKind::Long)?)?;

@@ -1,7 +1,7 @@
 //! The texts, timed in nanoseconds: one line for each time, with a name for the text, its nanoseconds and the sum of its
 //! result.
 
-use crate::made;
+use crate::made::{self, Spread};
 use anyhow::{Result, bail};
 use day_rows::Schema;
 use q_values::{Atom, Column, Value, Vector};
@@ -16,8 +16,8 @@ use std::time::Instant;
 // How often each text is timed.
 const ROUNDS: u32 = 5;
 
-// Each text, and its name in the output.
-const TEXTS: [(&str, &str); 4] = [
+// Each text over rows with 100 symbols, and its name in the output.
+const TEXTS: [(&str, &str); 7] = [
     ("sum_size", "exec sum size from trade"),
     (
         "one_symbol",
@@ -28,7 +28,16 @@ const TEXTS: [(&str, &str); 4] = [
         "exec count i from trade where size>500,price<10250",
     ),
     ("range", "exec max price-min price from trade"),
+    ("last_by_sym", "select last price by sym from trade"),
+    ("count_by_date", "select count i by date from trade"),
+    (
+        "bars",
+        "select o:first price,h:max price,l:min price,c:last price,sum size by sym,0D00:05 xbar time from trade",
+    ),
 ];
+
+// The text over rows with 100,000 symbols, and its name in the output.
+const MANY: (&str, &str) = ("sum_by_many", "select sum size by sym from trade");
 
 fn number_of(atom: &Atom) -> i64 {
     match atom {
@@ -66,12 +75,13 @@ fn sum_of_columns(columns: &[Vector]) -> i64 {
     sum
 }
 
-// The sum of all numbers of a result; symbols count for nothing.
+// The sum of all numbers of a result; symbols and the keys of groups count for nothing.
 fn total(value: &Value) -> i64 {
     match value {
         Value::Atom(atom) => number_of(atom),
         Value::Vector(vector) => sum_of(vector),
         Value::Table(table) => sum_of_columns(table.columns.as_slice()),
+        Value::Keyed(keyed) => sum_of_columns(keyed.values.columns.as_slice()),
         _ => 0,
     }
 }
@@ -84,7 +94,7 @@ fn query_timed<R: Clock + Print>(
     rows: &Rows,
 ) -> Result<()> {
     for _ in 0..ROUNDS {
-        if !typed.query.by.is_empty() || !typed.fits(alloc, rows)? {
+        if !typed.fits(alloc, rows)? {
             bail!("rows without the columns");
         }
         let start = Instant::now(rt)?;
@@ -116,13 +126,19 @@ fn text_timed<R: Clock + Print>(
     }
 }
 
+fn texts_timed<R: Clock + Print>(rt: &R, alloc: Global, schema: &Schema, count: u32) -> Result<()> {
+    let rows = made::rows(alloc, count, Spread::Hundred)?;
+    for (name, text) in TEXTS {
+        text_timed(rt, alloc, schema, &rows, name, text)?;
+    }
+    Ok(())
+}
+
 /// Times each text over `count` rows.
 pub fn report<R: Clock + Print + AllocGlobal>(rt: &R, count: u32) -> Result<()> {
     let alloc = rt.alloc();
     let schema = built_in_schema(alloc)?;
-    let rows = made::rows(alloc, count)?;
-    for (name, text) in TEXTS {
-        text_timed(rt, alloc, &schema, &rows, name, text)?;
-    }
-    Ok(())
+    texts_timed(rt, alloc, &schema, count)?;
+    let rows = made::rows(alloc, count, Spread::Many)?;
+    text_timed(rt, alloc, &schema, &rows, MANY.0, MANY.1)
 }

@@ -45,6 +45,9 @@ pub const FLOAT: &[u8] = b"\x01\x01\0\0\x11\0\0\0\xf7\0\0\0\0\0\0\xf8?";
 /// The error `nyi`.
 pub const NYI: &[u8] = b"\x01\x02\0\0\x0d\0\0\0\x80nyi\0";
 
+/// The error `parse`.
+pub const PARSE: &[u8] = b"\x01\x02\0\0\x0f\0\0\0\x80parse\0";
+
 /// The error `type`.
 pub const TYPE: &[u8] = b"\x01\x02\0\0\x0e\0\0\0\x80type\0";
 

@@ -1,7 +1,7 @@
 //! Sessions that read well-formed and malformed messages to their end.
 use crate::bytes::{
     BIG_QUERY, CHARACTER, DONE, FLOAT, GREETED, GREETING, NEGATIVE, NO_QUOTE, NO_ROW, NYI, ONE_ROW,
-    PAST_THE_END, QUERY, QUOTE_QUERY, UPDATE,
+    PARSE, PAST_THE_END, QUERY, QUOTE_QUERY, UPDATE,
 };
 use crate::sitting::{
     GREETED_TURN, LOGGED_TURN, Read, Wanted, bytes_go, greeted, messages_go, pieces_go,
@@ -261,10 +261,19 @@ fn float_not_built(rt: HostRuntime) -> Result<(), Fail> {
     Ok(())
 }
 
-/// A single character is a text, which isn't answered.
+/// A single character is a text, and this one is no request.
 #[test]
 fn character_is_a_text(rt: HostRuntime) -> Result<(), Fail> {
-    assert!(rt; is_unserved(&rt, rt.alloc(), CHARACTER)?);
+    let wanted = Wanted {
+        end: End::Closed,
+        sent: &[GREETED, PARSE, NO_ROW],
+        turns: &[
+            GREETED_TURN,
+            Turn::Answered { length: 0 },
+            Turn::Answered { length: 0 },
+        ],
+    };
+    assert!(rt; messages_go(&rt, rt.alloc(), &[CHARACTER, QUERY], wanted)?);
     Ok(())
 }
 

@@ -17,7 +17,8 @@ use Rattle.qsql_values.specs.Kinds.{column_kind, kind_in}
 use Rattle.qsql_values.specs.Ready.{IsReady}
 use Rattle.qsql_values.proofs.ShapeLemmas.{neither}
 use Rattle.qsql_eval.specs.Judgement.{is_name_of_by, all_columns, IsFit}
-use Rattle.qsql_eval.specs.Ready.{IsKey, IsValue, IsGroupable}
+use Rattle.qsql_groups.specs.Ready.{IsKey, IsValue}
+use Rattle.qsql_eval.specs.Ready.{IsGroupable}
 use Rattle.qsql_eval.specs.Views.{needed, has_column, has_columns}
 use Rattle.qsql_eval.proofs.FitLemmas.{Has, parts_of, all_of, agree_of, there_of, needed_names, needed_all, ready_columns, All-left, All-right}
 use Rattle.qsql_eval.proofs.ReadyLemmas.{AreReady}

@@ -1,4 +1,3 @@
-pub mod Groups
 pub mod Judgement
 pub mod Laws
 pub mod Meaning

@@ -14,7 +14,7 @@ use Rattle.qsql_request.specs.Shapes.{is_atom}
 use Rattle.qsql_request.specs.Unbuilt.{column_name, is_empty}
 use Rattle.qsql_values.specs.Frames.{Frame, column_in}
 use Rattle.qsql_values.specs.Values.{items_in, val, kept}
-use Rattle.qsql_eval.specs.Groups.{Groups, groups, keys_by_group, last_rows, value_by_group}
+use Rattle.qsql_groups.specs.Groups.{Groups, groups, last_rows, value_by_group}
 use Rattle.qsql_eval.specs.Judgement.{is_name_of_by}
 
 -- the values of columns, in order
@@ -80,7 +80,7 @@ execution q frame = execution_of (map column_name q.columns) (values_of frame q.
 
 -- the key columns of a table with `by`
 abbrev pub key_grid : List ColumnForm → Groups → Grid
-key_grid by g = record { names = map column_name by; columns = keys_by_group g }
+key_grid by g = record { names = map column_name by; columns = g.keys }
 
 -- columns with one item for each group
 abbrev pub group_columns : List ColumnForm → Groups → List Contents
@@ -109,7 +109,7 @@ dictionary_of keys values = identity
 -- the value of a query with `by` over its groups: a keyed table, or the dictionary of an `exec`
 abbrev pub value_over_groups : List (List ℕ) → QueryForm → Groups → Tree
 value_over_groups all q g =
-    if q.exec then dictionary_of (keys_by_group g) (group_columns q.columns g) else keyed (key_grid q.by g) (value_grid all q g)
+    if q.exec then dictionary_of g.keys (group_columns q.columns g) else keyed (key_grid q.by g) (value_grid all q g)
 
 -- the value of a query without `by`
 abbrev pub value_over_rows : List (List ℕ) → QueryForm → Frame → Tree

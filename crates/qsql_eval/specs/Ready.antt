@@ -2,13 +2,14 @@
 use Rattle.std.specs.Prelude.{◌≡◌, ◌<◌, ℕ, Bool, true, false, List, [], length, is_some, All}
 use Rattle.std.specs.List.{list_all}
 use Rattle.day_rows.specs.declared.schema.Shape.{Shape}
-use Rattle.qsql_request.specs.Forms.{Form, ColumnForm}
-use Rattle.qsql_request.specs.Shapes.{shape, is_scalar, is_list, is_rows}
+use Rattle.qsql_request.specs.Forms.{ColumnForm}
+use Rattle.qsql_request.specs.Shapes.{shape, is_scalar, is_list}
 use Rattle.qsql_request.specs.Views.{form, query_of}
 use Rattle.qsql_request.specs.declared.request.Col.{Col}
 use Rattle.qsql_request.specs.declared.request.Query.{Query}
 use Rattle.qsql_values.specs.Frames.{Frame, kind_beside}
 use Rattle.qsql_values.specs.Ready.{IsReady}
+use Rattle.qsql_groups.specs.Ready.{IsKey, IsValue}
 use Rattle.qsql_eval.specs.Judgement.{all_columns}
 use Rattle.qsql_eval.specs.Meaning.{other_names}
 
@@ -21,16 +22,6 @@ pub record IsAnswerable (frame : Frame) (table : Shape) (q : Query) : Type 0 whe
   pub ready : All (λ (c : Col). IsReady frame (form c.expr)) q.columns
   pub flat : q.exec ≡ false → All (λ (c : Col). is_list (shape (form c.expr)) ≡ false) q.columns
   pub every : q.columns ≡ [] → All (λ (name : List ℕ). is_some (kind_beside frame name) ≡ true) (all_columns table)
-
--- a column after `by`, with an item for each row
-pub record IsKey (frame : Frame) (e : Form) : Type 0 where
-  pub ready : IsReady frame e
-  pub rows : is_rows (shape e) ≡ true
-
--- a column of a query with `by`, with one item for each group
-pub record IsValue (frame : Frame) (e : Form) : Type 0 where
-  pub ready : IsReady frame e
-  pub scalar : is_scalar (shape e) ≡ true
 
 -- a query with `by` of a table has what its value needs over these rows
 pub record IsGroupable (frame : Frame) (table : Shape) (q : Query) : Type 0 where

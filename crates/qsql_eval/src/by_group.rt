@@ -7,73 +7,21 @@ ghost use Rattle.q_values.specs.Tree.{tree, vector, dict, keyed};
 ghost use Rattle.qsql_request.specs.Unbuilt.{column_name};
 ghost use Rattle.qsql_request.specs.Views.{form, column_form, query_of};
 ghost use Rattle.qsql_values.specs.Frames.{column_in, kind_beside};
-ghost use Rattle.qsql_values.specs.Kinds.{kind_in};
-ghost use Rattle.qsql_values.specs.Operands.{operand_tree, kind_of_tree};
-ghost use Rattle.qsql_values.specs.Ready.{IsReady};
-ghost use Rattle.qsql_values.specs.Values.{items_in};
-ghost use Rattle.qsql_eval.specs.Groups.{key_columns, keys_by_group, last_rows, value_by_group};
+ghost use Rattle.qsql_groups.specs.Groups.{last_rows};
+ghost use Rattle.qsql_groups.specs.Ready.{IsValue};
 ghost use Rattle.qsql_eval.specs.Judgement.{all_columns};
 ghost use Rattle.qsql_eval.specs.Meaning.{key_grid, group_columns, other_names, value_grid, dictionary_of, value_over_groups};
-ghost use Rattle.qsql_eval.specs.Ready.{IsValue, IsGroupable};
+ghost use Rattle.qsql_eval.specs.Ready.{IsGroupable};
 
 use crate::checking::is_column_named;
-use crate::executing::push_atom;
-use crate::grouping::Grouping;
 use crate::selecting::{columns_named, names_in, names_of};
 use day_rows::Shape;
 use q_values::{
     Columns, KeyedValue, Kind, Names, NoMemory, Pair, Sym, TableValue, Value, Vector, VectorRefusal,
 };
-use qsql_request::{Col, Expr, Query};
-use qsql_values::{Held, Operand, value_of};
+use qsql_groups::{Grouping, values_of_groups};
+use qsql_request::{Col, Query};
 use std::alloc::Global;
-
-// Puts atoms at the end of others of their kind.
-fn push_all(items: &mut Vector, others: &Vector) -> Result<(), NoMemory>
-    requires { others.now.kind ≡ items.old.kind }
-    ensures { OnOk result (items.new ≡ record items.old { atoms = items.old.atoms ++ others.now.atoms }) }
-{
-    match items.append(others) {
-        Ok(()) => Ok(()),
-        Err(VectorRefusal::KindMismatch) => unreachable!(),
-        Err(VectorRefusal::NoMemory) => Err(NoMemory),
-    }
-}
-
-// Puts the items of a value at the end of others of their kind.
-fn push_items(items: &mut Vector, value: Operand) -> Result<(), NoMemory>
-    requires { kind_of_tree (operand_tree value) ≡ items.old.kind }
-    ensures { OnOk result (items.new ≡ record items.old { atoms = items.old.atoms ++ (items_in (operand_tree value.entry)).atoms }) }
-{
-    match value {
-        Operand::Atom(atom) => push_atom(items, atom),
-        Operand::Column(held) => push_all(items, held.vector()),
-    }
-}
-
-// The kind of an expression over the rows: that of its value over none of them.
-fn kind_of_groups(alloc: Global, expr: &Expr, grouping: &Grouping) -> Result<Kind, NoMemory>
-    requires { IsReady grouping.now.rows (form expr.now) }
-    ensures { IfOk result (λ k. kind_in (kind_beside grouping.now.rows) (form expr.now) ≡ Some k) }
-{
-    let none = grouping.rows_at(&[]);
-    let value = value_of(alloc, expr, &none)?;
-    Ok(value.kind())
-}
-
-// The values of an expression over the rows of each group.
-fn values_of_groups(alloc: Global, expr: &Expr, grouping: &Grouping) -> Result<Vector, NoMemory>
-    requires { IsReady grouping.now.rows (form expr.now) }
-    ensures { IfOk result (λ v. v ≡ value_by_group grouping.now (form expr.now)) }
-{
-    let kind = kind_of_groups(alloc, expr, grouping)?;
-    let mut items = Vector::new(alloc, kind);
-    for group in 0..grouping.len() {
-        let value = value_of(alloc, expr, &grouping.rows_of_group(group))?;
-        push_items(&mut items, value)?;
-    }
-    Ok(items)
-}
 
 fn columns_of_groups(
     alloc: Global,
@@ -106,10 +54,10 @@ fn names_left(alloc: Global, names: &[Sym], by: &[Col]) -> Result<Names, NoMemor
 // The key columns as a table.
 fn key_table(alloc: Global, by: &[Col], grouping: &Grouping) -> Result<TableValue, NoMemory>
     requires some { 0 < length by.now }
-    requires keys { grouping.now.keys ≡ key_columns (map column_form by.now) grouping.now.rows }
+    requires keys { length grouping.now.keys ≡ length by.now }
     ensures names { IfOk result (λ t. t.names ≡ map column_name (map column_form by.now)) }
-    ensures columns { IfOk result (λ t. t.columns ≡ keys_by_group grouping.now) }
-    ensures size { IfOk result (λ t. rows_of t.columns ≡ length grouping.now.parts) }
+    ensures columns { IfOk result (λ t. t.columns ≡ grouping.now.keys) }
+    ensures size { IfOk result (λ t. rows_of t.columns ≡ length grouping.now.firsts) }
 {
     let names = names_of(alloc, by)?;
     let keys = grouping.keys(alloc)?;
@@ -123,7 +71,7 @@ fn column_table(alloc: Global, columns: &[Col], grouping: &Grouping) -> Result<T
     requires values { All (λ c. IsValue grouping.now.rows (form c.expr)) columns.now }
     ensures names { IfOk result (λ t. t.names ≡ map column_name (map column_form columns.now)) }
     ensures columns { IfOk result (λ t. t.columns ≡ group_columns (map column_form columns.now) grouping.now) }
-    ensures size { IfOk result (λ t. rows_of t.columns ≡ length grouping.now.parts) }
+    ensures size { IfOk result (λ t. rows_of t.columns ≡ length grouping.now.firsts) }
 {
     let names = names_of(alloc, columns)?;
     let made = columns_of_groups(alloc, columns, grouping)?;
@@ -139,7 +87,7 @@ fn last_table(alloc: Global, names: Names, grouping: &Grouping) -> Result<TableV
     requires kinds { All (λ name. IsSome (kind_beside grouping.now.rows name)) names }
     ensures names { IfOk result (λ t. t.names ≡ names) }
     ensures columns { IfOk result (λ t. t.columns ≡ map (column_in (last_rows grouping.now)) names) }
-    ensures size { IfOk result (λ t. rows_of t.columns ≡ length grouping.now.parts) }
+    ensures size { IfOk result (λ t. rows_of t.columns ≡ length grouping.now.firsts) }
 {
     let places = grouping.last_rows(alloc)?;
     let scope = grouping.rows_at(&places);
@@ -160,7 +108,7 @@ fn left_table(
     ensures names { IfOk result (λ t. t.names ≡ other_names (all_columns table.now) (query_of query.now)) }
     ensures columns { IfOk result (λ t. t.columns
         ≡ map (column_in (last_rows grouping.now)) (other_names (all_columns table.now) (query_of query.now))) }
-    ensures size { IfOk result (λ t. rows_of t.columns ≡ length grouping.now.parts) }
+    ensures size { IfOk result (λ t. rows_of t.columns ≡ length grouping.now.firsts) }
 {
     let all = names_in(alloc, table)?;
     let by = query.by.as_slice();
@@ -179,7 +127,7 @@ fn value_table(
     requires select { query.now.exec ≡ false }
     ensures names { IfOk result (λ t. t.names ≡ (value_grid (all_columns table.now) (query_of query.now) grouping.now).names) }
     ensures columns { IfOk result (λ t. t.columns ≡ (value_grid (all_columns table.now) (query_of query.now) grouping.now).columns) }
-    ensures size { IfOk result (λ t. rows_of t.columns ≡ length grouping.now.parts) }
+    ensures size { IfOk result (λ t. rows_of t.columns ≡ length grouping.now.firsts) }
 {
     if query.columns.is_empty() {
         left_table(alloc, query, table, grouping)
@@ -196,7 +144,7 @@ fn keyed_table(
 ) -> Result<Value, NoMemory>
     requires query { IsGroupable grouping.now.rows table.now query.now }
     requires select { query.now.exec ≡ false }
-    requires keys { grouping.now.keys ≡ key_columns (query_of query.now).by grouping.now.rows }
+    requires keys { length grouping.now.keys ≡ length query.now.by }
     ensures { IfOk result (λ v. tree v
         ≡ keyed (key_grid (query_of query.now).by grouping.now) (value_grid (all_columns table.now) (query_of query.now) grouping.now)) }
 {
@@ -231,7 +179,7 @@ fn dictionary(alloc: Global, columns: &[Col], grouping: &Grouping) -> Result<Val
     requires key { length grouping.now.keys ≡ 1 }
     requires column { length columns.now ≡ 1 }
     requires values { All (λ c. IsValue grouping.now.rows (form c.expr)) columns.now }
-    ensures { IfOk result (λ v. tree v ≡ dictionary_of (keys_by_group grouping.now) (group_columns (map column_form columns.now) grouping.now)) }
+    ensures { IfOk result (λ v. tree v ≡ dictionary_of grouping.now.keys (group_columns (map column_form columns.now) grouping.now)) }
 {
     let keys = grouping.keys(alloc)?;
     let key = only(keys);
@@ -247,7 +195,7 @@ pub fn value_of_query(
     grouping: &Grouping,
 ) -> Result<Value, NoMemory>
     requires query { IsGroupable grouping.now.rows table.now query.now }
-    requires keys { grouping.now.keys ≡ key_columns (query_of query.now).by grouping.now.rows }
+    requires keys { length grouping.now.keys ≡ length query.now.by }
     ensures { IfOk result (λ v. tree v ≡ value_over_groups (all_columns table.now) (query_of query.now) grouping.now) }
 {
     if query.exec {

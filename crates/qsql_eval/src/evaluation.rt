@@ -14,12 +14,12 @@ ghost use Rattle.qsql_eval.specs.Views.{has_columns};
 
 use crate::by_group::value_of_query;
 use crate::executing::every_value;
-use crate::grouping::Grouping;
 use crate::rows::Rows;
 use crate::selecting::{every_column, some_columns};
 use crate::typed::Typed;
 use day_rows::Shape;
 use q_values::{NoMemory, Sym, Value, Vector};
+use qsql_groups::Grouping;
 use qsql_request::Query;
 use qsql_values::{Scope, kept_places, kept_rows};
 use std::alloc::Global;

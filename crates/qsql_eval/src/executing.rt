@@ -70,8 +70,8 @@ fn are_of_kind(values: &[Value], kind: Kind) -> bool
     true
 }
 
-/// Puts an atom at the end of atoms of its kind.
-pub fn push_atom(atoms: &mut Vector, atom: Atom) -> Result<(), NoMemory>
+// Puts an atom at the end of atoms of its kind.
+fn push_atom(atoms: &mut Vector, atom: Atom) -> Result<(), NoMemory>
     requires { kind_of atom ≡ atoms.old.kind }
     ensures { OnOk result (atoms.new ≡ record atoms.old { atoms = atoms.old.atoms ++ atom ∷ [] }) }
 {

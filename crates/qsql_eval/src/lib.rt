@@ -7,12 +7,11 @@
 //! let typed = check(alloc, &query, &schema)?;     // Err(CheckRefusal::NoName(..)) where a column isn't there
 //! ```
 //!
-//! [`eval`] gives the value of a typed query over the [`Rows`] of its table. With `by` it groups the rows (`grouping`, over
-//! `q_keys`), and evaluates each column over the rows of each group (`by_group`).
+//! [`eval`] gives the value of a typed query over the [`Rows`] of its table. With `by` the rows are grouped and each
+//! column has a value for each group (`qsql_groups`), of which it makes a keyed table or a dictionary (`by_group`).
 //!
-//! What is found of a query is in `specs/Judgement.antt`, rows grouped by the columns after `by` in `specs/Groups.antt`, and
-//! the value of a query in `specs/Meaning.antt`. The value of an expression and the rows that phrases keep are in the crate
-//! `qsql_values`.
+//! What is found of a query is in `specs/Judgement.antt`, and the value of a query in `specs/Meaning.antt`. The value of an
+//! expression and the rows that phrases keep are in the crate `qsql_values`, rows in groups in the crate `qsql_groups`.
 //!
 //! The crate reads no text (`qsql_parse` does), knows no dates beside the column `date` (whoever makes the rows does), and
 //! joins no tables.
@@ -22,7 +21,6 @@ mod by_group;
 mod checking;
 mod evaluation;
 mod executing;
-mod grouping;
 pub mod laws;
 mod limiting;
 mod rows;

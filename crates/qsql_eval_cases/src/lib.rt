@@ -16,6 +16,8 @@
 #![tactic(auto)]
 
 #[cfg(test)]
+mod bars;
+#[cfg(test)]
 mod by;
 #[cfg(test)]
 mod kinds;

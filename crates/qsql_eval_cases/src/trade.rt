@@ -110,3 +110,60 @@ pub(crate) fn many_rows(alloc: Global, count: u32) -> Result<Rows, Fail> {
     };
     rows_of(alloc, &trades)
 }
+
+/// What a row of [`mixed_rows`] has.
+#[derive(Drop)]
+pub(crate) struct Mixed {
+    /// The number of its symbol: 0 is `a`.
+    pub symbol: u32,
+    /// Its price, from 0 to 999.
+    pub price: i64,
+    /// Its size, from 0 to 96.
+    pub size: i64,
+}
+
+impl Mixed {
+    /// The symbol, price and size of the row with this number.
+    pub(crate) fn of_row(row: u32) -> Mixed {
+        Mixed {
+            symbol: row.wrapping_mul(5) % 3,
+            price: i64::from(row.wrapping_mul(7919) % 1000),
+            size: i64::from(row % 97),
+        }
+    }
+}
+
+fn letter_of(symbol: u32) -> u8 {
+    match symbol {
+        0 => b'a',
+        1 => b'b',
+        _ => b'c',
+    }
+}
+
+/// Many rows on 2024.01.02, half a second apart, with three symbols in turn.
+pub(crate) fn mixed_rows(alloc: Global, count: u32) -> Result<Rows, Fail> {
+    let mut numbers = Vec::new(alloc);
+    let mut times = Vec::new(alloc);
+    let mut letters = Vec::new(alloc);
+    let mut prices = Vec::new(alloc);
+    let mut sizes = Vec::new(alloc);
+    for row in 0..count {
+        let mixed = Mixed::of_row(row);
+        numbers.push(i64::from(row))?;
+        times.push(i64::from(row).wrapping_mul(500_000_000))?;
+        letters.push(letter_of(mixed.symbol))?;
+        prices.push(mixed.price)?;
+        sizes.push(mixed.size)?;
+    }
+    let days = vec![in alloc; 8767i32; numbers.len()]?;
+    let trades = Trades {
+        dates: &days,
+        places: &numbers,
+        times: &times,
+        syms: &letters,
+        prices: &prices,
+        sizes: &sizes,
+    };
+    rows_of(alloc, &trades)
+}

@@ -51,7 +51,7 @@ stands-more : (front made seen more : List Entry) → StandsAfter front made see
 stands-more front made seen more h = record { more = h.more ++ more; whole = ap (λ l. l ++ more) h.whole ∙ append_assoc (front ++ made) h.more more }
 
 text-more : (frame : Frame) (seen more : List Entry) (sync : Bool) (bytes : List ℕ) (deed : Deed) → ServesText frame seen sync bytes deed → ServesText frame (seen ++ more) sync bytes deed
-text-more frame seen more true bytes deed (inl h) = inl (record { count = h.count; front = h.front; is_front = front-more h.count h.front seen more h.is_front; value = h.value; known = h.known; noted = h.noted; answered = h.answered; unread = h.unread; unmade = h.unmade; asked = h.asked })
+text-more frame seen more true bytes deed (inl h) = inl (record { count = h.count; front = h.front; is_front = front-more h.count h.front seen more h.is_front; value = h.value; known = h.known; unsubscribed = h.unsubscribed; noted = h.noted; answered = h.answered; unread = h.unread; unmade = h.unmade; asked = h.asked })
 text-more frame seen more true bytes deed (inr h) = inr h
 text-more frame seen more false bytes deed h = h
 

@@ -8,9 +8,6 @@ pub mod ReaderLemmas
 pub mod ReplyLemmas
 pub mod RequestLemmas
 pub mod RunLemmas
-pub mod SelectLemmas
 pub mod ServedLemmas
-pub mod ShownLemmas
 pub mod StepLemmas
 pub mod ToldLemmas
-mod SizeLemmas

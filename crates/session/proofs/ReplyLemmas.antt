@@ -1,10 +1,13 @@
 -- The responses that take no memory.
-use Rattle.std.proofs.Common.{◌≡◌, ◌<◌, ◌+◌, ◌++◌, ℕ, List, [], ◌∷◌, length, refl, codes, true, false, ltb, ◌≤◌, ◌∙◌, arith}
+use Rattle.std.proofs.Common.{◌≡◌, ◌<◌, ◌+◌, ℕ, List, [], ◌∷◌, length, refl, codes, true, ltb, ◌≤◌, arith}
 use Rattle.std.specs.Int.{w32, to_le_bytes}
-use Rattle.std.proofs.lemmas.Bool.{lt-ltb, le-ltb}
+use Rattle.std.proofs.lemmas.Bool.{lt-ltb}
 use Rattle.std.proofs.lemmas.List.{length-append}
 use Rattle.ipc_codec.specs.Lengths.{saturated}
-use Rattle.ipc_codec.specs.Written.{written}
+use Rattle.gateway.specs.Shaped.{IsShaped}
+use Rattle.gateway.proofs.ShapedLemmas.{shaped_plain}
+use Rattle.ipc_codec.specs.Written.{IsPlain, written}
+use Rattle.q_values.specs.Limits.{AreLimits}
 use Rattle.q_values.specs.Tree.{Tree, identity, wrong}
 use Rattle.q_values.specs.declared.limits.Limits.{Limits}
 use Rattle.session.specs.Replies.{fixed_reply}
@@ -58,3 +61,7 @@ pub too_long : (limits : Limits) (t : Tree) (n : ℕ) → n ≡ saturated (lengt
 too_long limits t n e long =
     let longer : ltb limits.reply (length (response t)) ≡ true = lt-ltb _ _ (omega arith) in
     rw (longer, response-limit) refl
+
+-- a value whose response is within the limit can be written
+pub within_plain : (limits : Limits) (t : Tree) (n : ℕ) → AreLimits limits → IsShaped t → n ≡ saturated (length (response t)) → n ≤ limits.reply → IsPlain t
+within_plain limits t n are shaped e within = shaped_plain t shaped (omega (arith, e, within, are.reply, length-append (1 ∷ 2 ∷ 0 ∷ 0 ∷ to_le_bytes w32 (8 + length (written t))) (written t)))

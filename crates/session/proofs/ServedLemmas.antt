@@ -1,34 +1,33 @@
 -- What serving a request gives.
-use Rattle.std.proofs.Common.{◌≡◌, ◌≤◌, ◌<◌, ◌+◌, ℕ, ℤ, Bool, true, false, if◌then◌else◌, List, [], ◌∷◌, ◌++◌, length, refl, sym, ap, subst, ◌∙◌, arith, append_assoc, Option, Some, None, codes, inl, inr}
+use Rattle.std.proofs.Common.{◌≡◌, ◌+◌, ℕ, ℤ, Bool, true, false, if◌then◌else◌, List, [], ◌∷◌, ◌++◌, length, refl, sym, ap, ◌∙◌, arith, append_assoc, Option, Some, None, codes, inl, inr}
 use Rattle.std.proofs.lemmas.List.{append-nil, length-append}
 use Rattle.day_rows.specs.declared.entry.Entry.{Entry}
 use Rattle.day_rows.specs.declared.entry.Entry.TheVariants as e
 use Rattle.outside_api.specs.Told.{told}
-use Rattle.day_rows.specs.Chronicle.{view}
 use Rattle.day_rows.specs.declared.schema.Shape.{Shape}
 use Rattle.plant_core.specs.Access.{AccessView, SeesMore, Logs, Looks, Asks, Waits, Rolls, Wants, next_count}
 use Rattle.plant_core.specs.Plant.{SnapshotView, next_roll}
-use Rattle.std.specs.Prelude.{slice_get}
 use Rattle.plant_core.specs.Turns.{IsRefusal}
-use Rattle.std.proofs.lemmas.Option.{slice_get_within}
 use Rattle.plant_core.specs.Frame.{Frame}
 use Rattle.plant_core.specs.Verdict.{Verdict, refuses, verdict}
 use Rattle.plant_core.specs.declared.refusal.UpdRefusal.{UpdRefusal}
 use Rattle.plant_core.specs.declared.refusal.UpdRefusal.TheVariants as r
 use Rattle.q_values.specs.Tree.{Tree, identity, wrong}
-use Rattle.q_values.specs.Tree as trees
-use Rattle.session.specs.Answer.{shown, table_asked}
+use Rattle.gateway.specs.Answer.{Subscribes, is_subscription, verdict_answer}
+use Rattle.qsql_parse.specs.Verdicts.{IsVerdict}
+use Rattle.qsql_parse.specs.Verdicts as verdicts
+use Rattle.qsql_parse.proofs.Once.{one-verdict}
 use Rattle.q_values.specs.declared.limits.Limits.{Limits}
 use Rattle.q_values.specs.declared.turn.Turn.{Turn}
 use Rattle.q_values.specs.declared.turn.Turn.TheVariants as t
-use Rattle.session.specs.Answering.{Does, ServesValue, FindsTable, AnswersRefusal, turns_by, roll_turn, sent_by, deed_of}
+use Rattle.session.specs.Answering.{Does, ServesValue, AnswersRefusal, turns_by, roll_turn, sent_by, deed_of}
 use Rattle.session.specs.Lawful.{AllGoOn, last_length}
 use Rattle.session.specs.Replies.{reply_bytes}
 use Rattle.session.specs.Replies as replies
 use Rattle.session.specs.Reply.{response, reply, replied, refusal_text}
 use Rattle.session.specs.Request.{Request, update, mistyped, text, other}
 use Rattle.session.specs.Run.{Advances, advanced}
-use Rattle.session.specs.Served.{Deed, IsUnserved, ServesText, ServesIdle, entry_turns}
+use Rattle.session.specs.Served.{Deed, IsUnserved, ServesIdle, entry_turns}
 use Rattle.session.specs.State.{State}
 use Rattle.session.specs.declared.answer.Answer.{Answer}
 use Rattle.session.specs.declared.reply.Reply.{Reply}
@@ -197,14 +196,10 @@ pub does_unserved : (a : AccessView) (k : Option (List ℤ)) (limits : Limits) (
 does_unserved a k limits sync answer same roll turn answered =
     does_nothing a k (ServesValue a.frame a.by a.seen sync other) answer (unserved_turn sync) roll turn (tells_unserved _ sync) (inl (unserved_deed a.frame limits sync answer same roll turn answered))
 
--- a text that isn't answered
-unknown_text : (frame : Frame) (seen : List Entry) (sync : Bool) (bytes : List ℕ) (deed : Deed) → table_asked bytes 0 frame.schema ≡ None → IsUnserved frame sync deed → ServesText frame seen sync bytes deed
-unknown_text frame seen true bytes deed none unserved = inr (none, unserved)
-unknown_text frame seen false bytes deed none unserved = unserved
-
-pub does_unknown : (a : AccessView) (k : Option (List ℤ)) (limits : Limits) (sync : Bool) (bytes : List ℕ) (answer : Answer) → a.frame.limits ≡ limits → table_asked bytes 0 a.frame.schema ≡ None → answer.roll ≡ None → answer.turn ≡ unserved_turn sync → sent_by answer.reply ≡ replied sync (reply limits (wrong (codes "nyi"))) → Does (ServesValue a.frame a.by a.seen sync (text bytes)) k k a a answer
-does_unknown a k limits sync bytes answer same none roll turn answered =
-    does_nothing a k (ServesValue a.frame a.by a.seen sync (text bytes)) answer (unserved_turn sync) roll turn (tells_unserved _ sync) (inl (unknown_text a.frame a.seen sync bytes (deed_of answer [] [] 0 0) none (unserved_deed a.frame limits sync answer same roll turn answered)))
+-- a text that subscribes
+pub does_subscribed : (a : AccessView) (k : Option (List ℤ)) (limits : Limits) (bytes : List ℕ) (v : verdicts.Verdict) (answer : Answer) → a.frame.limits ≡ limits → IsVerdict bytes v → is_subscription v ≡ true → answer.roll ≡ None → answer.turn ≡ unserved_turn true → sent_by answer.reply ≡ replied true (reply limits (wrong (codes "nyi"))) → Does (ServesValue a.frame a.by a.seen true (text bytes)) k k a a answer
+does_subscribed a k limits bytes v answer same is asks roll turn answered =
+    does_nothing a k (ServesValue a.frame a.by a.seen true (text bytes)) answer (unserved_turn true) roll turn (tells_unserved _ true) (inl (inr ((v, is, asks), unserved_deed a.frame limits true answer same roll turn answered)))
 
 -- an async text
 pub does_passed : (a : AccessView) (k : Option (List ℤ)) (limits : Limits) (bytes : List ℕ) (answer : Answer) → answer.roll ≡ None → answer.turn ≡ t.Passed → sent_by answer.reply ≡ [] → Does (ServesValue a.frame a.by a.seen false (text bytes)) k k a a answer
@@ -225,14 +220,21 @@ does_short a k sync request answer roll turn answered =
 asks_after : (a b : AccessView) (l : Asks a b) → b ≡ advanced a l.others [] 1 0
 asks_after a b l = l.after ∙ ap (λ m. record a { seen = a.seen ++ l.others; mine = m; snapshots = next_count a.snapshots }) (sym (append-nil a.mine))
 
+never_both : false ≡ true → ⊥
+never_both e = cc
+
+-- a text of which this is the verdict doesn't subscribe, since it has no other verdict
+unsubscribed_by : (bytes : List ℕ) (v : verdicts.Verdict) → IsVerdict bytes v → is_subscription v ≡ false → Subscribes bytes → ⊥
+unsubscribed_by bytes v is asks s = never_both (sym asks ∙ ap is_subscription (one-verdict bytes v s.0 is s.1) ∙ s.2)
+
 -- a text was answered over a snapshot
-pub does_answered : (a b : AccessView) (k : Option (List ℤ)) (limits : Limits) (bytes : List ℕ) (shape : Shape) (place : ℕ) (answer : Answer)
-    → a.frame.limits ≡ limits → Asks a b → table_asked bytes 0 a.frame.schema ≡ Some (place, shape)
-    → answer.roll ≡ None → answer.turn ≡ t.Answered (length b.seen) → sent_by answer.reply ≡ reply limits (trees.table (shown shape (view a.frame.first b.seen place)))
+pub does_answered : (a b : AccessView) (k : Option (List ℤ)) (limits : Limits) (bytes : List ℕ) (v : verdicts.Verdict) (answer : Answer)
+    → a.frame.limits ≡ limits → Asks a b → IsVerdict bytes v → is_subscription v ≡ false
+    → answer.roll ≡ None → answer.turn ≡ t.Answered (length b.seen) → sent_by answer.reply ≡ reply limits (verdict_answer a.frame.first a.frame.schema b.seen v)
     → Does (ServesValue a.frame a.by b.seen true (text bytes)) k k a b answer
-does_answered a b k limits bytes shape place answer same l found roll turn answered =
+does_answered a b k limits bytes v answer same l is asks roll turn answered =
     let turns : turns_by answer.roll answer.turn ≡ t.Answered (length b.seen) ∷ [] = rw (roll, turn) refl in
-    let seen : b.seen ≡ a.seen ++ l.others = ap (λ (v : AccessView). v.seen) l.after in
+    let seen : b.seen ≡ a.seen ++ l.others = ap (λ (w : AccessView). w.seen) l.after in
     let size : length b.seen ≡ length (a.seen ++ l.others) = ap length seen in
     record {
       readings = [];
@@ -245,8 +247,9 @@ does_answered a b k limits bytes shape place answer same l found roll turn answe
         count = length b.seen;
         front = b.seen;
         is_front = record { count = refl; more = []; whole = sym (append-nil b.seen) };
-        value = trees.table (shown shape (view a.frame.first b.seen place));
-        known = rw found refl;
+        value = verdict_answer a.frame.first a.frame.schema b.seen v;
+        known = (v, is, refl);
+        unsubscribed = unsubscribed_by bytes v is asks;
         noted = turns;
         answered = rw same answered;
         unread = refl;
@@ -349,19 +352,14 @@ does_rolled a b before k k' now place answer read l roll turn unsent =
       };
     }
 
--- a place that a text's table has
-pub within_schema : (schema : List Shape) (bytes : List ℕ) (place : ℕ) → FindsTable schema bytes (Some place) → place < length schema
-within_schema schema bytes place f = slice_get_within schema place f.0 f.1
-
--- a text was answered over the snapshot that was asked for
-pub does_selected : (a b : AccessView) (k : Option (List ℤ)) (limits : Limits) (bytes : List ℕ) (shape : Shape) (place count : ℕ) (schema : List Shape) (snapshot : SnapshotView) (made : Reply)
+-- a question was answered over the snapshot that was asked for
+pub does_replied : (a b : AccessView) (k : Option (List ℤ)) (limits : Limits) (bytes : List ℕ) (v : verdicts.Verdict) (count : ℕ) (schema : List Shape) (snapshot : SnapshotView) (made : Reply)
     → a.frame.limits ≡ limits → Asks a b → snapshot ≡ record { frame = a.frame; entries = b.seen } → schema ≡ b.frame.schema → count ≡ length snapshot.entries
-    → ((s : Shape) → slice_get schema place ≡ Some s → reply_bytes made ≡ reply limits (trees.table (shown s (view snapshot.frame.first snapshot.entries place))))
-    → slice_get a.frame.schema place ≡ Some shape → table_asked bytes 0 a.frame.schema ≡ Some (place, shape)
+    → reply_bytes made ≡ reply limits (verdict_answer snapshot.frame.first schema snapshot.entries v) → IsVerdict bytes v → is_subscription v ≡ false
     → Does (ServesValue a.frame a.by b.seen true (text bytes)) k k a b (record { roll = None; turn = t.Answered count; reply = Some made })
-does_selected a b k limits bytes shape place count schema snapshot made same asks is schema_is count_is answered at found =
-    let own : b.frame ≡ a.frame = ap (λ (v : AccessView). v.frame) asks.after in
+does_replied a b k limits bytes v count schema snapshot made same l is schema_is count_is answered verdict_is asks =
+    let own : b.frame ≡ a.frame = ap (λ (w : AccessView). w.frame) l.after in
     let here : schema ≡ a.frame.schema = schema_is ∙ ap (λ (f : Frame). f.schema) own in
-    let size : count ≡ length b.seen = count_is ∙ ap (λ (v : SnapshotView). length v.entries) is in
-    let sent = answered shape (subst (λ s. slice_get s place ≡ Some shape) (sym here) at) ∙ ap (λ (v : SnapshotView). reply limits (trees.table (shown shape (view v.frame.first v.entries place)))) is in
-    does_answered a b k limits bytes shape place (record { roll = None; turn = t.Answered count; reply = Some made }) same asks found refl (ap t.Answered size) sent
+    let size : count ≡ length b.seen = count_is ∙ ap (λ (w : SnapshotView). length w.entries) is in
+    let sent = answered ∙ ap (λ (s : List Shape). reply limits (verdict_answer snapshot.frame.first s snapshot.entries v)) here ∙ ap (λ (w : SnapshotView). reply limits (verdict_answer w.frame.first a.frame.schema w.entries v)) is in
+    does_answered a b k limits bytes v (record { roll = None; turn = t.Answered count; reply = Some made }) same l verdict_is asks refl (ap t.Answered size) sent

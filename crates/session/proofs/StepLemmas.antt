@@ -21,8 +21,8 @@ use Rattle.session.specs.Ended.{Runs, Converses, Goes, IsBad}
 use Rattle.session.specs.Heard.{Hears, idles_heard}
 use Rattle.session.specs.Run.{World, world, Works, Advances, moved}
 use Rattle.session.specs.Lawful.{AreLengths}
-use Rattle.session.specs.Served.{Event, idled, Step, Serves, IsStep}
-use Rattle.session.specs.State.{State, Chain}
+use Rattle.session.specs.Served.{Event, idled, Step, Serves}
+use Rattle.session.specs.State.{State}
 use Rattle.session.specs.declared.end.End.{End}
 use Rattle.session.specs.declared.end.End.TheVariants as e
 use Rattle.session.proofs.ToldLemmas.{told-nil, moved-none}

@@ -1,8 +1,7 @@
 -- What answering a message changes, notes and sends.
-use Rattle.std.specs.Prelude.{◌≡◌, ◌⊎◌, ℕ, ℤ, Bool, List, [], ◌∷◌, codes, slice_get, Option, Some, None}
+use Rattle.std.specs.Prelude.{◌≡◌, ◌⊎◌, ℕ, ℤ, Bool, List, [], ◌∷◌, codes, Option, Some, None}
 use Rattle.day_rows.specs.declared.entry.Entry.{Entry}
 use Rattle.outside_api.specs.Told.{told}
-use Rattle.day_rows.specs.declared.schema.Shape.{Shape}
 use Rattle.plant_core.specs.Access.{AccessView}
 use Rattle.plant_core.specs.Frame.{Frame}
 use Rattle.plant_core.specs.declared.refusal.UpdRefusal.{UpdRefusal}
@@ -10,7 +9,6 @@ use Rattle.q_values.specs.Tree.{wrong}
 use Rattle.q_values.specs.declared.limits.Limits.{Limits}
 use Rattle.q_values.specs.declared.turn.Turn.{Turn}
 use Rattle.q_values.specs.declared.turn.Turn.TheVariants as t
-use Rattle.session.specs.Answer.{table_asked}
 use Rattle.session.specs.Replies.{reply_bytes, Refuses}
 use Rattle.session.specs.Reply.{response, replied}
 use Rattle.session.specs.Request.{Request}
@@ -75,8 +73,3 @@ pub record Does (Done : Deed → Type 0) (clock_old clock_new : Option (List ℤ
 -- what is done with a message that has a value
 abbrev pub ServesValue : Frame → ℕ → List Entry → Bool → Request → Deed → Type 0
 ServesValue frame by seen sync request deed = ServesRequest frame by seen sync request deed ⊎ IsShort sync deed
-
--- the text asks for the table at this index of the schema, or for none
-abbrev pub FindsTable : List Shape → List ℕ → Option ℕ → Type 0
-FindsTable schema bytes (Some place) = (shape : Shape) × (slice_get schema place ≡ Some shape) × (table_asked bytes 0 schema ≡ Some (place, shape))
-FindsTable schema bytes None = table_asked bytes 0 schema ≡ None

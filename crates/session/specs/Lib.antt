@@ -1,5 +1,4 @@
 pub mod Acting
-pub mod Answer
 pub mod Answering
 pub mod Asked
 pub mod Arrival

@@ -1,8 +1,9 @@
 -- What a session does with what it hears.
-use Rattle.std.specs.Prelude.{◌≡◌, ◌≤◌, ◌+◌, ◌⊎◌, ℕ, ℤ, Bool, true, false, List, [], ◌∷◌, ◌++◌, length, min, codes, Some, None}
+use Rattle.std.specs.Prelude.{◌≡◌, ◌≤◌, ◌+◌, ◌⊎◌, ℕ, ℤ, Bool, true, false, List, [], ◌∷◌, ◌++◌, length, min, codes}
 use Rattle.day_rows.specs.Chronicle.{date_of}
 use Rattle.day_rows.specs.declared.entry.Entry.{Entry}
 use Rattle.day_rows.specs.declared.entry.Entry.TheVariants as e
+use Rattle.gateway.specs.Answer.{IsAnswer, Subscribes}
 use Rattle.ipc_frame.specs.Stream.{Content, Message, built, unbuilt}
 use Rattle.plant_core.specs.Frame.{Frame}
 use Rattle.plant_core.specs.Plant.{next_roll}
@@ -11,7 +12,6 @@ use Rattle.plant_core.specs.declared.refusal.UpdRefusal.{UpdRefusal}
 use Rattle.q_values.specs.Tree.{Tree, identity, wrong}
 use Rattle.q_values.specs.declared.turn.Turn.{Turn}
 use Rattle.q_values.specs.declared.turn.Turn.TheVariants as t
-use Rattle.session.specs.Answer.{answer, table_asked}
 use Rattle.session.specs.Chronicle.{IsFront}
 use Rattle.session.specs.Lawful.{AreLengths}
 use Rattle.session.specs.Reply.{response, reply, replied, refusal_text}
@@ -106,7 +106,8 @@ pub record IsAnswered (frame : Frame) (seen : List Entry) (bytes : List ℕ) (de
   pub front : List Entry
   pub is_front : IsFront count front seen
   pub value : Tree
-  pub known : answer frame front bytes ≡ Some value
+  pub known : IsAnswer frame.first frame.schema front bytes value
+  pub unsubscribed : Subscribes bytes → ⊥
   pub noted : deed.turns ≡ t.Answered count ∷ []
   pub answered : deed.sent ≡ reply frame.limits value
   pub unread : deed.readings ≡ []
@@ -130,9 +131,9 @@ abbrev pub IsUnserved : Frame → Bool → Deed → Type 0
 IsUnserved frame true deed = IsDeclined frame true (codes "nyi") deed
 IsUnserved frame false deed = IsPassed deed
 
--- a sync text is answered where it is one that is served; an async text is never evaluated
+-- a sync text is answered, and one that subscribes is declined; an async text is never evaluated
 abbrev pub ServesText : Frame → List Entry → Bool → List ℕ → Deed → Type 0
-ServesText frame seen true bytes deed = IsAnswered frame seen bytes deed ⊎ ((table_asked bytes 0 frame.schema ≡ None) × IsUnserved frame true deed)
+ServesText frame seen true bytes deed = IsAnswered frame seen bytes deed ⊎ (Subscribes bytes × IsDeclined frame true (codes "nyi") deed)
 ServesText frame seen false bytes deed = IsPassed deed
 
 -- what is done with a request, where there is memory

@@ -1,9 +1,10 @@
 //! Answers to messages and read timeouts.
-ghost use Rattle.std.specs.Prelude.{◌≡◌, ◌<◌, ◌∷◌, [], if◌then◌else◌, Option, Some, List, ℕ, ℤ, true, length, slice_get, codes, None};
-ghost use Rattle.day_rows.specs.declared.schema.Shape.{Shape};
+ghost use Rattle.std.specs.Prelude.{◌≡◌, ◌∷◌, [], if◌then◌else◌, IfOk, Option, List, ℕ, ℤ, true, false, codes, None};
+ghost use Rattle.gateway.specs.Answer.{is_subscription, verdict_answer};
+ghost use Rattle.gateway.specs.Views.{verdict_of};
 ghost use Rattle.q_values.specs.Limits.{AreLimits};
+ghost use Rattle.qsql_parse.specs.Verdicts.{IsVerdict};
 ghost use Rattle.q_values.specs.Tree.{tree, trees, identity, wrong};
-ghost use Rattle.session.specs.Answer.{table_asked};
 ghost use Rattle.session.specs.Answering.{Does, ServesValue, AnswersRefusal, sent_by, roll_turn};
 ghost use Rattle.session.specs.Replies.{reply_bytes};
 ghost use Rattle.session.specs.Reply.{response, reply, replied};
@@ -11,13 +12,14 @@ ghost use Rattle.session.specs.Asked.{Asks};
 ghost use Rattle.session.specs.Request.{Request, update, text, request_of};
 ghost use Rattle.session.specs.Served.{ServesIdle};
 
-use crate::reply::{Reply, done, mistyped, nyi, refuse, wsfull};
+use crate::reply::{Reply, done, mistyped, nyi, refuse, respond, wsfull};
 use crate::request::{Asked, asked_by};
-use crate::select::{select_reply, table_asked};
 use crate::session::Session;
+use day_rows::Schema;
+use gateway::Question;
 use outside_api::{Clock, Gate, Link, Point, Recorder};
-use plant_core::{Access, TickTurn, UpdRefusal, UpdRequest, UpdTurn};
-use q_values::{Limits, Turn, Value};
+use plant_core::{Access, Snapshot, TickTurn, UpdRefusal, UpdRequest, UpdTurn};
+use q_values::{Limits, NoMemory, Turn, Value};
 use std::alloc::Global;
 use std::sync::Wait;
 
@@ -152,6 +154,23 @@ fn unsent(turn: Turn) -> Answer
     }
 }
 
+/// The response with the answer to a question over a snapshot.
+fn reply_over(
+    alloc: Global,
+    question: &Question,
+    snapshot: &Snapshot,
+    schema: &Schema,
+    limits: &Limits,
+) -> Result<Reply, NoMemory>
+    requires limits { AreLimits limits.now }
+    requires same { snapshot.now.frame.schema ≡ schema.now }
+    ensures { IfOk result (λ r. reply_bytes r
+        ≡ reply limits.now (verdict_answer snapshot.now.frame.first schema.now snapshot.now.entries (verdict_of question.now))) }
+{
+    let value = question.answer(alloc, snapshot, schema)?;
+    respond(alloc, &value, limits)
+}
+
 impl<A: Access, L: Link, C: Clock, G: Gate, N: Recorder> Session<'_, A, L, C, G, N> {
     ghost use Rattle.session.specs.Devices.{OnlyAsks, state_of};
 
@@ -181,17 +200,14 @@ impl<A: Access, L: Link, C: Clock, G: Gate, N: Recorder> Session<'_, A, L, C, G,
         }
     }
 
-    /// Answers with all rows of the table at an index of the schema, over a snapshot of its own.
-    fn answer_select<R: Wait>(&mut self, rt: &R, alloc: Global, index: u32) -> Answer
+    /// Answers a question over a snapshot of its own.
+    fn answer_question<R: Wait>(&mut self, rt: &R, alloc: Global, question: &Question) -> Answer
         requires limits { AreLimits self.old.limits.now }
         requires same { (A.shown self.old.access.now).frame.limits ≡ self.old.limits.now }
-        requires within { index < length (A.shown self.old.access.now).frame.schema }
+        requires asks { is_subscription (verdict_of question.now) ≡ false }
         ensures same { OnlyAsks self.old self.new }
         ensures clock { self.new.clock.now ≡ self.old.clock.now }
-        ensures does { (bytes : List ℕ) (shape : Shape) (k : Option (List ℤ))
-            → slice_get (A.shown self.old.access.now).frame.schema index ≡ Some shape
-            → table_asked bytes 0 (A.shown self.old.access.now).frame.schema ≡ Some (index, shape)
-            → Does
+        ensures does { (bytes : List ℕ) (k : Option (List ℤ)) → IsVerdict bytes (verdict_of question.now) → Does
             (ServesValue (A.shown self.old.access.now).frame (A.shown self.old.access.now).by (A.shown self.new.access.now).seen
             true (text bytes))
             k k (A.shown self.old.access.now) (A.shown self.new.access.now) result }
@@ -200,7 +216,13 @@ impl<A: Access, L: Link, C: Clock, G: Gate, N: Recorder> Session<'_, A, L, C, G,
             Ok(snapshot) => {
                 self.gate.pause(Point::Evaluating);
                 let length = snapshot.length();
-                match select_reply(alloc, self.access.schema(), &snapshot, index, self.limits) {
+                match reply_over(
+                    alloc,
+                    question,
+                    &snapshot,
+                    self.access.schema(),
+                    self.limits,
+                ) {
                     Ok(reply) => Answer {
                         roll: None,
                         turn: Turn::Answered { length },
@@ -213,7 +235,7 @@ impl<A: Access, L: Link, C: Clock, G: Gate, N: Recorder> Session<'_, A, L, C, G,
         }
     }
 
-    /// Answers a text, if anybody waits for the response.
+    /// Answers a text, if anybody waits for the response. A text that subscribes isn't served.
     fn answer_text<R: Wait>(&mut self, rt: &R, alloc: Global, sync: bool, asked: &[u8]) -> Answer
         requires limits { AreLimits self.old.limits.now }
         requires same { (A.shown self.old.access.now).frame.limits ≡ self.old.limits.now }
@@ -227,9 +249,15 @@ impl<A: Access, L: Link, C: Clock, G: Gate, N: Recorder> Session<'_, A, L, C, G,
         if !sync {
             return unserved(sync, self.limits);
         }
-        match table_asked(self.access.schema(), asked) {
-            Some(index) => self.answer_select(rt, alloc, index),
-            None => unserved(sync, self.limits),
+        match Question::of(alloc, asked) {
+            Ok(question) => {
+                if question.is_subscription() {
+                    unserved(true, self.limits)
+                } else {
+                    self.answer_question(rt, alloc, &question)
+                }
+            }
+            Err(_) => short(true),
         }
     }
 

@@ -13,16 +13,18 @@
 //! user:pwd 03 00                            notes Greeted 3,   writes 03
 //! sync (".u.upd";`trade;(..))               notes Logged 0,    writes (::)
 //! sync "select from trade"                  notes Answered 1,  writes the table, its column `date` first
-//! sync "1+1"                                notes Declined,    writes 'nyi
+//! sync "exec sum size from trade"           notes Answered 1,  writes the atom
+//! sync "1+1"                                notes Answered 1,  writes 'parse
+//! sync ".u.sub[`trade;`]"                   notes Declined,    writes 'nyi
 //! nothing until the read times out          notes Quiet 1,     writes nothing
 //! end of input                              ends with End::Closed
 //! ```
 //!
 //! A message goes `Session::serve_next` -> `Session::serve_value` -> `asked_by` (what it asks for) ->
-//! `Session::answer_asked` -> `Access::upd` or `select_reply` -> `finish` (the turns, then the bytes).
+//! `Session::answer_asked` -> `Access::upd` or `Question::answer` -> `finish` (the turns, then the bytes).
 //!
-//! It opens no socket, starts no thread and writes no journal: those are devices that its caller passes. It evaluates no
-//! text but `select from` with the name of a table.
+//! It opens no socket, starts no thread and writes no journal: those are devices that its caller passes. It knows no query
+//! language: `gateway` answers each text over a snapshot of the plant.
 #![tactic(auto)]
 
 mod act;
@@ -31,7 +33,6 @@ mod end;
 mod reader;
 mod reply;
 mod request;
-mod select;
 mod serve;
 mod session;
 

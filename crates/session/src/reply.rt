@@ -1,7 +1,7 @@
 //! Responses: the bytes that answer a message.
 ghost use Rattle.std.specs.Prelude.{◌≡◌, ◌≤◌, ◌∷◌, [], length, IfOk, IfErr, OnErr, codes};
 ghost use Rattle.ipc_codec.specs.Lengths.{saturated};
-ghost use Rattle.ipc_codec.specs.Written.{IsPlain};
+ghost use Rattle.gateway.specs.Shaped.{IsShaped};
 ghost use Rattle.q_values.specs.Limits.{AreLimits};
 ghost use Rattle.q_values.specs.Tree.{tree, identity, wrong};
 ghost use Rattle.session.specs.Reply.{response, reply, refusal_text};
@@ -111,13 +111,6 @@ fn over_the_limit(limits: &Limits) -> Reply
     fixed(limits, &LIMIT)
 }
 
-/// The error `limit`, for a response that is longer than the limit.
-pub fn limit() -> Reply
-    ensures { reply_bytes result ≡ response (wrong (codes "limit")) }
-{
-    Reply::Fixed(&LIMIT)
-}
-
 /// The error `wsfull`: out of memory.
 pub fn wsfull() -> Reply
     ensures { reply_bytes result ≡ response (wrong (codes "wsfull")) }
@@ -135,7 +128,7 @@ fn response_length(value: &Value) -> usize
 /// The response with a value, or the error `limit` where it would be longer than `limits.reply` bytes. The limit is judged
 /// before anything is encoded and takes no memory, so `NoMemory` comes only for a response that is within it.
 pub fn respond(alloc: Global, value: &Value, limits: &Limits) -> Result<Reply, NoMemory>
-    requires plain { IsPlain (tree value.now) }
+    requires shaped { IsShaped (tree value.now) }
     requires limits { AreLimits limits.now }
     ensures value { IfOk result (λ r. reply_bytes r ≡ reply limits.now (tree value.now)) }
     ensures memory { OnErr result (length (response (tree value.now)) ≤ limits.now.reply) }

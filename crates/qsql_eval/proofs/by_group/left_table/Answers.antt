@@ -1,7 +1,7 @@
 use Rattle.std.proofs.Common.{◌≡◌, ℕ, ◌<◌, List, true, length, map, All, sym, ◌∙◌, subst}
 use Rattle.std.specs.Prelude.{is_some, IfOk}
 use Rattle.qsql_values.specs.Frames.{column_in, kind_beside}
-use Rattle.qsql_eval.specs.Groups.{last_rows}
+use Rattle.qsql_groups.specs.Groups.{last_rows}
 use Rattle.qsql_eval.specs.Judgement.{all_columns}
 use Rattle.qsql_eval.proofs.GroupLemmas.{left_names, left_kinds}
 use Rattle.qsql_eval.proofs.by_group.left_table.Goals as goal

@@ -5,7 +5,7 @@ use Rattle.qsql_request.specs.Views.{form, column_form}
 use Rattle.qsql_request.specs.declared.request.Col.{Col}
 use Rattle.qsql_eval.specs.Judgement.{all_columns}
 use Rattle.qsql_eval.specs.Meaning.{column_grid}
-use Rattle.qsql_eval.specs.Ready.{IsValue}
+use Rattle.qsql_groups.specs.Ready.{IsValue}
 use Rattle.qsql_eval.proofs.GroupLemmas.{no_columns, some_columns, grid_of_last, grid_of_columns}
 use Rattle.qsql_eval.proofs.by_group.value_table.Goals as goal
 

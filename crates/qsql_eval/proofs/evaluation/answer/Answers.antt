@@ -1,13 +1,16 @@
 use Rattle.std.proofs.Common.{◌≡◌, ◌<◌, Bool, List, true, false, cond, length, map, All, sym, ap, ◌∙◌, subst}
 use Rattle.std.specs.Prelude.{IfOk}
+use Rattle.std.proofs.lemmas.List.{length-map}
 use Rattle.q_values.specs.Tree.{Tree, tree}
 use Rattle.qsql_request.specs.Views.{form, column_form, query_of}
 use Rattle.qsql_request.specs.declared.request.Col.{Col}
 use Rattle.qsql_values.specs.Frames.{Frame, frame_of}
-use Rattle.qsql_eval.specs.Groups.{Groups, groups, key_columns}
+use Rattle.qsql_groups.specs.Groups.{Groups, groups, key_columns}
+use Rattle.qsql_groups.specs.Ready.{IsKey}
+use Rattle.qsql_groups.proofs.GroupLemmas.{key_count}
 use Rattle.qsql_eval.specs.Judgement.{all_columns}
 use Rattle.qsql_eval.specs.Meaning.{value_over_rows, value_over_groups, value_over_kept}
-use Rattle.qsql_eval.specs.Ready.{IsKey, IsAnswerable, IsGroupable}
+use Rattle.qsql_eval.specs.Ready.{IsAnswerable, IsGroupable}
 use Rattle.qsql_eval.proofs.GroupLemmas.{empty_of}
 use Rattle.qsql_eval.proofs.evaluation.answer.Goals as goal
 
@@ -36,9 +39,10 @@ value_of_query-requires-clause-query c =
 pub value_of_query-requires-clause-keys : goal.value_of_query-requires-clause-keys
 value_of_query-requires-clause-keys c =
     let frame = frame_of c.args.names.now c.args.columns.now in
-    ap (λ (g : Groups). g.keys) c.in_ok-grouping.ensures
-    ∙ ap (λ (cs : List Col). key_columns (map column_form cs) frame) c.as_slice-by.ensures
-    ∙ ap (λ (g : Groups). key_columns (map column_form c.args.query.now.by) g.rows) (sym c.in_ok-grouping.ensures)
+    ap (λ (g : Groups). length g.keys) c.in_ok-grouping.ensures
+    ∙ length-map (key_columns (map column_form c.as_slice-by.result.now) frame) _
+    ∙ key_count frame c.as_slice-by.result.now
+    ∙ ap length c.as_slice-by.ensures
 
 pub returns-then-is_empty : goal.returns-then-is_empty
 returns-then-is_empty c =

@@ -1,6 +1,5 @@
-use Rattle.std.proofs.Common.{◌≡◌, ◌==◌, ℕ, List, Some, All, length, map, true, false, ap, ◌∙◌, sym, subst}
+use Rattle.std.proofs.Common.{◌≡◌, ◌==◌, ℕ, List, Some, All, length, map, true, ap, ◌∙◌, sym, subst}
 use Rattle.std.specs.Prelude.{IfOk}
-use Rattle.q_values.specs.Contents.{Contents}
 use Rattle.q_values.specs.Tree.{tree}
 use Rattle.q_values.specs.declared.kind.Kind.TheVariants as k
 use Rattle.qsql_request.specs.Views.{form, query_of}

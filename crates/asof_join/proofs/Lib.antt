@@ -1,0 +1,9 @@
+pub mod AsofLemmas
+pub mod FoundLemmas
+pub mod ItemLemmas
+pub mod JoinLemmas
+pub mod JudgeLemmas
+pub mod KeyLemmas
+pub mod MergeLemmas
+pub mod OrderLemmas
+pub mod Rules

@@ -1,0 +1,41 @@
+use Rattle.std.proofs.Common.{◌≤◌, ◌++◌, Bool, cond, length, arith, ap, ap₂, sym, refl, ◌∙◌, ◌∷◌, [], List}
+use Rattle.std.specs.Prelude.{codes}
+use Rattle.std.proofs.lemmas.Option.{slice_get_within}
+use Rattle.q_values.specs.Contents.{Contents}
+use Rattle.day_rows.specs.Chronicle.{view}
+use Rattle.day_rows.specs.Rows.{column_of}
+use Rattle.gateway.specs.Needs.{is_wanted}
+use Rattle.gateway.specs.TableRows.{dates_of_rows, row_numbers, columns_from}
+use Rattle.gateway.proofs.ChosenLemmas.{columns_next, columns_all, column_at_index, has_column_at, length-columns_from}
+use Rattle.gateway.proofs.table.columns_of.Goals as goal
+
+pub overflow_cast-i : goal.overflow_cast-i
+overflow_cast-i c = omega (arith, c.requires.few, c.loop-i-test.true, c.len-i-end.ensures)
+
+pub push_column-requires-clause-table : goal.push_column-requires-clause-table
+push_column-requires-clause-table c = slice_get_within c.args.snapshot.now.frame.schema c.args.index c.args.table.now c.requires.table
+
+pub push_column-requires-clause-exists : goal.push_column-requires-clause-exists
+push_column-requires-clause-exists c = has_column_at c.args.snapshot.now.frame.schema c.args.index c.loop-i.i c.args.table.now c.at-kind.result.now c.requires.table c.at-kind.ensures
+
+pub loop-i-preserved : goal.loop-i-preserved
+loop-i-preserved c =
+    let p = is_wanted c.args.wanted.now in
+    let rows = view c.args.snapshot.now.frame.first c.args.snapshot.now.entries c.args.index in
+    let numbers = row_numbers c.args.snapshot.now.frame.first c.args.snapshot.now.entries c.args.index in
+    let kinds = c.args.table.now.kinds in
+    let column = column_of c.at-kind.result.now c.loop-i.i rows in
+    c.in_ok-push_column.ensures
+    ∙ ap₂ (λ (l : List Contents) (b : Bool). l ++ cond b (column ∷ []) []) c.loop-i.invariant (c.has-is_made.ensures ∙ ap p c.bytes.ensures.value)
+    ∙ sym (columns_next p (codes "date" ∷ codes "i" ∷ []) c.args.table.now.names (dates_of_rows rows ∷ numbers ∷ []) (columns_from 0 kinds rows) c.loop-i.i c.at-name.result.now column refl
+    c.at-name.ensures (column_at_index kinds rows c.loop-i.i c.at-kind.result.now c.at-kind.ensures))
+
+pub returns : goal.returns
+returns c =
+    let rows = view c.args.snapshot.now.frame.first c.args.snapshot.now.entries c.args.index in
+    let numbers = row_numbers c.args.snapshot.now.frame.first c.args.snapshot.now.entries c.args.index in
+    let kinds = c.args.table.now.kinds in
+    let past : length c.args.table.now.names ≤ c.loop-i.i = omega (arith, c.loop-i-test.false, c.len-i-end.ensures) in
+    c.loop-i.invariant
+    ∙ columns_all (is_wanted c.args.wanted.now) (codes "date" ∷ codes "i" ∷ []) c.args.table.now.names (dates_of_rows rows ∷ numbers ∷ []) (columns_from 0 kinds rows) c.loop-i.i past
+    (omega (arith, past, c.requires.named, length-columns_from 0 kinds rows))

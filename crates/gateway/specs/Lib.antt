@@ -1,0 +1,5 @@
+pub mod Answer
+pub mod Needs
+pub mod Shaped
+pub mod TableRows
+pub mod Views

@@ -1,0 +1,33 @@
+//! The answer to a text over a snapshot of a plant.
+//!
+//! [`Question::of`] reads a text, and [`Question::answer`] gives its answer: the value of a query over the rows of its
+//! table, the open date, the number of its updates, or an error. [`answer`] does both. The error is a value too, whose text
+//! is `limit`, `parse`, `nyi`, `type`, or the name that isn't there; of the errors that hold it is the first.
+//!
+//! ```text
+//! answer(alloc, &snapshot, &schema, b"select last price by sym from trade")
+//! answer(alloc, &snapshot, &schema, b".u.i")                              the updates of the open date, a long
+//! answer(alloc, &snapshot, &schema, b"select from trades")                Value::Wrong, `trades`
+//! ```
+//!
+//! The rows of a table are those of all dates: an ended date by symbol and arrival, the open date by arrival. Each has two
+//! more columns: `date`, and `i`, which numbers the rows of each date from 0. Only the columns that a query needs are read
+//! (`wanted`), and they are read date by date (`columns`).
+//!
+//! The rows of a table are in `specs/TableRows.antt`, the columns that are needed in `specs/Needs.antt`, and the answer in
+//! `specs/Answer.antt`.
+//!
+//! A subscription is answered with `nyi` here: the session serves it. The crate encodes no answer and sets no limit on
+//! its length.
+#![tactic(auto)]
+
+mod answering;
+mod columns;
+mod joining;
+pub mod laws;
+mod question;
+mod table;
+mod values;
+mod wanted;
+
+pub use question::{Question, answer};

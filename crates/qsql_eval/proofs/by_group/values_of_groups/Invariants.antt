@@ -1,8 +1,0 @@
-use Rattle.std.proofs.Common.{◌≡◌, take}
-use Rattle.std.specs.List.{flat_map}
-use Rattle.qsql_request.specs.Views.{form}
-use Rattle.qsql_eval.specs.Groups.{value_by_group, items_over}
-use Rattle.qsql_eval.proofs.by_group.values_of_groups.Given as goal
-
-abbrev pub invariant-loop-group : goal.invariant-loop-group
-invariant-loop-group l = l.items ≡ record (value_by_group l.grouping (form l.expr)) { atoms = flat_map (items_over l.grouping.rows (form l.expr)) (take l.group l.grouping.parts) }

@@ -1,0 +1,5 @@
+pub mod ByGroupLemmas
+pub mod GroupLemmas
+pub mod PartLemmas
+pub mod RowLemmas
+pub mod StepLemmas

@@ -1,0 +1,3 @@
+pub mod Groups
+pub mod OnePass
+pub mod Ready

@@ -1,0 +1,186 @@
+//! Texts that are answered with errors, and messages that change nothing.
+use crate::building::{Row, text_of, update_by, update_of};
+use crate::sitting::{Asked, Given, NOW, answers};
+use q_values::{NANOSECONDS_PER_DAY, NoMemory, Turn};
+use std::alloc::Global;
+use std::sync::Wait;
+use std::test::Fail;
+
+/// The long 0.
+const NONE: &[u8] = b"\xf9\0\0\0\0\0\0\0\0";
+
+/// The long 1.
+const ONE: &[u8] = b"\xf9\x01\0\0\0\0\0\0\0";
+
+/// Whether a new plant answers these texts so.
+fn are_answered<R: Wait>(rt: &R, alloc: Global, texts: &[Asked]) -> Result<bool, NoMemory> {
+    let given = Given {
+        updates: &[],
+        readings: &[NOW],
+        sent: &[],
+        turns: &[],
+    };
+    answers(rt, alloc, given, 0, texts)
+}
+
+#[test]
+fn refused_texts(rt: HostRuntime) -> Result<(), Fail> {
+    let blanks = vec![in rt.alloc(); b' '; 65_537]?;
+    let texts: [Asked; 12] = [
+        (b"select from foo", b"\x80foo\0"),
+        (b"select foo from trade", b"\x80foo\0"),
+        (b"select from", b"\x80parse\0"),
+        (b"select price,price from trade", b"\x80nyi\0"),
+        (b"select price+sym from trade", b"\x80nyi\0"),
+        (b"select x:price+sym from trade", b"\x80type\0"),
+        (blanks.as_slice(), b"\x80limit\0"),
+        (b"select foo,foo from bar", b"\x80nyi\0"),
+        (b"1+1", b"\x80parse\0"),
+        (b"", b"\x80parse\0"),
+        (b"select x:foo+sym from bar where 1", b"\x80nyi\0"),
+        (b"exec count i from trade", NONE),
+    ];
+    assert!(rt; are_answered(&rt, rt.alloc(), &texts)?);
+    Ok(())
+}
+
+/// The update of `trade` by the row 0D09:30 KX 10050 200.
+fn whole(alloc: Global, table: &[u8]) -> Result<Vec<u8>, NoMemory> {
+    let row = Row {
+        minute: 570,
+        sym: b"KX",
+        numbers: &[10_050, 200],
+    };
+    update_of(alloc, 1, table, row)
+}
+
+/// The update whose symbol has 257 bytes.
+fn long_symbol(alloc: Global) -> Result<Vec<u8>, NoMemory> {
+    let sym = [b'x'; 257];
+    let row = Row {
+        minute: 570,
+        sym: &sym,
+        numbers: &[1, 1],
+    };
+    update_of(alloc, 1, b"trade", row)
+}
+
+/// Updates that are refused: of an unknown table, of two items, with a size that is an int, with a long symbol; and then one
+/// of four empty columns.
+fn refused_messages(alloc: Global) -> Result<Vec<u8>, NoMemory> {
+    let mut messages = whole(alloc, b"foo")?;
+    let two = update_by(alloc, b"\0\0\x02\0\0\0\xf5KX\0\xf9\x01\0\0\0\0\0\0\0")?;
+    messages.extend_from_slice(two.as_slice())?;
+    let int = update_by(
+        alloc,
+        b"\0\0\x04\0\0\0\xf0\0\xf0\xd9\xce\x1a\x1f\0\0\xf5KX\0\xf9B'\0\0\0\0\0\0\xfa\xc8\0\0\0",
+    )?;
+    messages.extend_from_slice(int.as_slice())?;
+    let long = long_symbol(alloc)?;
+    messages.extend_from_slice(long.as_slice())?;
+    let empty = update_by(
+        alloc,
+        b"\0\0\x04\0\0\0\x10\0\0\0\0\0\x0b\0\0\0\0\0\x07\0\0\0\0\0\x07\0\0\0\0\0",
+    )?;
+    messages.extend_from_slice(empty.as_slice())?;
+    Ok(messages)
+}
+
+/// The errors `foo`, `length`, `type` and `limit`, and `(::)`.
+const REFUSED: &[u8] =
+    b"\x01\x02\0\0\x0d\0\0\0\x80foo\0\x01\x02\0\0\x10\0\0\0\x80length\0\x01\x02\0\0\x0e\0\0\0\x80type\0\
+\x01\x02\0\0\x0f\0\0\0\x80limit\0\x01\x02\0\0\x0a\0\0\0e\0";
+
+const REFUSED_TURN: Turn = Turn::Refused {
+    length: 0,
+    now: NOW,
+};
+
+fn updates_refused<R: Wait>(rt: &R, alloc: Global, texts: &[Asked]) -> Result<bool, NoMemory> {
+    let messages = refused_messages(alloc)?;
+    let given = Given {
+        updates: messages.as_slice(),
+        readings: &[NOW],
+        sent: REFUSED,
+        turns: &[
+            REFUSED_TURN,
+            REFUSED_TURN,
+            REFUSED_TURN,
+            REFUSED_TURN,
+            Turn::Logged { place: 0, now: NOW },
+        ],
+    };
+    answers(rt, alloc, given, 1, texts)
+}
+
+#[test]
+fn refused_updates(rt: HostRuntime) -> Result<(), Fail> {
+    let texts: [Asked; 2] = [(b".u.i", ONE), (b"exec count i from trade", NONE)];
+    assert!(rt; updates_refused(&rt, rt.alloc(), &texts)?);
+    Ok(())
+}
+
+/// Whether these texts are answered so after an update at this moment, which is answered with these bytes and noted so.
+fn are_answered_at<R: Wait>(
+    rt: &R,
+    alloc: Global,
+    now: i64,
+    sent: &[u8],
+    turn: Turn,
+    length: u64,
+    texts: &[Asked],
+) -> Result<bool, NoMemory> {
+    let update = whole(alloc, b"trade")?;
+    let given = Given {
+        updates: update.as_slice(),
+        readings: &[now],
+        sent,
+        turns: &[turn],
+    };
+    answers(rt, alloc, given, length, texts)
+}
+
+#[test]
+fn clock_beyond_one_day(rt: HostRuntime) -> Result<(), Fail> {
+    let later = NOW + 2 * NANOSECONDS_PER_DAY;
+    let error = b"\x01\x02\0\0\x1c\0\0\0\x80more than one day?\0";
+    let refused = Turn::Refused {
+        length: 0,
+        now: later,
+    };
+    let none: [Asked; 1] = [(b".u.i", NONE)];
+    assert!(rt; are_answered_at(&rt, rt.alloc(), later, error, refused, 0, &none)?);
+    let earlier = NOW - NANOSECONDS_PER_DAY;
+    let done = b"\x01\x02\0\0\x0a\0\0\0e\0";
+    let logged = Turn::Logged {
+        place: 0,
+        now: earlier,
+    };
+    let one: [Asked; 3] = [
+        (b".u.i", ONE),
+        (b"exec date from trade", b"\x0e\0\x01\0\0\0?\x22\0\0"),
+        (b".u.d", b"\xf2?\x22\0\0"),
+    ];
+    assert!(rt; are_answered_at(&rt, rt.alloc(), earlier, done, logged, 1, &one)?);
+    Ok(())
+}
+
+/// Whether a text that subscribes is declined with `nyi`, and the next text answered.
+fn is_declined<R: Wait>(rt: &R, alloc: Global, text: &[u8]) -> Result<bool, NoMemory> {
+    let message = text_of(alloc, 1, text)?;
+    let given = Given {
+        updates: message.as_slice(),
+        readings: &[NOW],
+        sent: b"\x01\x02\0\0\x0d\0\0\0\x80nyi\0",
+        turns: &[Turn::Declined],
+    };
+    let texts: [Asked; 1] = [(b".u.i", NONE)];
+    answers(rt, alloc, given, 0, &texts)
+}
+
+#[test]
+fn subscriptions_are_declined(rt: HostRuntime) -> Result<(), Fail> {
+    assert!(rt; is_declined(&rt, rt.alloc(), b".u.sub[`trade;`a]")?);
+    assert!(rt; is_declined(&rt, rt.alloc(), b".u.sub[`;`]")?);
+    Ok(())
+}
