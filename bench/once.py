@@ -1,7 +1,9 @@
 #!/usr/bin/env python3
-"""Times one-row updates, and then texts, through `bin/plant once` and through a loop in Rust that reads and writes the same.
+"""Times one-row updates, and then texts, through `bin/plant once` and through a loop in Rust that reads and writes the same;
+and then queries over a day of a million rows, one after the other.
 
-Prints, for each, the messages per second, the seconds, the bytes in and out and the peak memory, and then the ratio.
+Prints, for each, the messages per second, the seconds, the bytes in and out and the peak memory, and then the ratio; for the
+queries of a day, the messages per second, and by how many bytes a row the peak of the memory rose above the day's own.
 Needs rustc, a C compiler (gcc, or the one that CC names) and what `bin/plant` needs, and nothing else but Python 3.
 """
 
@@ -11,8 +13,13 @@ import struct
 import subprocess
 import sys
 import tempfile
+import time
 
 HERE = os.path.dirname(os.path.realpath(__file__))
+sys.path.insert(0, os.path.join(os.path.dirname(HERE), "clients", "python"))
+
+from plant_client import Client, Vector, plain  # noqa: E402
+
 PLANT = [os.path.join(os.path.dirname(HERE), "bin", "plant"), "once", "--clock", "2024.01.02D09:30:00.000000000"]
 
 HANDSHAKE = b"u:p\x03\x00"
@@ -161,13 +168,71 @@ def compare(folder, programs, what, front, one, reply, count, runs):
     print(f"{'ratio':14} {rows[1][1] / rows[0][1]:12.2f}")
 
 
+SYMBOLS = [f"S{k}" for k in range(100)]
+BATCH = 1000  # rows of an update of the day
+WINDOW = (10 * 3600 * 10**9, 10 * 3600 * 10**9 + 1800 * 10**9)  # 10:00 to 10:30
+
+
+def day_columns(rows):
+    """The columns of a day of `trade`: times from 08:00 to 16:00, symbols in turn, prices and sizes that vary."""
+    times = [8 * 3600 * 10**9 + k * (8 * 3600 * 10**9 // rows) for k in range(rows)]
+    names = [SYMBOLS[k * 7919 % len(SYMBOLS)] for k in range(rows)]
+    return times, names, [10_000 + k * 37 % 500 for k in range(rows)], [1 + k * 13 % 900 for k in range(rows)]
+
+
+def day_queries(columns):
+    """Each query of the day, how many columns it reads, and its answer as a plain value."""
+    times, names, prices, sizes = columns
+    last = sorted({name: price for name, price in zip(names, prices)}.items())
+    kept = [k for k in range(len(times)) if names[k] == "S42" and WINDOW[0] <= times[k] <= WINDOW[1]]
+    return [
+        ("exec sum size from trade", 1, sum(sizes)),
+        ("select last price by sym from trade", 2, [price for _, price in last]),
+        ("select from trade where sym=`S42,time within 0D10 0D10:30", 5, [prices[k] for k in kept]),
+    ]
+
+
+def memory(process, word):
+    """A count of KiB in the process's status: VmRSS or VmHWM."""
+    with open(f"/proc/{process.pid}/status") as file:
+        return next(int(line.split()[1]) for line in file if line.startswith(word))
+
+
+def feed_day(client, columns):
+    kinds = ("timespan", "symbol", "long", "long")
+    for start in range(0, len(columns[0]), BATCH):
+        parts = [column[start : start + BATCH] for column in columns]
+        client.update("trade", *(Vector(kind, tuple(part)) for kind, part in zip(kinds, parts)), sync=False)
+
+
+def ask_day(rows, runs):
+    """Queries over one day, one after the other, each compared with what Python makes of the same rows."""
+    columns = day_columns(rows)
+    print(f"{'a day of ' + format(rows, ','):58} {'per second':>12} {'ms':>9} {'peak bytes a row':>17}")
+    for query, _, wanted in day_queries(columns):
+        with Client.run(PLANT) as client:
+            feed_day(client, columns)
+            client.query("exec count i from quote")
+            before, took = memory(client.process, "VmHWM"), []
+            for _ in range(runs):
+                start = time.perf_counter()
+                answer = client.sync(query.encode())
+                took.append(time.perf_counter() - start)
+            rose = (memory(client.process, "VmHWM") - before) * 1024 / rows
+        answer = plain(answer)
+        if (answer if isinstance(answer, int) else answer["price"]) != wanted:
+            sys.exit(f"once.py: another answer to {query}")
+        print(f"{query:58} {1 / min(took):12,.0f} {min(took) * 1e3:9.3f} {rose:17.1f}")
+
+
 def main():
     parser = argparse.ArgumentParser(description=__doc__.splitlines()[0])
     parser.add_argument("--updates", type=int, default=200_000, metavar="N", help="one-row updates (200000)")
     parser.add_argument("--texts", type=int, default=50_000, metavar="N", help=f"queries of a table of {ROWS} rows (50000)")
+    parser.add_argument("--rows", type=int, default=1_000_000, metavar="N", help="rows of the day that is asked about (1000000)")
     parser.add_argument("--runs", type=int, default=3, metavar="N", help="runs of each, of which the best counts (3)")
     options = parser.parse_args()
-    if min(options.updates, options.texts, options.runs) < 1:
+    if min(options.updates, options.texts, options.rows, options.runs) < 1:
         parser.error("N is at least 1")
     with tempfile.TemporaryDirectory() as folder:
         programs = built(folder)
@@ -178,6 +243,7 @@ def main():
         rows = HANDSHAKE + update(ASYNC) * ROWS
         query = text(b"select from trade")
         compare(folder, programs, "texts", rows, query, table(ROWS), options.texts, options.runs)
+        ask_day(options.rows, 5 * options.runs)
 
 
 if __name__ == "__main__":

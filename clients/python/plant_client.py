@@ -1,20 +1,39 @@
-"""A client of kdb+ IPC: the handshake, sync and async messages, and every object of the profile.
+"""A client of a plant, over uncompressed kdb+ IPC in either byte order (KX, IPC reference).
 
-Uncompressed messages in either byte order (KX, IPC reference). Values are small Python types:
+    with Client.run(["bin/plant", "once", "--clock", "2024.01.02D09:30:00.000000000"]) as plant:
+        plant.update("trade", "KX", 10050, 200)
+        print(plant.query("select last price by sym from trade"))
 
-    Atom(kind, value)        one value; symbols and characters as bytes
+What is sent and what comes back are plain Python values where these are clear:
+
+    bool, int                      boolean, long
+    str                            symbol
+    bytes                          char vector (a text)
+    datetime.date                  date
+    datetime.datetime              timestamp (without a time zone)
+    datetime.timedelta             timespan
+    a list of one of these         a vector; another list is a general list
+    None                           (::) when it is sent, a null in an answer
+
+An answer of another numeric kind is an int too, and a second, minute or time within the day a datetime.time. Where a plain
+value would lose something (nanoseconds, an infinity, a month), the typed one stands in its place, and typed values can be sent
+for any kind:
+
+    Atom(kind, value)        one value, in the unit of its kind; symbols and characters as str or bytes
     Vector(kind, items)      values of one kind
     List(items)              a general list
     Dictionary(keys, values)
-    Table(names, columns)    named columns of one length; Table.rows() gives tuples
+    Table(names, vectors)    named columns of one length
     Keyed(keys, values)      a table of keys, and one of the other columns
-    IDENTITY                 (::)
-    Error(text)              an error, as a value; Client.sync raises it
 
-Only the standard library is used.
+`Client.query` and `Client.update` take and give plain values, `Client.sync` and `Client.send` typed ones. An error that the
+plant answers is raised as `Error`. A value that can't be sent is a ValueError, and nothing is sent. Only the standard
+library is used.
 """
 
+import datetime
 import struct
+import subprocess
 from dataclasses import dataclass
 
 # kind: (type, struct format or None)
@@ -35,8 +54,18 @@ KINDS = {
     "time": (19, "i"),
 }
 BY_TYPE = {number: kind for kind, (number, _) in KINDS.items()}
+SIGNED_BITS = {"h": 16, "i": 32, "q": 64}
 
 LITTLE, BIG = "<", ">"
+
+# The longest message that a plant takes, header included.
+MAX_MESSAGE = 16 * 1024 * 1024
+
+EPOCH = datetime.date(2000, 1, 1)
+EPOCH_TIME = datetime.datetime(2000, 1, 1)
+DAY = 86_400_000_000_000
+# The parts of a second, minute or day that these kinds count, in nanoseconds.
+UNITS = {"minute": 60_000_000_000, "second": 1_000_000_000, "time": 1_000_000}
 
 
 @dataclass(frozen=True)
@@ -44,11 +73,21 @@ class Atom:
     kind: str
     value: object
 
+    def __str__(self):
+        return shown(self.kind, self.value)
+
 
 @dataclass(frozen=True)
 class Vector:
     kind: str
     items: tuple
+
+    def __len__(self):
+        return len(self.items)
+
+    def plain(self):
+        """The items as a list of plain values."""
+        return [plain_item(self.kind, item) for item in self.items]
 
 
 @dataclass(frozen=True)
@@ -64,23 +103,71 @@ class Dictionary:
 
 @dataclass(frozen=True)
 class Table:
-    names: tuple
-    columns: tuple
+    """Named columns of one length. `len` is the number of rows, and iteration gives each row as a tuple of plain values."""
 
-    def rows(self):
-        return list(zip(*(column.items for column in self.columns)))
+    names: tuple
+    vectors: tuple
+
+    @property
+    def columns(self):
+        """Each column as a list of plain values."""
+        return [vector.plain() for vector in self.vectors]
+
+    def __getitem__(self, name):
+        """The column of this name, as a list of plain values."""
+        return self.vectors[self.names.index(name)].plain()
+
+    def __len__(self):
+        return len(self.vectors[0]) if self.vectors else 0
+
+    def __iter__(self):
+        return iter(zip(*self.columns))
 
     def __str__(self):
-        lines = [" ".join(name.decode() for name in self.names)]
-        for row in self.rows():
-            lines.append(" ".join(v.decode() if isinstance(v, bytes) else str(v) for v in row))
-        return "\n".join(lines)
+        return "\n".join(lines_of(cells_of(self)))
+
+    def to_pandas(self):
+        """A pandas DataFrame: dates and timestamps as datetime64, timespans and times of day as timedelta64."""
+        import pandas
+
+        return pandas.DataFrame({name: series_of(pandas, vector) for name, vector in zip(self.names, self.vectors)})
 
 
 @dataclass(frozen=True)
 class Keyed:
+    """A table of keys beside a table of the other columns."""
+
     keys: Table
     values: Table
+
+    @property
+    def names(self):
+        return self.keys.names + self.values.names
+
+    @property
+    def columns(self):
+        """Each column, the keys first, as a list of plain values."""
+        return self.keys.columns + self.values.columns
+
+    def __getitem__(self, name):
+        return self.keys[name] if name in self.keys.names else self.values[name]
+
+    def __len__(self):
+        return len(self.keys)
+
+    def __iter__(self):
+        return iter(zip(*self.columns))
+
+    def __str__(self):
+        keys = cells_of(self.keys)
+        width = sum(map(len, (column[0] for column in keys))) + len(keys) - 1
+        sides = zip(lines_of(keys), lines_of(cells_of(self.values)))
+        return "\n".join(f"{left.ljust(width)}| {right}".rstrip() for left, right in sides)
+
+    def to_pandas(self):
+        """A pandas DataFrame whose index is the keys."""
+        whole = Table(self.names, self.keys.vectors + self.values.vectors)
+        return whole.to_pandas().set_index(list(self.keys.names))
 
 
 @dataclass(frozen=True)
@@ -109,36 +196,264 @@ class BadBytes(Exception):
     """The bytes don't encode an object of the profile."""
 
 
-def _elements(order, kind, items):
+class PlantEnded(ConnectionError):
+    """The plant ended the link before it had answered. `sent` is what it had been sent."""
+
+    def __init__(self, sent):
+        super().__init__(f"the plant ended the link; it had been sent {sent!r}")
+        self.sent = sent
+
+
+# Values as people write them (Q for Mortals, 2).
+
+
+def is_null(kind, value):
     form = KINDS[kind][1]
+    if form in SIGNED_BITS:
+        return value == -(1 << (SIGNED_BITS[form] - 1))
+    return kind == "symbol" and value == b""
+
+
+def is_infinite(kind, value):
+    form = KINDS[kind][1]
+    return form in SIGNED_BITS and abs(value) == (1 << (SIGNED_BITS[form] - 1)) - 1
+
+
+def date_of(days):
+    """A date by its days since 2000.01.01; None beyond the calendar of datetime."""
+    try:
+        return EPOCH + datetime.timedelta(days=days)
+    except OverflowError:
+        return None
+
+
+def clock_of(nanoseconds, digits):
+    seconds, part = divmod(nanoseconds, 1_000_000_000)
+    text = f"{seconds // 3600:02}:{seconds // 60 % 60:02}:{seconds % 60:02}"
+    return f"{text}.{part:09}"[: len(text) + 1 + digits] if digits else text
+
+
+def shown_time(kind, value):
+    if kind == "timespan":
+        days, rest = divmod(abs(value), DAY)
+        return f"{'-' if value < 0 else ''}{days}D{clock_of(rest, 9)}"
+    sign, whole = "-" if value < 0 else "", abs(value) * UNITS[kind]
+    text = clock_of(whole, 3 if kind == "time" else 0)
+    return sign + (text[:-3] if kind == "minute" else text)
+
+
+def shown_date(kind, value):
+    if kind == "month":
+        return f"{2000 + value // 12:04}.{value % 12 + 1:02}"
+    days, rest = divmod(value, DAY) if kind == "timestamp" else (value, None)
+    date = date_of(days)
+    text = f"{date.year:04}.{date.month:02}.{date.day:02}" if date else f"{days}d"
+    return text if rest is None else f"{text}D{clock_of(rest, 9)}"
+
+
+def shown(kind, value):
+    """A value in q's form, in a table's cell: a null is blank."""
+    if is_null(kind, value):
+        return ""
+    if is_infinite(kind, value):
+        return "0W" if value > 0 else "-0W"
+    if kind == "boolean":
+        return "1" if value else "0"
+    if kind == "byte":
+        return f"{value:02x}"
+    if kind in ("symbol", "char"):
+        return as_bytes(value).decode(errors="replace")
+    if kind in ("date", "month", "timestamp"):
+        return shown_date(kind, value)
+    if kind in ("timespan", "minute", "second", "time"):
+        return shown_time(kind, value)
+    return str(value)
+
+
+def cells_of(table):
+    """A list for each column: its name, a rule, and its items."""
+    made = []
+    for name, vector in zip(table.names, table.vectors):
+        items = [shown(vector.kind, item) for item in vector.items]
+        width = max(map(len, [name, *items]))
+        made.append([text.ljust(width) for text in (name, "-" * width, *items)])
+    return made
+
+
+def lines_of(cells):
+    """The lines of columns side by side; the rule runs through."""
+    lines = [" ".join(row) for row in zip(*cells)]
+    if len(lines) > 1:
+        lines[1] = "-" * len(lines[1])
+    return [line.rstrip() for line in lines]
+
+
+def series_of(pandas, vector):
+    kind, items = vector.kind, vector.items
+    scale = {"date": DAY, "timestamp": 1, "timespan": 1, **UNITS}.get(kind)
+    if scale is None:
+        return vector.plain()
+    start = pandas.Timestamp(EPOCH_TIME).value if kind in ("date", "timestamp") else 0
+    numbers = [None if is_null(kind, n) or is_infinite(kind, n) else n * scale + start for n in items]
+    made = pandas.to_datetime if kind in ("date", "timestamp") else pandas.to_timedelta
+    return made(numbers, unit="ns")
+
+
+# Plain values.
+
+
+def plain_time(kind, value):
+    """A datetime value, or None where there is none for it."""
+    if kind == "date":
+        return date_of(value)
+    if kind == "timestamp" and value % 1000 == 0:
+        return EPOCH_TIME + datetime.timedelta(microseconds=value // 1000)
+    if kind == "timespan" and value % 1000 == 0:
+        return datetime.timedelta(microseconds=value // 1000)
+    if kind in UNITS and 0 <= value * UNITS[kind] < DAY:
+        return (datetime.datetime.min + datetime.timedelta(microseconds=value * UNITS[kind] // 1000)).time()
+    return None
+
+
+def plain_item(kind, value):
+    """A value of a kind as a plain one: None for a null; the typed one where a plain one would lose something."""
+    if is_null(kind, value) and kind != "symbol":
+        return None
+    if is_infinite(kind, value):
+        return Atom(kind, value)
+    if kind in ("boolean", "byte", "short", "int", "long", "char"):
+        return value
+    if kind == "symbol":
+        try:
+            return value.decode()
+        except UnicodeDecodeError:
+            return Atom(kind, value)
+    made = plain_time(kind, value)
+    return Atom(kind, value) if made is None else made
+
+
+def plain(value):
+    """An answer with plain values where these are clear."""
+    if isinstance(value, Atom):
+        return plain_item(value.kind, value.value)
+    if isinstance(value, Vector):
+        return b"".join(value.items) if value.kind == "char" else value.plain()
+    if isinstance(value, List):
+        return [plain(item) for item in value.items]
+    if isinstance(value, Dictionary):
+        keys, values = plain(value.keys), plain(value.values)
+        if isinstance(keys, list) and isinstance(values, list) and all(isinstance(key, (str, int)) for key in keys):
+            return dict(zip(keys, values))
+        return value
+    return None if isinstance(value, Identity) else value
+
+
+PLAIN_KINDS = {
+    bool: ("boolean", lambda v: v),
+    int: ("long", lambda v: v),
+    str: ("symbol", lambda v: v.encode()),
+    datetime.date: ("date", lambda v: (v - EPOCH).days),
+    datetime.datetime: ("timestamp", lambda v: nanoseconds_of(without_zone(v) - EPOCH_TIME)),
+    datetime.timedelta: ("timespan", lambda v: nanoseconds_of(v)),
+}
+TYPED = (Atom, Vector, List, Dictionary, Table, Keyed, Identity, Error)
+
+
+def nanoseconds_of(delta):
+    return ((delta.days * 86_400 + delta.seconds) * 1_000_000 + delta.microseconds) * 1000
+
+
+def without_zone(moment):
+    if moment.tzinfo is not None:
+        raise ValueError(f"a timestamp has no time zone: {moment!r}")
+    return moment
+
+
+def typed(value):
+    """The typed form of a plain value."""
+    if isinstance(value, TYPED):
+        return value
+    if value is None:
+        return IDENTITY
+    if isinstance(value, bytes):
+        if len(value) > MAX_MESSAGE:
+            raise ValueError(f"a message has at most {MAX_MESSAGE:,} bytes; this text has {len(value):,}")
+        return Vector("char", tuple(bytes([b]) for b in value))
+    if type(value) in PLAIN_KINDS:
+        kind, number = PLAIN_KINDS[type(value)]
+        return Atom(kind, number(value))
+    if isinstance(value, (list, tuple)):
+        return typed_list(value)
+    raise ValueError(f"no object of kdb+ IPC stands for {value!r}; give it as Atom(kind, value)")
+
+
+def typed_list(values):
+    items = [typed(value) for value in values]
+    kinds = {item.kind if isinstance(item, Atom) else None for item in items}
+    if len(kinds) == 1 and None not in kinds:
+        return Vector(kinds.pop(), tuple(item.value for item in items))
+    return List(tuple(items))
+
+
+# The codec.
+
+
+def as_bytes(text):
+    return text.encode(errors="surrogateescape") if isinstance(text, str) else text
+
+
+def kind_of(kind):
+    if kind not in KINDS:
+        raise ValueError(f"no kind {kind!r}; the kinds are {', '.join(KINDS)}")
+    return KINDS[kind]
+
+
+def _text(what, text):
+    data = as_bytes(text)
+    if not isinstance(data, bytes):
+        raise ValueError(f"{what} is a str or bytes: {text!r}")
+    if b"\0" in data:
+        raise ValueError(f"{what} holds no 0 byte: {text!r}")
+    return data + b"\0"
+
+
+def _elements(order, kind, items):
+    _, form = kind_of(kind)
     if form is None:
-        return b"".join(item + b"\0" for item in items)
+        return b"".join(_text("a symbol", item) for item in items)
     if form == "c":
-        return b"".join(items)
-    return struct.pack(f"{order}{len(items)}{form}", *items)
+        items = [as_bytes(item) for item in items]
+    if form == "?" and any(item not in (False, True) for item in items):
+        raise ValueError(f"a boolean is True or False: {items!r}")
+    try:
+        return struct.pack(f"{order}{len(items)}{form}", *items)
+    except struct.error as fault:
+        raise ValueError(f"no value of kind {kind} among {items!r}: {fault}") from None
+
+
+def _counted(order, number, count):
+    return struct.pack(f"{order}bBi", number, 0, count)
 
 
 def encode(value, order=LITTLE):
     """The bytes of a value."""
     if isinstance(value, Atom):
-        number, _ = KINDS[value.kind]
-        return struct.pack("b", -number) + _elements(order, value.kind, [value.value])
+        return struct.pack("b", -kind_of(value.kind)[0]) + _elements(order, value.kind, [value.value])
     if isinstance(value, Vector):
-        number, _ = KINDS[value.kind]
-        return struct.pack(f"{order}bBi", number, 0, len(value.items)) + _elements(order, value.kind, value.items)
+        return _counted(order, kind_of(value.kind)[0], len(value.items)) + _elements(order, value.kind, value.items)
     if isinstance(value, List):
-        return struct.pack(f"{order}bBi", 0, 0, len(value.items)) + b"".join(encode(v, order) for v in value.items)
+        return _counted(order, 0, len(value.items)) + b"".join(encode(v, order) for v in value.items)
     if isinstance(value, Dictionary):
         return b"\x63" + encode(value.keys, order) + encode(value.values, order)
     if isinstance(value, Table):
-        return b"\x62\x00\x63" + encode(Vector("symbol", value.names), order) + encode(List(value.columns), order)
+        return b"\x62\x00\x63" + encode(Vector("symbol", value.names), order) + encode(List(value.vectors), order)
     if isinstance(value, Keyed):
         return b"\x63" + encode(value.keys, order) + encode(value.values, order)
     if isinstance(value, Identity):
         return b"\x65\x00"
     if isinstance(value, Error):
-        return b"\x80" + value.text + b"\0"
-    raise TypeError(f"no object of kdb+ IPC: {value!r}")
+        return b"\x80" + _text("an error", value.text)
+    return encode(typed(value), order)
 
 
 class _Reader:
@@ -178,11 +493,17 @@ class _Reader:
         return struct.unpack(f"{self.order}{count}{form}", self.take(count * struct.calcsize(form)))
 
     def table(self):
+        at = self.at - 1
         self.take(1)
         if self.take(1) not in (b"\x63", b"\x7f"):
             raise BadBytes(f"a table without its dictionary at {self.at - 1}")
         names, columns = self.object(), self.object()
-        return Table(names.items, columns.items)
+        is_table = isinstance(names, Vector) and names.kind == "symbol" and isinstance(columns, List)
+        if not is_table or not all(isinstance(column, Vector) for column in columns.items):
+            raise BadBytes(f"a table without names or columns at {at}")
+        if len(names) != len(columns.items) or len({len(column) for column in columns.items}) != 1:
+            raise BadBytes(f"a table of columns that don't fit each other at {at}")
+        return Table(tuple(name.decode(errors="surrogateescape") for name in names.items), columns.items)
 
     def object(self):
         at = self.at
@@ -219,52 +540,92 @@ def decode(data, order=LITTLE):
 
 
 def message(value, sync, order=LITTLE):
-    """A request with its header."""
+    """A request with its header. A message above 16 MiB is a ValueError."""
     body = encode(value, order)
-    return struct.pack(f"{order}BBBBI", 1 if order == LITTLE else 0, 1 if sync else 0, 0, 0, len(body) + 8) + body
+    length = len(body) + 8
+    if length > MAX_MESSAGE:
+        raise ValueError(f"a message has at most {MAX_MESSAGE:,} bytes; this one would have {length:,}")
+    return struct.pack(f"{order}BBBBI", 1 if order == LITTLE else 0, 1 if sync else 0, 0, 0, length) + body
 
 
 class Client:
-    """Talks to a plant over two binary streams, such as the pipes of a process or a socket's file."""
+    """Talks to a plant over two binary streams, such as the pipes of a process or a socket's file.
+
+    As a context manager it closes the streams at the end, and waits for the process that `run` started; its exit status is
+    then in `status`.
+    """
 
     def __init__(self, reads, writes, order=LITTLE, user=b"", capability=3):
         self.reads, self.writes, self.order = reads, writes, order
-        self._send(user + bytes([capability]) + b"\0")
-        self.capability = self._take(1)[0]
+        self.process, self.status = None, None
+        greeting = user + bytes([capability]) + b"\0"
+        self._write(greeting, greeting)
+        self.capability = self._take(1, greeting)[0]
+
+    @classmethod
+    def run(cls, words, **options):
+        """A client of a plant that is started with these words as its command line."""
+        process = subprocess.Popen(words, stdin=subprocess.PIPE, stdout=subprocess.PIPE)
+        client = cls(process.stdout, process.stdin, **options)
+        client.process = process
+        return client
+
+    def __enter__(self):
+        return self
+
+    def __exit__(self, *_):
+        self.close()
+
+    def close(self):
+        """Ends the link. A plant that `run` started is waited for."""
+        try:
+            self.writes.close()
+        except BrokenPipeError:
+            pass
+        if self.process is not None:
+            self.status = self.process.wait()
+        self.reads.close()
 
     def sync(self, value):
-        """Sends a value and waits for its response; an error is raised."""
-        self._send(message(value, True, self.order))
-        header = self._take(8)
+        """Sends a value and waits for its response, a typed value; an error is raised."""
+        self._write(message(value, True, self.order), value)
+        header = self._take(8, value)
         order = LITTLE if header[0] == 1 else BIG
         (length,) = struct.unpack(f"{order}I", header[4:])
-        answer = decode(self._take(length - 8), order)
+        answer = decode(self._take(length - 8, value), order)
         if isinstance(answer, Error):
             raise answer
         return answer
 
     def send(self, value):
         """Sends a value as an async message, which gets no response."""
-        self._send(message(value, False, self.order))
+        self._write(message(value, False, self.order), value)
 
     def query(self, text):
-        """The answer to a text."""
-        return self.sync(Vector("char", tuple(bytes([b]) for b in text.encode())))
+        """The answer to a text, with plain values where these are clear."""
+        return plain(self.sync(text.encode()))
 
     def update(self, table, *items, sync=True):
-        """An update of a table, with an item for each column."""
-        call = List((Atom("symbol", b".u.upd"), Atom("symbol", table.encode()), List(items)))
-        return self.sync(call) if sync else self.send(call)
+        """An update of a table, with an item for each column: a value for one row, or lists of one length."""
+        call = List((Atom("symbol", ".u.upd"), Atom("symbol", table), List(tuple(typed(item) for item in items))))
+        if sync:
+            self.sync(call)
+        else:
+            self.send(call)
 
-    def _send(self, data):
-        self.writes.write(data)
-        self.writes.flush()
+    def _write(self, data, sent):
+        try:
+            self.writes.write(data)
+            self.writes.flush()
+        except (BrokenPipeError, ConnectionError):
+            raise PlantEnded(sent) from None
 
-    def _take(self, count):
-        data = b""
-        while len(data) < count:
-            part = self.reads.read(count - len(data))
+    def _take(self, count, sent):
+        parts = []
+        while count > 0:
+            part = self.reads.read(count)
             if not part:
-                raise EOFError("the plant ended")
-            data += part
-        return data
+                raise PlantEnded(sent)
+            parts.append(part)
+            count -= len(part)
+        return b"".join(parts)

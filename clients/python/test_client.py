@@ -1,15 +1,23 @@
-"""Tests of the client: its codec against KX's published bytes, and a plant run as a process, in both byte orders."""
+"""Tests of the client: its codec against KX's published bytes, values as people write them, what it refuses to send, and a
+plant run as a process, in both byte orders."""
 
+import datetime
+import io
 import os
+import re
 import subprocess
+import sys
 import unittest
 
 from plant_client import (
-    BIG, IDENTITY, LITTLE, Atom, BadBytes, Client, Dictionary, Error, Keyed, List, Table, Vector, decode, encode,
+    BIG, IDENTITY, LITTLE, Atom, BadBytes, Client, Dictionary, Error, Keyed, List, PlantEnded, Table, Vector, decode, encode,
+    plain, typed,
 )
 
-PLANT = os.environ.get("PLANT", os.path.join(os.path.dirname(os.path.abspath(__file__)), "..", "..", "bin", "plant"))
+ROOT = os.path.join(os.path.dirname(os.path.abspath(__file__)), "..", "..")
+PLANT = os.environ.get("PLANT", os.path.join(ROOT, "bin", "plant"))
 HALF_PAST_NINE = 34_200_000_000_000
+DAY = datetime.date(2024, 1, 2)
 
 # KX, IPC reference: the message, and what it holds.
 PUBLISHED = [
@@ -21,9 +29,27 @@ PUBLISHED = [
     ),
     (
         "010000002f0000006200630b0002000000610062000000020000000600010000000200000006000100000003000000",
-        Table((b"a", b"b"), (Vector("int", (2,)), Vector("int", (3,)))),
+        Table(("a", "b"), (Vector("int", (2,)), Vector("int", (3,)))),
     ),
 ]
+
+TRADES = Table(
+    ("date", "time", "sym", "price"),
+    (
+        Vector("date", (8767, -(2**31))),
+        Vector("timespan", (HALF_PAST_NINE, 34_200_000_000_001)),
+        Vector("symbol", (b"KX", b"")),
+        Vector("long", (10050, -(2**63))),
+    ),
+)
+
+TRADES_SHOWN = """\
+date       time                 sym price
+-----------------------------------------
+2024.01.02 0D09:30:00.000000000 KX  10050
+           0D09:30:00.000000001"""
+
+LAST_PRICES = Keyed(Table(("sym",), (Vector("symbol", (b"a", b"b")),)), Table(("price",), (Vector("long", (21, -5)),)))
 
 
 class Codec(unittest.TestCase):
@@ -34,8 +60,8 @@ class Codec(unittest.TestCase):
             self.assertEqual(encode(value), body)
 
     def test_both_orders(self):
-        table = Table((b"s",), (Vector("symbol", (b"x", b"")),))
-        other = Table((b"n",), (Vector("long", (-1, 2**62)),))
+        table = Table(("s",), (Vector("symbol", (b"x", b"")),))
+        other = Table(("n",), (Vector("long", (-1, 2**62)),))
         values = [
             Atom("boolean", True), Atom("byte", 255), Atom("short", -2), Atom("int", -3), Atom("long", -(2**63)),
             Atom("char", b"c"), Atom("symbol", b"KX"), Atom("timestamp", 1), Atom("month", 2), Atom("date", 8767),
@@ -53,33 +79,152 @@ class Codec(unittest.TestCase):
                 decode(bytes.fromhex(text))
 
 
+class Plain(unittest.TestCase):
+    def test_sent(self):
+        noon = datetime.datetime(2024, 1, 2, 12)
+        for value, wanted in [
+            (True, Atom("boolean", True)),
+            (7, Atom("long", 7)),
+            ("KX", Atom("symbol", b"KX")),
+            (b"ab", Vector("char", (b"a", b"b"))),
+            (DAY, Atom("date", 8767)),
+            (noon, Atom("timestamp", 8767 * 86_400_000_000_000 + 43_200_000_000_000)),
+            (datetime.timedelta(hours=9, minutes=30), Atom("timespan", HALF_PAST_NINE)),
+            ([1, 2], Vector("long", (1, 2))),
+            (["a", "b"], Vector("symbol", (b"a", b"b"))),
+            ([1, "a"], List((Atom("long", 1), Atom("symbol", b"a")))),
+            ([], List(())),
+            (None, IDENTITY),
+        ]:
+            self.assertEqual(typed(value), wanted)
+
+    def test_received(self):
+        for value, wanted in [
+            (Atom("short", 7), 7),
+            (Atom("long", -(2**63)), None),
+            (Atom("long", 2**63 - 1), Atom("long", 2**63 - 1)),
+            (Atom("date", 8767), DAY),
+            (Atom("date", 2**31 - 2), Atom("date", 2**31 - 2)),
+            (Atom("timespan", HALF_PAST_NINE), datetime.timedelta(hours=9, minutes=30)),
+            (Atom("timespan", 1), Atom("timespan", 1)),
+            (Atom("minute", 570), datetime.time(9, 30)),
+            (Atom("time", -1), Atom("time", -1)),
+            (Vector("char", (b"a", b"b")), b"ab"),
+            (Vector("symbol", (b"a", b"")), ["a", ""]),
+            (Vector("symbol", (b"\xff",)), [Atom("symbol", b"\xff")]),
+            (Dictionary(Vector("symbol", (b"a",)), Vector("long", (1,))), {"a": 1}),
+            (IDENTITY, None),
+        ]:
+            self.assertEqual(plain(value), wanted)
+
+    def test_tables(self):
+        self.assertEqual(str(TRADES), TRADES_SHOWN)
+        self.assertEqual(len(TRADES), 2)
+        self.assertEqual(TRADES["sym"], ["KX", ""])
+        self.assertEqual(TRADES.columns[3], [10050, None])
+        self.assertEqual(list(TRADES)[0], (DAY, datetime.timedelta(hours=9, minutes=30), "KX", 10050))
+        self.assertEqual(str(LAST_PRICES), "sym| price\n---| -----\na  | 21\nb  | -5")
+        self.assertEqual(list(LAST_PRICES), [("a", 21), ("b", -5)])
+        self.assertEqual(LAST_PRICES["price"], [21, -5])
+
+    def test_shown(self):
+        for kind, value, wanted in [
+            ("boolean", True, "1"), ("byte", 10, "0a"), ("int", 2**31 - 1, "0W"), ("int", 1 - 2**31, "-0W"), ("char", b"c", "c"),
+            ("month", 288, "2024.01"), ("minute", 570, "09:30"), ("second", -1, "-00:00:01"), ("time", 1, "00:00:00.001"),
+            ("timestamp", 1, "2000.01.01D00:00:00.000000001"), ("timespan", -1, "-0D00:00:00.000000001"), ("date", -1, "1999.12.31"),
+        ]:
+            self.assertEqual(str(Atom(kind, value)), wanted)
+
+    def test_pandas(self):
+        try:
+            import pandas
+        except ImportError:
+            self.skipTest("pandas isn't there")
+        frame = TRADES.to_pandas()
+        self.assertEqual(list(frame.columns), ["date", "time", "sym", "price"])
+        self.assertEqual(frame["date"][0], pandas.Timestamp(2024, 1, 2))
+        self.assertTrue(pandas.isna(frame["date"][1]))
+        self.assertEqual(frame["time"][1], pandas.Timedelta(34_200_000_000_001, "ns"))
+        self.assertEqual(LAST_PRICES.to_pandas()["price"]["b"], -5)
+
+
+class Refused(unittest.TestCase):
+    def test_nothing_is_sent(self):
+        writes = io.BytesIO()
+        client = Client(io.BytesIO(b"\x03"), writes)
+        before = writes.getvalue()
+        moment = datetime.datetime(2024, 1, 2, tzinfo=datetime.timezone.utc)
+        for value in (
+            "a\0b", Atom("symbol", b"a\0b"), 2**63, Atom("int", 2**31), Atom("byte", -1), Atom("boolean", 2), Atom("float", 1.5), 1.5,
+            object(), moment, Atom("symbol", 7), Atom("char", b"ab"), b"x" * (16 * 1024 * 1024 + 1),
+            Vector("long", (0,) * (2 * 1024 * 1024)),
+        ):
+            with self.assertRaises(ValueError):
+                client.send(value)
+        with self.assertRaises(ValueError):
+            client.update("tra\0de", 1)
+        self.assertEqual(writes.getvalue(), before)
+
+    def test_plant_that_ends(self):
+        with self.assertRaises(PlantEnded):
+            Client(io.BytesIO(b""), io.BytesIO())
+        client = Client(io.BytesIO(b"\x03\x01\x02"), io.BytesIO())
+        with self.assertRaises(PlantEnded) as ended:
+            client.query("select from trade")
+        self.assertEqual(ended.exception.sent, b"select from trade")
+        self.assertIn("select from trade", str(ended.exception))
+
+
 class Plant(unittest.TestCase):
     def talk(self, order):
         words = [PLANT, "once", "--clock", "2024.01.02D09:30:00.000000000"]
-        with subprocess.Popen(words, stdin=subprocess.PIPE, stdout=subprocess.PIPE) as plant:
-            client = Client(plant.stdout, plant.stdin, order, b"u:p")
-            self.assertEqual(client.capability, 3)
-            row = (Atom("timespan", HALF_PAST_NINE), Atom("symbol", b"KX"), Atom("long", 10050), Atom("long", 200))
-            self.assertEqual(client.update("trade", *row), IDENTITY)
-            client.update("trade", *row[1:], sync=False)
-            wanted = (8767, HALF_PAST_NINE, b"KX", 10050, 200)
-            answer = client.query("select from trade")
-            self.assertEqual(answer.names, (b"date", b"time", b"sym", b"price", b"size"))
-            self.assertEqual(answer.rows(), [wanted, wanted])
+        half_past_nine = datetime.timedelta(hours=9, minutes=30)
+        with Client.run(words, order=order, user=b"u:p") as plant:
+            self.assertEqual(plant.capability, 3)
+            plant.update("trade", half_past_nine, "KX", 10050, 200)
+            plant.update("trade", ["KX", "AB"], [10060, 7], [100, 5], sync=False)
+            answer = plant.query("select from trade")
+            self.assertEqual(answer.names, ("date", "time", "sym", "price", "size"))
+            self.assertEqual(list(answer)[0], (DAY, half_past_nine, "KX", 10050, 200))
+            self.assertEqual(answer["price"], [10050, 10060, 7])
+            last = plant.query("select last price by sym from trade")
+            self.assertEqual(list(last), [("AB", 7), ("KX", 10060)])
+            self.assertEqual(plant.query("exec sum size from trade where sym=`KX"), 300)
+            self.assertEqual(plant.query(".u.d"), DAY)
+            for text, error in (("select foo from trade", b"foo"), ("select from", b"parse"), ("select x:price+sym from trade", b"type")):
+                with self.assertRaises(Error) as refused:
+                    plant.query(text)
+                self.assertEqual(refused.exception.text, error)
             with self.assertRaises(Error) as refused:
-                client.update("foo", *row)
+                plant.update("foo", 1)
             self.assertEqual(refused.exception.text, b"foo")
-            with self.assertRaises(Error) as refused:
-                client.query("select max price from trade")
-            self.assertEqual(refused.exception.text, b"nyi")
-            plant.stdin.close()
-            self.assertEqual(plant.wait(), 0)
+        self.assertEqual(plant.status, 0)
 
     def test_little_endian(self):
         self.talk(LITTLE)
 
     def test_big_endian(self):
         self.talk(BIG)
+
+
+class Readme(unittest.TestCase):
+    """The first look of README.md prints what stands there."""
+
+    def blocks(self, language):
+        with open(os.path.join(ROOT, "README.md")) as file:
+            look = file.read().split("## A first look")[1].split("\n## ")[0]
+        (found,) = re.findall(rf"```{language}\n(.*?)```\n.*?```\n(.*?)```", look, re.DOTALL)
+        return [block.replace("bin/plant", PLANT) for block in found]
+
+    def test_shell(self):
+        script, printed = self.blocks("sh")
+        ran = subprocess.run(["sh", "-c", script], cwd=ROOT, capture_output=True, text=True, check=True)
+        self.assertEqual(ran.stdout, printed)
+
+    def test_python(self):
+        script, printed = self.blocks("python")
+        ran = subprocess.run([sys.executable, "-c", script], cwd=ROOT, capture_output=True, text=True, check=True)
+        self.assertEqual(ran.stdout, printed)
 
 
 if __name__ == "__main__":
