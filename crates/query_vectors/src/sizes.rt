@@ -60,7 +60,8 @@ b\0c\x0b\0\x02\0\0\0price\0size\0\0\0\x02\0\0\0\x07\0\x04\0\0\0",
     }
     value.extend_from_slice(b"\x07\0\x04\0\0\0")?;
     for group in 0..4i64 {
-        value.extend_from_slice(&(2_499_900_000 + 50_000 * group).to_le_bytes())?;
+        let total = group.wrapping_mul(50_000).wrapping_add(2_499_900_000);
+        value.extend_from_slice(&total.to_le_bytes())?;
     }
     Ok(value)
 }
