@@ -1,4 +1,6 @@
 pub mod Appends
+pub mod Calls
+pub mod Gates
 pub mod Halves
 pub mod Images
 pub mod Layouts

@@ -1,5 +1,5 @@
 -- What a load leaves.
-use Rattle.std.proofs.Common.{◌≡◌, ◌⊎◌, inl, inr, ℕ, ◌+◌, List, [], ◌∷◌, ◌++◌, length, take, sym, ◌∙◌, ap, subst, arith, append_assoc, length-append, Result, Ok, Err, None}
+use Rattle.std.proofs.Common.{◌≡◌, ◌⊎◌, inl, inr, ℕ, ◌+◌, List, [], ◌∷◌, ◌++◌, length, take, replicate, sym, ◌∙◌, ap, subst, arith, append_assoc, length-append, Result, Ok, Err, None}
 use Rattle.std.proofs.lemmas.List.{take_at, ext_get_or}
 use Rattle.outside_api.specs.declared.disk.DiskFault.{DiskFault}
 use Rattle.outside_api.specs.Disk.{FileState, DiskView, IsImage, Changes, Passes, Syncing, kept_file}
@@ -24,8 +24,15 @@ sync_images (Err e) old new w image is = inl (subst (λ (f : FileState). IsImage
 pub synced : {T : Type 0} (old new : DiskView) (file : ℕ) (result : Result T DiskFault) → Changes old new file (Syncing result) → Passes old new file (WasThere (old.now file))
 synced old new file result changes = passes_one old new file (Syncing result) (WasThere (old.now file)) changes (sync_images result (old.now file) (new.now file) changes.changed)
 
-pub still : (old mid new : DiskView) (file : ℕ) (P : List ℕ → Type 0) → Passes old mid file P → (new.now ≡ mid.now) × (new.past ≡ mid.past) → Passes old new file P
-still old mid new file P a same = passes_on old mid new file P a (passes_still mid new file P same.0 same.1)
+-- a sync that succeeded, and reads after it
+pub synced_still : (old mid new : DiskView) (file : ℕ) → Changes old mid file (λ (a b : FileState). b ≡ kept_file a.bytes)
+    → (new.now ≡ mid.now) × ((moments : ℕ) × (new.past ≡ mid.past ++ replicate moments mid.now)) → Passes old new file (WasThere (old.now file))
+synced_still old mid new file changes same =
+    passes_on old mid new file (WasThere (old.now file)) (passes_one old mid file (λ (a b : FileState). b ≡ kept_file a.bytes) (WasThere (old.now file)) changes images)
+    (passes_still mid new file (WasThere (old.now file)) same.0 same.1.0 same.1.1 images)
+  where
+    images : (image : List ℕ) → IsImage (mid.now file) image → WasThere (old.now file) image
+    images image is = inr (kept_image (old.now file).bytes image (subst (λ (f : FileState). IsImage f image) changes.changed is))
 
 shut_of_rest : (bytes front rest : List ℕ) (end : ℕ) → length front ≡ end → bytes ≡ front ++ rest → IsEnd rest → IsShut (kept_file bytes) front end
 shut_of_rest bytes front [] end sized split ends = absurd ends

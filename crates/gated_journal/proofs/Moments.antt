@@ -1,5 +1,5 @@
 -- How a run of device calls goes on.
-use Rattle.std.proofs.Common.{◌≡◌, ◌≢◌, ℕ, List, [], ◌∷◌, ◌++◌, refl, sym, ◌∙◌, ap, append_assoc}
+use Rattle.std.proofs.Common.{◌≡◌, ◌≢◌, ℕ, zero, suc, List, [], ◌∷◌, ◌++◌, replicate, refl, sym, ◌∙◌, ap, append_assoc}
 use Rattle.std.proofs.lemmas.List.{append-nil}
 use Rattle.std.specs.List.{AllByRecursion}
 use Rattle.outside_api.specs.Disk.{FileState, DiskView, IsImage, Changes, Passes}
@@ -41,13 +41,23 @@ passes_one old new file Step P c images = record {
   others_now = c.others;
 }
 
--- no moment passed
-pub passes_still : (old new : DiskView) (file : ℕ) (P : List ℕ → Type 0) → new.now ≡ old.now → new.past ≡ old.past → Passes old new file P
-passes_still old new file P now past = record {
-  moments = [];
-  goes_on = (λ i. past i ++ now i ∷ []) ∙ sym (append-nil (old.past ++ old.now ∷ []));
-  images = tt;
-  others = tt;
+replicate_last : {X : Type 0} (n : ℕ) (x : X) → replicate n x ++ x ∷ [] ≡ x ∷ replicate n x
+replicate_last zero x = refl
+replicate_last (suc n) x = ap (λ (l : List _). x ∷ l) (replicate_last n x)
+
+All_replicate : {X : Type 0} (P : X → Type 0) (n : ℕ) (x : X) → P x → AllByRecursion P (replicate n x)
+All_replicate P zero x p = tt
+All_replicate P (suc n) x p = (p, All_replicate P n x p)
+
+-- moments at which nothing changed
+pub passes_still : (old new : DiskView) (file : ℕ) (P : List ℕ → Type 0) → new.now ≡ old.now → (n : ℕ) → new.past ≡ old.past ++ replicate n old.now
+    → ((image : List ℕ) → IsImage (old.now file) image → P image) → Passes old new file P
+passes_still old new file P now n past here = record {
+  moments = replicate n old.now;
+  goes_on = (λ i. past i ++ now i ∷ []) ∙ append_assoc old.past (replicate n old.now) (old.now ∷ [])
+      ∙ ap (λ (l : List Files). old.past ++ l) (replicate_last n old.now) ∙ sym (append_assoc old.past (old.now ∷ []) (replicate n old.now));
+  images = All_replicate (λ (files : Files). (image : List ℕ) → IsImage (files file) image → P image) n old.now here;
+  others = All_replicate (λ (files : Files). (k : ℕ) → k ≢ file → files k ≡ old.now k) n old.now (λ k apart. refl);
   others_now = λ k apart. ap (λ (f : Files). f k) now;
 }
 

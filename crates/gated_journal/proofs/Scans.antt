@@ -1,9 +1,9 @@
 -- A scan of a journal's bytes, gate by gate.
-use Rattle.std.proofs.Common.{◌≡◌, inr, ℕ, ◌+◌, ◌≤◌, ◌<◌, List, [], ◌∷◌, ◌++◌, length, get_or, take, drop, refl, sym, ◌∙◌, ap, subst, arith, append_assoc, length-append, length-take, length-drop, take-append-drop}
-use Rattle.std.proofs.lemmas.List.{drop_more, drop-drop, map_push, length-map}
+use Rattle.std.proofs.Common.{◌≡◌, inl, inr, ℕ, ◌+◌, ◌≤◌, ◌<◌, List, [], ◌∷◌, ◌++◌, length, get_or, take, drop, refl, sym, ◌∙◌, ap, subst, arith, append_assoc, length-append, length-take, length-drop, take-append-drop, Option, Some, None, IfSome}
+use Rattle.std.proofs.lemmas.List.{drop_more, drop-drop, map_push}
 use Rattle.std.specs.Int.{w32, to_le_bytes}
 use Rattle.std.specs.List.{AllByRecursion}
-use Rattle.gated_journal.specs.Format.{open_gate, measured, spelled, before_gate, longest_payload, IsPayload, HasHeader, IsBroken, IsCorrupt}
+use Rattle.gated_journal.specs.Format.{open_gate, measured, spelled, before_gate, longest_payload, IsPayload, HasHeader, IsBroken, IsCorrupt, IsPrefix}
 use Rattle.gated_journal.specs.Records.{bytes_in, payloads_in}
 use Rattle.gated_journal.specs.declared.records.Span.{Span}
 use Rattle.gated_journal.proofs.Reading.{before_gate-push, sized_push}
@@ -20,14 +20,12 @@ module _ (bytes : List ℕ) (spans : List Span) (at : ℕ) (within : at < length
   here : drop at bytes ≡ open_gate ∷ drop (at + 1) bytes
   here = drop_more bytes at 0 within ∙ ap (λ (g : ℕ). g ∷ drop (at + 1) bytes) is_open
 
-  pub broken : (count : ℕ) → count ≡ length spans → IsBroken (open_gate ∷ drop (at + 1) bytes) → IsCorrupt bytes count at
-  broken count counted is = inr (record {
-    payloads = payloads_in bytes spans;
+  pub broken : IsBroken (open_gate ∷ drop (at + 1) bytes) → IsPrefix bytes (payloads_in bytes spans) (Some at)
+  broken is = inr (record {
     rest = open_gate ∷ drop (at + 1) bytes;
     split = split ∙ ap (λ (l : List ℕ). before_gate (payloads_in bytes spans) ++ l) here;
     broken = is;
     sized = sized;
-    counted = counted ∙ sym (length-map spans (bytes_in bytes));
     place = place;
   })
 
@@ -69,3 +67,17 @@ module _ (bytes : List ℕ) (spans : List Span) (at : ℕ) (within : at < length
 
     pub sized_on : AllByRecursion IsPayload (payloads_in bytes next)
     sized_on = subst (λ (l : List (List ℕ)). AllByRecursion IsPayload l) (sym grown) (sized_push (payloads_in bytes spans) payload sized (omega (arith, size, some), omega (arith, size, small)))
+
+-- the fault that ends a prefix, as a load answers it
+pub prefix_corrupt : (file : List ℕ) (records : List (List ℕ)) (fault : Option ℕ) → IsPrefix file records fault → IfSome fault (λ at. IsCorrupt file (length records) at)
+prefix_corrupt file records None is = tt
+prefix_corrupt file records (Some at) (inl strange) = inl (strange.0, ap length strange.1, strange.2)
+prefix_corrupt file records (Some at) (inr breaks) = inr (record {
+  payloads = records;
+  rest = breaks.rest;
+  split = breaks.split;
+  broken = breaks.broken;
+  sized = breaks.sized;
+  counted = refl;
+  place = breaks.place;
+})

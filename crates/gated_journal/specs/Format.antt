@@ -1,5 +1,5 @@
 -- What a journal's file holds.
-use Rattle.std.specs.Prelude.{◌≡◌, ◌≢◌, ◌⊎◌, ◌<◌, ◌≤◌, ℕ, ◌+◌, List, [], ◌∷◌, ◌++◌, length, take}
+use Rattle.std.specs.Prelude.{◌≡◌, ◌≢◌, ◌⊎◌, ◌<◌, ◌≤◌, ℕ, ◌+◌, List, [], ◌∷◌, ◌++◌, length, take, Option, Some, None}
 use Rattle.std.specs.List.{AllByRecursion}
 use Rattle.std.specs.Int.{w32, to_le_bytes, from_le_bytes}
 
@@ -75,3 +75,16 @@ IsStrange file = (take 8 file ≢ magic) ⊎ (length file < 9)
 -- the file is no journal from this offset on, after this number of records
 abbrev pub IsCorrupt : List ℕ → ℕ → ℕ → Type 0
 IsCorrupt file records place = (IsStrange file × (records ≡ 0) × (place ≡ 0)) ⊎ BreaksAt file records place
+
+-- after these records the gate at this offset is open and has no whole record after it
+pub record BreaksAfter (file : List ℕ) (records : List (List ℕ)) (at : ℕ) : Type 0 where
+  pub rest : List ℕ
+  pub split : file ≡ before_gate records ++ rest
+  pub broken : IsBroken rest
+  pub sized : AllByRecursion IsPayload records
+  pub place : at ≡ length (before_gate records)
+
+-- the records of a file up to its first fault, and the offset of that fault, if there is one
+abbrev pub IsPrefix : List ℕ → List (List ℕ) → Option ℕ → Type 0
+IsPrefix file records None = Reads file records
+IsPrefix file records (Some at) = (IsStrange file × (records ≡ []) × (at ≡ 0)) ⊎ BreaksAfter file records at

@@ -1,17 +1,19 @@
 //! A journal: its records in a file, and how they are added.
 ghost use Rattle.std.specs.Prelude.{◌≡◌, ◌≢◌, ◌<◌, ◌≤◌, ◌+◌, ◌^◌, ◌↔◌, ◌++◌, [], ◌∷◌, List, Option, Some, None, ℕ};
-ghost use Rattle.std.specs.Prelude.{IsTrue, length, IfOk, OnOk, OnErr};
-ghost use Rattle.outside_api.specs.Disk.{Counts, IsWithin, Passes, put, kept_file};
+ghost use Rattle.std.specs.Prelude.{IsTrue, length, IfOk, IfSome, OnOk, OnErr};
+ghost use Rattle.outside_api.specs.Disk.{Counts, IsWithin, Passes, Stays, put, kept_file};
 ghost use Rattle.gated_journal.specs.Steps.{KeepsShut, KeepsAjar};
-ghost use Rattle.gated_journal.specs.Format.{Reads, IsCorrupt};
-ghost use Rattle.gated_journal.specs.Load.{LoadCounts, IfCorrupt, KeepsImages};
+ghost use Rattle.outside_api.specs.Calls.{Makes};
+ghost use Rattle.gated_journal.specs.Calls.{AppendMakes, ReadMakes, LoadMakes, record_calls, gate_calls, mend_calls, fresh_calls};
+ghost use Rattle.gated_journal.specs.Format.{Reads, IsCorrupt, IsPrefix};
+ghost use Rattle.gated_journal.specs.Load.{ReadCounts, LoadCounts, IfCorrupt, KeepsImages};
 ghost use Rattle.gated_journal.specs.Journal.{Keeps, IsKept, MayRead, late_of, appended, mended, fresh_bytes};
 
 use crate::layout::{CLOSED_GATE, FIRST_GATE, NO_RECORDS, OPEN_GATE};
 use crate::payload::Payload;
 use crate::records::Records;
-use crate::refusal::JournalRefusal;
-use crate::scan::scan;
+use crate::refusal::{JournalRefusal, ReadRefusal};
+use crate::scan::{ValidPrefix, valid_prefix};
 use crate::state::State;
 use outside_api::{Disk, DiskFault};
 use q_values::NoMemory;
@@ -56,6 +58,7 @@ impl Journal {
         ensures keeps { IfOk result (λ j. Keeps (D.shown disk.new) j [] None) }
         ensures kept { IfOk result (λ j. IsKept (D.shown disk.new) j) }
         ensures bytes { OnOk result (IsTrue (D.shown disk.old).tells → (D.shown disk.new).now file ≡ kept_file fresh_bytes) }
+        ensures calls { Makes (D.shown disk.old) (D.shown disk.new) file fresh_calls result }
         ensures any_moment { IsTrue (D.shown disk.old).tells → Passes (D.shown disk.old) (D.shown disk.new) file (λ _. Unit {0}) }
         ensures counts { Counts (D.shown disk.old) (D.shown disk.new) result }
     {
@@ -90,17 +93,43 @@ impl Journal {
         ensures synced { OnOk result (IsTrue (D.shown disk.old).tells
             → (D.shown disk.new).now file ≡ kept_file ((D.shown disk.old).now file).bytes) }
         ensures bytes { IsTrue (D.shown disk.old).tells → ((D.shown disk.new).now file).bytes ≡ ((D.shown disk.old).now file).bytes }
+        ensures calls { LoadMakes (D.shown disk.old) (D.shown disk.new) file result }
         ensures any_moment { KeepsImages (D.shown disk.old) (D.shown disk.new) file }
         ensures counts { LoadCounts (D.shown disk.old) (D.shown disk.new) result }
     {
-        let bytes = read_whole(alloc, disk, file)?;
-        let (end, spans) = scan(alloc, bytes.as_slice())?;
-        let journal = Journal {
-            file,
-            end: end as u64,
-            state: State::Clean,
-        };
-        Ok((journal, Records::from_parts(bytes, spans)))
+        disk.sync(file)?; // from here on a crash leaves what is read
+        let ValidPrefix { records, fault } = Journal::read_valid(alloc, disk, file)?;
+        match fault {
+            Some(bytes) => {
+                let records = records.len() as u64;
+                Err(JournalRefusal::Corrupt { records, bytes })
+            }
+            None => {
+                let end = records.end();
+                let state = State::Clean;
+                Ok((Journal { file, end, state }, records))
+            }
+        }
+    }
+
+    /// Reads a file as it is, and gives its records up to the first fault, with the offset of that fault. It writes
+    /// nothing and syncs nothing, so a crash may leave less than what it gives. Time and memory are linear in the size of
+    /// the file.
+    pub fn read_valid<D: Disk>(
+        alloc: Global,
+        disk: &mut D,
+        file: u64,
+    ) -> Result<ValidPrefix, ReadRefusal>
+        ensures prefix { IfOk result (λ v. IsTrue (D.shown disk.old).tells
+            → IsPrefix ((D.shown disk.old).now file).bytes v.records v.fault) }
+        ensures corrupt { IfOk result (λ v. IfSome v.fault (λ at. IsTrue (D.shown disk.old).tells
+            → IsCorrupt ((D.shown disk.old).now file).bytes (length v.records) at)) }
+        ensures calls { ReadMakes (D.shown disk.old) (D.shown disk.new) file result }
+        ensures stays { Stays (D.shown disk.old) (D.shown disk.new) }
+        ensures counts { ReadCounts (D.shown disk.old) (D.shown disk.new) result }
+    {
+        let bytes = read_file(alloc, disk, file)?;
+        Ok(valid_prefix(alloc, bytes)?)
     }
 
     /// Whether the last append or repair succeeded. Otherwise the journal must be repaired before the next append.
@@ -122,6 +151,8 @@ impl Journal {
             → Keeps (D.shown disk.new) self.new (records ++ payload.now.bytes ∷ []) None) }
         ensures failed { OnErr result ((records : List (List ℕ)) → Keeps (D.shown disk.old) self.old records None
             → Keeps (D.shown disk.new) self.new records (late_of self.new.state payload.now.bytes)) }
+
+        ensures calls { AppendMakes (D.shown disk.old) (D.shown disk.new) self.old payload.now.bytes self.new.state result }
 
         // At each moment of the call each image has the records from before it, or these and the new one.
         ensures any_moment { (records : List (List ℕ)) → Keeps (D.shown disk.old) self.old records None → IsTrue (D.shown disk.old).tells
@@ -157,6 +188,8 @@ impl Journal {
         ensures failed { OnErr result ((records : List (List ℕ)) (late : Option (List ℕ)) → Keeps (D.shown disk.old) self.old records late
             → Keeps (D.shown disk.new) self.new records late) }
 
+        ensures calls { Makes (D.shown disk.old) (D.shown disk.new) self.old.file (mend_calls self.old.state self.old.end) result }
+
         // At each moment of the call each image has what one before it might have.
         ensures any_moment { (records : List (List ℕ)) (late : Option (List ℕ)) → Keeps (D.shown disk.old) self.old records late
             → IsTrue (D.shown disk.old).tells → Passes (D.shown disk.old) (D.shown disk.new) self.old.file (MayRead records late) }
@@ -181,18 +214,14 @@ impl Journal {
     }
 }
 
-// The bytes of a file, after a sync.
-fn read_whole<D: Disk>(alloc: Global, disk: &mut D, file: u64) -> Result<Vec<u8>, JournalRefusal>
+// The bytes of a file, as reads give them.
+fn read_file<D: Disk>(alloc: Global, disk: &mut D, file: u64) -> Result<Vec<u8>, ReadRefusal>
     ensures bytes { IfOk result (λ b. IsTrue (D.shown disk.old).tells → b.items ≡ ((D.shown disk.old).now file).bytes) }
     ensures small { IfOk result (λ b. length b.items < 2 ^ 63) }
-    ensures synced { OnOk result (IsTrue (D.shown disk.old).tells
-        → (D.shown disk.new).now file ≡ kept_file ((D.shown disk.old).now file).bytes) }
-    ensures same { IsTrue (D.shown disk.old).tells → ((D.shown disk.new).now file).bytes ≡ ((D.shown disk.old).now file).bytes }
-    ensures any_moment { KeepsImages (D.shown disk.old) (D.shown disk.new) file }
-    ensures counts { LoadCounts (D.shown disk.old) (D.shown disk.new) result }
-    ensures no_corrupt { IfCorrupt result (λ _ _. ⊥) }
+    ensures calls { ReadMakes (D.shown disk.old) (D.shown disk.new) file result }
+    ensures stays { Stays (D.shown disk.old) (D.shown disk.new) }
+    ensures counts { ReadCounts (D.shown disk.old) (D.shown disk.new) result }
 {
-    disk.sync(file)?; // from here on a crash leaves what is read
     let size = disk.size(file)?;
     let mut bytes = zeroes(alloc, size as usize)?;
     disk.read(file, 0, bytes.as_mut_slice())?;
@@ -211,6 +240,7 @@ fn write_record<D: Disk>(disk: &mut D, file: u64, end: u64, body: &[u8]) -> Resu
     requires small { end < 2 ^ 63 }
     requires within { IsWithin (D.shown disk.old) file (end + 1) 0 }
     ensures small { OnOk result (end + 1 + length body.now < 2 ^ 63) }
+    ensures calls { Makes (D.shown disk.old) (D.shown disk.new) file (record_calls end body.now) result }
     ensures shut { KeepsShut (D.shown disk.old) (D.shown disk.new) file end }
     ensures kept { OnOk result (IsTrue (D.shown disk.old).tells →
         (D.shown disk.new).now file ≡ kept_file (put ((D.shown disk.old).now file).bytes (end + 1) body.now)) }
@@ -223,6 +253,7 @@ fn write_record<D: Disk>(disk: &mut D, file: u64, end: u64, body: &[u8]) -> Resu
 // Writes the last gate, and syncs.
 fn write_gate<D: Disk>(disk: &mut D, file: u64, end: u64, gate: u8) -> Result<(), DiskFault>
     requires within { IsWithin (D.shown disk.old) file end 0 }
+    ensures calls { Makes (D.shown disk.old) (D.shown disk.new) file (gate_calls end gate) result }
     ensures ajar { KeepsAjar (D.shown disk.old) (D.shown disk.new) file end }
     ensures kept { OnOk result (IsTrue (D.shown disk.old).tells →
         (D.shown disk.new).now file ≡ kept_file (put ((D.shown disk.old).now file).bytes end (gate ∷ []))) }

@@ -38,5 +38,8 @@ pub const PAYLOAD_OFFSET: usize = 5;
 /// The number of bytes that a record takes beside its payload: its length, and the gate after it.
 pub const RECORD_OVERHEAD: usize = 5;
 
+/// No file reaches this number of bytes.
+pub const FILE_LIMIT: usize = 1 << 63;
+
 /// The greatest number of bytes of a payload.
 pub const LONGEST_PAYLOAD: u32 = 2_147_483_647;

@@ -32,5 +32,6 @@ pub use laws::reads_in_one_way;
 pub use payload::Payload;
 pub use payloads::Payloads;
 pub use records::Records;
-pub use refusal::JournalRefusal;
+pub use refusal::{JournalRefusal, ReadRefusal};
+pub use scan::ValidPrefix;
 pub use state::State;

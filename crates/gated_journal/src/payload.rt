@@ -44,6 +44,31 @@ impl Payload {
         })
     }
 
+    /// The bytes of a buffer after its first four, which are written over with their number; there are from 1 to
+    /// 2,147,483,647. It takes no memory where the buffer has room for one more byte.
+    pub fn from_buffer(mut buffer: Vec<u8>) -> Result<Payload, NoMemory>
+        requires some { 5 ≤ length buffer.items }
+        requires short { length buffer.items ≤ longest_payload + 4 }
+        ensures bytes { IfOk result (λ p. p.bytes ≡ drop 4 buffer.items) }
+        ensures room { IfOk result (λ p. p.room + 4 ≡ length buffer.items) }
+    {
+        let len = buffer.as_slice().len() - LENGTH_BYTES;
+        buffer.reserve(1)?;
+        put_at(buffer.as_mut_slice(), 0, &(len as u32).to_le_bytes());
+        buffer.push_reserved(CLOSED_GATE);
+        Ok(Payload { buffer, len })
+    }
+
+    /// A buffer of four bytes, in the memory of the payload. A payload that is appended to it and given to
+    /// [`Payload::from_buffer`] is built in place.
+    pub fn into_buffer(self) -> Vec<u8>
+        ensures { length result.items ≡ 4 }
+    {
+        let Payload { mut buffer, len: _ } = self;
+        buffer.truncate(LENGTH_BYTES);
+        buffer
+    }
+
     /// The payload is these bytes, from 1 to its room. It takes no memory.
     pub fn fill(&mut self, bytes: &[u8])
         requires some { 0 < length bytes.now }

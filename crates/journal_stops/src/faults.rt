@@ -103,6 +103,7 @@ fn append_faults(rt: HostRuntime) -> Result<(), Fail> {
     for place in 0..4 {
         assert!(rt; mends_an_append(alloc, place, Calling::FailsUndone)?);
         assert!(rt; mends_an_append(alloc, place, Calling::FailsDone)?);
+        assert!(rt; mends_an_append(alloc, place, Calling::FailsTorn(1))?);
     }
     Ok(())
 }

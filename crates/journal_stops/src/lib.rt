@@ -1,8 +1,9 @@
 //! Tests of `gated_journal` over a disk in memory: each call of the disk failing in turn, and a crash after each.
 //!
-//! `bytes` compares the bytes of a journal with their written layout, and loads each kind of corrupt file. `faults` lets
-//! one call of an append, a repair and a load fail, done or undone, and looks which records are found afterwards. `stops`
-//! takes the disk down after each call of an append and restarts it with four images of what wasn't synced:
+//! `bytes` compares the bytes of a journal with their written layout, and loads each kind of corrupt file. `prefix` reads
+//! files up to their first fault. `faults` lets one call of an append, a repair and a load fail, undone, torn at a byte or
+//! done, and looks which records are found afterwards. `stops` takes the disk down after each call of an append, also one
+//! that fails, and restarts it with images of what wasn't synced: kept, lost, torn at a byte, or as it was before:
 //!
 //! ```text
 //! after call  0 1 2      3 (the gate was written, not synced)     4 (synced)
@@ -17,6 +18,8 @@
 mod bytes;
 #[cfg(test)]
 mod faults;
+#[cfg(test)]
+mod prefix;
 #[cfg(test)]
 mod steps;
 #[cfg(test)]

@@ -1,5 +1,6 @@
 -- What a disk of numbered files holds, and what a crash at a moment may leave of it.
 use Rattle.std.specs.Prelude.{◌≡◌, ◌≢◌, ◌⊎◌, ◌<◌, ◌≤◌, ℕ, ◌+◌, max, min, Bool, IsTrue, List, [], ◌∷◌, ◌++◌, length, take, drop, slice_index, Result, Ok, Err}
+use Rattle.std.specs.Prelude.{replicate}
 use Rattle.std.specs.List.{AllByRecursion}
 use Rattle.outside_api.specs.Counts.{counted, last_count}
 use Rattle.outside_api.specs.declared.disk.DiskFault.{DiskFault}
@@ -45,9 +46,13 @@ abbrev pub Counts : {T : Type 0} → DiskView → DiskView → Result T DiskFaul
 Counts old new (Ok _) = (new.faults ≡ old.faults) × (new.tells ≡ old.tells)
 Counts old new (Err _) = (new.faults ≡ counted old.faults 1) × (new.tells ≡ old.tells)
 
--- where the disk reports, no moment passed
+-- where the disk reports, one moment passed, and nothing changed
+abbrev pub Looks : DiskView → DiskView → Type 0
+Looks old new = IsTrue old.tells → (new.now ≡ old.now) × (new.past ≡ old.past ++ old.now ∷ [])
+
+-- where the disk reports, nothing changed, however many moments passed
 abbrev pub Stays : DiskView → DiskView → Type 0
-Stays old new = IsTrue old.tells → (new.now ≡ old.now) × (new.past ≡ old.past)
+Stays old new = IsTrue old.tells → (new.now ≡ old.now) × ((moments : ℕ) × (new.past ≡ old.past ++ replicate moments old.now))
 
 -- one moment more, at which this file has changed so, and no other has
 pub record Changes (old new : DiskView) (file : ℕ) (Step : FileState → FileState → Type 0) : Type 0 where

@@ -10,11 +10,11 @@ pub struct DiskFault;
 
 /// Numbered files of bytes. A file that was never written has size 0, and each size is below 2^63.
 ///
-/// A disk may report what its files hold, for each moment: between two calls, and after each write, truncation and sync,
-/// whether that failed or not. A crash at a moment leaves an image of each file as it is then; a crash within a call
-/// leaves what one before the call or one after it may leave.
+/// A disk may report what its files hold, for each moment: one after each call, whether that failed or not. So the moments
+/// also tell how many calls were made. A crash at a moment leaves an image of each file as it is then; a crash within a
+/// call leaves what one before the call or one after it may leave.
 pub trait Disk {
-    ghost use Rattle.outside_api.specs.Disk.{DiskView, Counts, Stays, Changes, IsWithin, Writing, Cutting, Syncing};
+    ghost use Rattle.outside_api.specs.Disk.{DiskView, Counts, Looks, Changes, IsWithin, Writing, Cutting, Syncing};
 
     /// What it shows: its count of faults and, where it reports them, its files at each moment.
     ghost shown: { Self → DiskView };
@@ -23,7 +23,7 @@ pub trait Disk {
     fn size(&mut self, file: u64) -> Result<u64, DiskFault>
         ensures size { IfOk result (λ n. IsTrue (shown self.old).tells → n ≡ length ((shown self.old).now file).bytes) }
         ensures small { IfOk result (λ n. n < 2 ^ 63) }
-        ensures stays { Stays (shown self.old) (shown self.new) }
+        ensures looks { Looks (shown self.old) (shown self.new) }
         ensures counts { Counts (shown self.old) (shown self.new) result };
 
     /// Fills the buffer with the bytes from the offset `at` on.
@@ -31,7 +31,7 @@ pub trait Disk {
         requires { IsWithin (shown self.old) file at (length buf.old) }
         ensures bytes { OnOk result (IsTrue (shown self.old).tells →
             buf.new ≡ take (length buf.old) (drop at ((shown self.old).now file).bytes)) }
-        ensures stays { Stays (shown self.old) (shown self.new) }
+        ensures looks { Looks (shown self.old) (shown self.new) }
         ensures counts { Counts (shown self.old) (shown self.new) result };
 
     /// Writes the bytes from the offset `at` on, over what is there and past the end. Until a sync, a crash may leave any

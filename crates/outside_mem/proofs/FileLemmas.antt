@@ -1,12 +1,15 @@
 -- Ranges of a file in memory, and files by their number.
-use Rattle.std.proofs.Common.{◌≡◌, ◌≢◌, ◌⊎◌, inl, inr, ◌<◌, ◌≤◌, ◌+◌, ℕ, zero, suc, List, [], ◌∷◌, ◌++◌, length, take, slice_index, get_or, set, refl, sym, ◌∙◌, ap, subst, arith}
+use Rattle.std.proofs.Common.{◌≡◌, ◌≢◌, ◌⊎◌, inl, inr, ◌<◌, ◌≤◌, ◌+◌, ◌-◌, ℕ, zero, suc, List, [], ◌∷◌, ◌++◌, length, take, drop, slice_index, get_or, set, refl, sym, ◌∙◌, ap, subst, arith, append_assoc, length-append, length-take, length-drop}
 use Rattle.std.proofs.lemmas.Bool.{cases_eq, cases_lt}
 use Rattle.std.proofs.lemmas.Bool.Decides.{nat_tests}
-use Rattle.outside_api.specs.Disk.{IsOutside, FileState, empty_file, kept_file}
-use Rattle.outside_mem.specs.MemFile.{file_in, ChangesFile, IsFirst, IsAbsent, IsAbsentBefore, IsInside, IsChosen, IsLeft}
+use Rattle.std.proofs.lemmas.List.{take_at, drop_at, drop-drop}
+use Rattle.std.proofs.lemmas.Option.{slice_get_read, get_or_from_slice_get}
+use Rattle.outside_api.specs.Disk.{IsOutside, IsTorn, put, FileState, empty_file, kept_file}
+use Rattle.outside_mem.specs.MemFile.{file_in, ChangesFile, IsFirst, IsAbsent, IsAbsentBefore, IsInside, IsChosen, IsLeft, IsLeftSo, IsRangeLeft}
 use Rattle.outside_mem.specs.MemDisk.{AreLeft}
 use Rattle.outside_mem.specs.declared.calling.Leaving.{Leaving}
-use Rattle.outside_mem.specs.declared.calling.Leaving.TheVariants.{Whole, Torn, Shortest}
+use Rattle.outside_mem.specs.declared.calling.Leaving.TheVariants.{Whole, Torn, Shortest, Range}
+use Rattle.outside_mem.specs.declared.calling.RangeLeft.{RangeLeft}
 use Rattle.outside_mem.specs.declared.files.Numbered.{Numbered}
 
 -- a place outside all ranges lies outside each
@@ -14,6 +17,42 @@ pub outside_at : (j : ℕ) (ranges : List (ℕ × ℕ)) (i : ℕ) (d : ℕ × �
 outside_at j [] i d less all = absurd (omega arith)
 outside_at j (range ∷ ranges) zero d less all = all.0
 outside_at j (range ∷ ranges) (suc i) d less all = outside_at j ranges i d (omega arith) all.1
+
+-- one of the ranges was left so
+pub left_so : (index : ℕ) (left : RangeLeft) (f : FileState) (range : ℕ × ℕ) (old new : List ℕ) → index < length f.unsynced → range ≡ get_or f.unsynced index range → old ≡ f.bytes → length new ≡ length old
+    → ((k : ℕ) → (k < range.0) ⊎ (range.0 + range.1 ≤ k) → slice_index new k ≡ slice_index old k) → IsRangeLeft left range.0 range.1 old new → IsLeftSo index left f new
+left_so index left f range old new less is same size others so =
+    let at : get_or f.unsynced index (0, 0) ≡ range = get_or_from_slice_get f.unsynced index range (0, 0) (slice_get_read f.unsynced (length f.unsynced) index range refl less is) in
+    record {
+      size = size ∙ ap length same;
+      others = λ k outside. others k (subst (λ (r : ℕ × ℕ). (k < r.0) ⊎ (r.0 + r.1 ≤ k)) at (outside_at k f.unsynced index (0, 0) less outside)) ∙ ap (λ (l : List ℕ). slice_index l k) same;
+      so = λ less'. subst (λ (r : ℕ × ℕ). IsRangeLeft left r.0 r.1 f.bytes new) (sym at) (subst (λ (l : List ℕ). IsRangeLeft left range.0 range.1 l new) same so);
+      none = λ le. absurd (omega arith);
+    }
+
+-- a write of which only a part was done
+pub part_torn : (old part : List ℕ) (at n : ℕ) → at ≤ length old → length part ≤ n → IsTorn at n old (put old at part)
+part_torn old part at n within le =
+    let front : length (take at old) ≡ at = omega (arith, length-take at old) in
+    let whole : put old at part ≡ take at old ++ (part ++ drop (at + length part) old) = append_assoc (take at old) part (drop (at + length part) old) in
+    let size : length (put old at part) ≡ at + (length part + length (drop (at + length part) old)) =
+    omega (arith, ap length whole, front, length-append (take at old) (part ++ drop (at + length part) old), length-append part (drop (at + length part) old)) in
+    let rest = length-drop (at + length part) old in
+    let both : length (take at old ++ part) ≡ at + length part = omega (arith, front, length-append (take at old) part) in
+    let after : drop (at + length part) (put old at part) ≡ drop (at + length part) old = drop_at (take at old ++ part) (drop (at + length part) old) (at + length part) both in
+    record {
+      before = ap (take at) whole ∙ take_at (take at old) (part ++ drop (at + length part) old) at front;
+      after =
+          let sum : at + length part + (n - length part) ≡ at + n = omega (arith, le) in
+          ap (λ (k : ℕ). drop k (put old at part)) (sym sum) ∙ sym (drop-drop (n - length part) (at + length part) (put old at part))
+          ∙ ap (drop (n - length part)) after ∙ drop-drop (n - length part) (at + length part) old ∙ ap (λ (k : ℕ). drop k old) sum;
+      no_shorter = omega (arith, size, rest);
+      no_longer = omega (arith, size, rest, within, le);
+    }
+
+-- a slice of a whole vector, written back
+pub written_back : (new items : List ℕ) (len : ℕ) → len ≡ length items → length new ≡ length items → take len (new ++ drop (length new) items) ≡ new
+written_back new items len size same = take_at new (drop (length new) items) len (same ∙ sym size)
 
 -- a place within the first ranges lies within those before the last of them, or within that
 pub inside_first : (j : ℕ) (ranges : List (ℕ × ℕ)) (i : ℕ) (d : ℕ × ℕ) → i < length ranges → IsInside j (take (suc i) ranges) → IsInside j (take i ranges) ⊎ (((get_or ranges i d).0 ≤ j) × (j < (get_or ranges i d).0 + (get_or ranges i d).1))
@@ -156,6 +195,7 @@ nothing_left : (leaving : Leaving) → IsChosen leaving empty_file []
 nothing_left Whole = refl
 nothing_left (Torn byte) = record { size = refl; others = λ k outside. refl; torn = λ k less inside. absurd inside }
 nothing_left Shortest = refl
+nothing_left (Range index left) = record { size = refl; others = λ k outside. refl; so = λ less. absurd (omega arith); none = λ le. refl }
 
 pub all_left : (leaving : Leaving) (xs ys : List Numbered) → AllLeft leaving xs ys → AreLeft leaving (file_in xs) (file_in ys)
 unfolding file_in

@@ -1,2 +1,3 @@
+pub mod DiskLemmas
 pub mod FileLemmas
 pub mod PiecesLemmas

@@ -1,8 +1,10 @@
 -- A file in memory, and the files of a disk in memory.
-use Rattle.std.specs.Prelude.{◌≡◌, ◌≢◌, ◌⊎◌, ◌<◌, ◌≤◌, ◌+◌, ◌==◌, ℕ, List, [], ◌∷◌, length, take, slice_index, get_or, if◌then◌else◌}
+use Rattle.std.specs.Prelude.{◌≡◌, ◌≢◌, ◌⊎◌, ◌<◌, ◌≤◌, ◌+◌, ◌-◌, ◌==◌, ℕ, List, [], ◌∷◌, length, take, slice_index, get_or, min, if◌then◌else◌}
 use Rattle.outside_api.specs.Disk.{FileState, IsOutside, IsImage, empty_file}
 use Rattle.outside_mem.specs.declared.calling.Leaving.{Leaving}
-use Rattle.outside_mem.specs.declared.calling.Leaving.TheVariants.{Whole, Torn, Shortest}
+use Rattle.outside_mem.specs.declared.calling.Leaving.TheVariants.{Whole, Torn, Shortest, Range}
+use Rattle.outside_mem.specs.declared.calling.RangeLeft.{RangeLeft}
+use Rattle.outside_mem.specs.declared.calling.RangeLeft.TheVariants as range
 use Rattle.outside_mem.specs.declared.files.Numbered.{Numbered}
 
 -- the file of this number: the first one that has it, or one that was never written
@@ -37,11 +39,26 @@ pub record IsTornBy (byte : ℕ) (file : FileState) (image : List ℕ) : Type 0 
   pub others : (k : ℕ) → IsOutside k file.unsynced → slice_index image k ≡ slice_index file.bytes k
   pub torn : (k : ℕ) → k < length image → IsInside k file.unsynced → slice_index image k ≡ byte
 
+-- what a crash leaves of a range of n bytes from an offset on, where what was there before isn't known
+abbrev pub IsRangeLeft : RangeLeft → ℕ → ℕ → List ℕ → List ℕ → Type 0
+IsRangeLeft range.Kept at n bytes image = image ≡ bytes
+IsRangeLeft (range.Lost byte) at n bytes image = (k : ℕ) → k < length image → at ≤ k → k < at + n → slice_index image k ≡ byte
+IsRangeLeft (range.Torn count) at n bytes image = (k : ℕ) → k < at + min count n → slice_index image k ≡ slice_index bytes k
+IsRangeLeft range.Old at n bytes image = Unit {0}
+
+-- these are the file's bytes, but in the range of this index, which is left so; all of them where there is no such range
+pub record IsLeftSo (index : ℕ) (left : RangeLeft) (file : FileState) (image : List ℕ) : Type 0 where
+  pub size : length image ≡ length file.bytes
+  pub others : (k : ℕ) → IsOutside k file.unsynced → slice_index image k ≡ slice_index file.bytes k
+  pub so : index < length file.unsynced → let range = get_or file.unsynced index (0, 0) in IsRangeLeft left range.0 range.1 file.bytes image
+  pub none : length file.unsynced ≤ index → image ≡ file.bytes
+
 -- what a crash leaves of a file, as it was chosen
 abbrev pub IsChosen : Leaving → FileState → List ℕ → Type 0
 IsChosen Whole file image = image ≡ file.bytes
 IsChosen (Torn byte) file image = IsTornBy byte file image
 IsChosen Shortest file image = image ≡ take file.least file.bytes
+IsChosen (Range index left) file image = IsLeftSo index left file image
 
 -- what a crash leaves of a file is one of its images, and the one that was chosen
 pub record IsLeft (leaving : Leaving) (file : FileState) (left : List ℕ) : Type 0 where

@@ -72,22 +72,24 @@ impl Files {
         }
     }
 
-    /// Writes the bytes from the offset `at` on. A refused call changes no file.
+    /// Writes the bytes from the offset `at` on, of a write of `size` bytes. A refused call changes no file.
     pub fn write(
         &mut self,
         alloc: Global,
         number: u64,
         at: u64,
         bytes: &[u8],
+        size: u64,
     ) -> Result<(), NoMemory>
         requires within { at ≤ length (file_in self.old number).bytes }
-        requires small { at + length bytes.now < 2 ^ 63 }
+        requires part { length bytes.now ≤ size }
+        requires small { at + size < 2 ^ 63 }
         ensures ok { OnOk result (ChangesFile (file_in self.old) (file_in self.new) number
-            (written (file_in self.old number) at (length bytes.now) (put (file_in self.old number).bytes at bytes.now))) }
+            (written (file_in self.old number) at size (put (file_in self.old number).bytes at bytes.now))) }
         ensures err { OnErr result ((k : ℕ) → file_in self.new k ≡ file_in self.old k) }
     {
         let i = self.entry(alloc, number)?;
-        self.entries[i].file.write(at, bytes)
+        self.entries[i].file.write(alloc, at, bytes, size)
     }
 
     // The index of the file of this number, which is made where it is missing.

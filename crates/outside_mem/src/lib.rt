@@ -33,7 +33,7 @@ mod steady;
 mod taking;
 mod tape;
 
-pub use calling::{Calling, Leaving};
+pub use calling::{Calling, Leaving, RangeLeft};
 pub use clock::{MemClock, Moments};
 pub use gate::NoGate;
 pub use input::Piece;

@@ -148,7 +148,7 @@ impl MemDisk {
 }
 
 impl Disk for MemDisk {
-    ghost use Rattle.outside_api.specs.Disk.{Counts, Stays, Changes, IsWithin, Writing, Cutting, Syncing};
+    ghost use Rattle.outside_api.specs.Disk.{Counts, Looks, Changes, IsWithin, Writing, Cutting, Syncing};
     ghost use Rattle.outside_mem.specs.MemDisk.{Goes, GoesFreely};
 
     ghost shown = { shown_by };
@@ -156,12 +156,14 @@ impl Disk for MemDisk {
     fn size(&mut self, file: u64) -> Result<u64, DiskFault>
         ensures size { IfOk result (λ n. IsTrue (shown_by self.old).tells → n ≡ length ((shown_by self.old).now file).bytes) }
         ensures small { IfOk result (λ n. n < 2 ^ 63) }
-        ensures stays { Stays (shown_by self.old) (shown_by self.new) }
+        ensures looks { Looks (shown_by self.old) (shown_by self.new) }
         ensures counts { Counts (shown_by self.old) (shown_by self.new) result }
         ensures plays { PlaysOn self.old self.new }
         ensures goes { GoesFreely self.old self.new result }
     {
-        if self.next() != Calling::Succeeds {
+        let calling = self.next();
+        self.past.push(&self.files);
+        if calling != Calling::Succeeds {
             return Err(self.fault());
         }
         Ok(self.files.bytes_of(file).len() as u64)
@@ -171,12 +173,14 @@ impl Disk for MemDisk {
         requires { IsWithin (shown_by self.old) file at (length buf.old) }
         ensures bytes { OnOk result (IsTrue (shown_by self.old).tells →
             buf.new ≡ take (length buf.old) (drop at ((shown_by self.old).now file).bytes)) }
-        ensures stays { Stays (shown_by self.old) (shown_by self.new) }
+        ensures looks { Looks (shown_by self.old) (shown_by self.new) }
         ensures counts { Counts (shown_by self.old) (shown_by self.new) result }
         ensures plays { PlaysOn self.old self.new }
         ensures goes { GoesFreely self.old self.new result }
     {
-        if self.next() != Calling::Succeeds {
+        let calling = self.next();
+        self.past.push(&self.files);
+        if calling != Calling::Succeeds {
             return Err(self.fault());
         }
         let bytes = self.files.bytes_of(file);
@@ -200,10 +204,12 @@ impl Disk for MemDisk {
         if at >= SIZE_LIMIT || bytes.len() as u64 >= SIZE_LIMIT - at {
             return Err(self.short_fault());
         }
-        if self.files.write(self.alloc, file, at, bytes).is_err() {
+        let size = bytes.len() as u64;
+        let part = part_of(calling, bytes);
+        if self.files.write(self.alloc, file, at, part, size).is_err() {
             return Err(self.short_fault());
         }
-        if calling == Calling::FailsDone {
+        if calling != Calling::Succeeds {
             return Err(self.fault());
         }
         Ok(())
@@ -222,7 +228,7 @@ impl Disk for MemDisk {
             return Err(self.fault());
         }
         self.files.cut(file, size);
-        if calling == Calling::FailsDone {
+        if calling != Calling::Succeeds {
             return Err(self.fault());
         }
         Ok(())
@@ -241,6 +247,17 @@ impl Disk for MemDisk {
         }
         self.files.sync(file);
         Ok(())
+    }
+}
+
+// What a write of these bytes writes.
+fn part_of(calling: Calling, bytes: &[u8]) -> &[u8]
+    ensures within { length result.now ≤ length bytes.now }
+    ensures whole { calling ≡ Calling.Succeeds → result.now ≡ bytes.now }
+{
+    match calling {
+        Calling::FailsTorn(count) => &bytes[..bytes.len().min(count as usize)],
+        Calling::Succeeds | Calling::FailsUndone | Calling::FailsDone => bytes,
     }
 }
 

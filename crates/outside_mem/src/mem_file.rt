@@ -1,10 +1,10 @@
 //! A file in memory, and what a crash may leave of it.
-ghost use Rattle.std.specs.Prelude.{◌≡◌, ◌⊎◌, ◌<◌, ◌≤◌, ◌+◌, ◌^◌, ℕ, length, take, drop, slice_index, IfOk, OnOk, OnErr, [], ◌∷◌};
+ghost use Rattle.std.specs.Prelude.{◌≡◌, ◌⊎◌, ◌<◌, ◌≤◌, ◌+◌, ◌-◌, ◌^◌, ℕ, length, take, drop, slice_index, IfOk, OnOk, OnErr, [], ◌∷◌};
 ghost use Rattle.std.specs.List.{AllByRecursion};
 ghost use Rattle.outside_api.specs.Disk.{put, IsOutside};
-ghost use Rattle.outside_mem.specs.MemFile.{IsInside};
+ghost use Rattle.outside_mem.specs.MemFile.{IsInside, IsLeftSo, IsRangeLeft};
 
-use crate::calling::Leaving;
+use crate::calling::{Leaving, RangeLeft};
 use q_values::NoMemory;
 use std::alloc::Global;
 use std::marker::Model;
@@ -16,6 +16,8 @@ pub struct MemFile {
     bytes: Vec<u8>,
     // What was written since the last sync: pairs of an offset and a number of bytes, each ending below 2^63.
     unsynced: Vec<(u64, u64)>,
+    // For each of these writes the bytes that it replaced.
+    replaced: Vec<Vec<u8>>,
     // The least size since the last sync, at most the number of bytes.
     least: u64,
     // The greatest size since the last sync, at least the number of bytes and below 2^63.
@@ -46,6 +48,7 @@ impl MemFile {
         MemFile {
             bytes: Vec::new(alloc),
             unsynced: Vec::new(alloc),
+            replaced: Vec::new(alloc),
             least: 0,
             greatest: 0,
         }
@@ -60,6 +63,7 @@ impl MemFile {
         MemFile {
             bytes,
             unsynced: Vec::new(alloc),
+            replaced: Vec::new(alloc),
             least: size,
             greatest: size,
         }
@@ -73,17 +77,20 @@ impl MemFile {
         self.bytes.as_slice()
     }
 
-    /// Writes the bytes from the offset `at` on. A refused call changes nothing.
-    pub fn write(&mut self, at: u64, bytes: &[u8]) -> Result<(), NoMemory>
+    /// Writes the bytes from the offset `at` on, of a write of `size` bytes. A refused call changes nothing.
+    pub fn write(&mut self, alloc: Global, at: u64, bytes: &[u8], size: u64) -> Result<(), NoMemory>
         requires within { at ≤ length self.old.bytes }
-        requires small { at + length bytes.now < 2 ^ 63 }
-        ensures ok { OnOk result (self.new ≡ written self.old at (length bytes.now) (put self.old.bytes at bytes.now)) }
+        requires part { length bytes.now ≤ size }
+        requires small { at + size < 2 ^ 63 }
+        ensures ok { OnOk result (self.new ≡ written self.old at size (put self.old.bytes at bytes.now)) }
         ensures err { OnErr result (self.new ≡ self.old) }
     {
-        let size = bytes.len() as u64;
         self.unsynced.reserve(1)?;
+        self.replaced.reserve(1)?;
+        let before = bytes_from(alloc, self.bytes.as_slice(), at as usize, bytes.len())?;
         write_over(&mut self.bytes, at as usize, bytes)?;
         self.unsynced.push_reserved((at, size));
+        self.replaced.push_reserved(before);
         self.greatest = self.greatest.max(at + size);
         Ok(())
     }
@@ -103,6 +110,7 @@ impl MemFile {
     {
         let size = self.bytes.as_slice().len() as u64;
         self.unsynced.clear();
+        self.replaced.clear();
         self.least = size;
         self.greatest = size;
     }
@@ -123,8 +131,39 @@ impl MemFile {
                 alloc,
                 &self.bytes.as_slice()[..self.least as usize],
             )?),
+            Leaving::Range { index, left } => self.image_of_range(alloc, index, left),
         }
     }
+
+    // What reads give, with the range of an index left so.
+    fn image_of_range(
+        &self,
+        alloc: Global,
+        index: usize,
+        left: RangeLeft,
+    ) -> Result<Vec<u8>, NoMemory>
+        ensures left { IfOk result (λ v. IsLeftSo index left self.now v.items) }
+    {
+        let mut image = Vec::from_slice(alloc, self.bytes.as_slice())?;
+        if index >= self.unsynced.len() {
+            return Ok(image);
+        }
+        let (at, size) = self.unsynced[index];
+        let before: &[u8] = match self.replaced.get(index) {
+            Some(bytes) => bytes.as_slice(),
+            None => &[],
+        };
+        leave_range(image.as_mut_slice(), at, size, left, before);
+        Ok(image)
+    }
+}
+
+// A copy of the bytes from an offset on, at most `size` of them.
+fn bytes_from(alloc: Global, bytes: &[u8], at: usize, size: usize) -> Result<Vec<u8>, NoMemory>
+    requires { at ≤ length bytes.now }
+{
+    let rest = &bytes[at..];
+    Ok(Vec::from_slice(alloc, &rest[..size.min(rest.len())])?)
 }
 
 // Writes bytes from an offset on, over what is there and past the end. A refused call changes nothing.
@@ -169,4 +208,39 @@ fn tear_one(bytes: &mut [u8], from: u64, to: u64, byte: u8)
     for k in from..end {
         bytes[k as usize] = byte;
     }
+}
+
+// What a crash leaves of a range, over the bytes that were written to it.
+fn leave_range(bytes: &mut [u8], at: u64, size: u64, left: RangeLeft, before: &[u8])
+    requires { at + size < 2 ^ 63 }
+    ensures length { length bytes.new ≡ length bytes.old }
+    ensures others { (k : ℕ) → (k < at) ⊎ (at + size ≤ k) → slice_index bytes.new k ≡ slice_index bytes.old k }
+    ensures so { IsRangeLeft left at size bytes.old bytes.new }
+{
+    match left {
+        RangeLeft::Kept => {}
+        RangeLeft::Lost(byte) => tear_one(bytes, at, at + size, byte),
+        RangeLeft::Torn(count) => put_back(bytes, at, count.min(size), size, before),
+        RangeLeft::Old => put_back(bytes, at, 0, size, before),
+    }
+}
+
+// Puts the earlier bytes back into a range of `size` bytes, but for the first `kept` of it.
+fn put_back(bytes: &mut [u8], at: u64, kept: u64, size: u64, before: &[u8])
+    requires small { at + size < 2 ^ 63 }
+    requires within { kept ≤ size }
+    ensures length { length bytes.new ≡ length bytes.old }
+    ensures others { (k : ℕ) → (k < at + kept) ⊎ (at + size ≤ k) → slice_index bytes.new k ≡ slice_index bytes.old k }
+    ensures back { (k : ℕ) → k < length bytes.new → at + kept ≤ k → k < at + size → slice_index bytes.new k ≡ slice_index before.now (k - at) }
+{
+    let end = (at + size).min(bytes.len() as u64);
+    for k in at + kept..end {
+        bytes[k as usize] = byte_or_zero(before, (k - at) as usize);
+    }
+}
+
+fn byte_or_zero(bytes: &[u8], i: usize) -> u8
+    ensures { result ≡ slice_index bytes.now i }
+{
+    if i < bytes.len() { bytes[i] } else { 0 }
 }

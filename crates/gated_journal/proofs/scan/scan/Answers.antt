@@ -3,9 +3,10 @@ use Rattle.std.proofs.lemmas.List.{take_all}
 use Rattle.std.specs.Int.{w32, to_le_bytes}
 use Rattle.std.specs.List.{AllByRecursion}
 use Rattle.gated_journal.specs.Format.{IsBroken, before_gate, open_gate, HasHeader, IsPayload}
-use Rattle.gated_journal.specs.Records.{payloads_in, AreInside}
+use Rattle.gated_journal.specs.Records.{payloads_in, AreInside, FollowOn, gate_after}
 use Rattle.gated_journal.specs.declared.records.Span.{Span}
 use Rattle.gated_journal.proofs.Scans.{begins, length-before_none, broken, split_on, place_on, within_on, sized_on}
+use Rattle.gated_journal.proofs.Gates.{follow_push, gate_after-push}
 use Rattle.gated_journal.proofs.Spans.{inside_push}
 use Rattle.gated_journal.proofs.scan.scan.Goals as goal
 
@@ -14,7 +15,7 @@ rest_of bytes k le = take_all (length bytes - k) (drop k bytes) (omega (arith, l
 
 pub loop-at-init : goal.loop-at-init
 loop-at-init c =
-    let header : HasHeader c.args.bytes.now = c.if-not-begins_well.ensures in
+    let header : HasHeader c.args.bytes.now = c.requires in
     let none = c.new-spans.ensures.items in
     let bytes = c.args.bytes.now in
     record {
@@ -23,14 +24,16 @@ loop-at-init c =
       place = sym length-before_none ∙ ap (λ (l : List Span). length (before_gate (payloads_in bytes l))) (sym none);
       sized = subst (λ (l : List Span). AllByRecursion IsPayload (payloads_in bytes l)) (sym none) tt;
       inside = subst (λ (l : List Span). AreInside (length bytes) l) (sym none) tt;
+      follow = subst (λ (l : List Span). FollowOn 8 l) (sym none) tt;
+      after = ap (gate_after 8) (sym none);
     }
 
-pub returns-in_default-clause-corrupt : goal.returns-in_default-clause-corrupt
-returns-in_default-clause-corrupt c =
+pub returns-in_default-clause-prefix : goal.returns-in_default-clause-prefix
+returns-in_default-clause-prefix c =
     let i = c.loop-at.invariant in
     let bytes = c.args.bytes.now in
     let at = c.loop-at.at in
-    broken bytes c.loop-at.spans.items at i.within i.split i.place i.sized c.loop-at-test.true (length c.as_slice.result.now) (ap length c.as_slice.ensures.value)
+    broken bytes c.loop-at.spans.items at i.within i.split i.place i.sized c.loop-at-test.true
     (subst (λ (l : List ℕ). IsBroken (open_gate ∷ l)) (rest_of bytes (at + 1) (omega (arith, i.within))) c.in_default.ensures.none)
 
 pub loop-at-preserved : goal.loop-at-preserved
@@ -55,4 +58,6 @@ loop-at-preserved c =
           ∙ ap (λ (l : List Span). length (before_gate (payloads_in bytes l))) (sym e);
       sized = subst (λ (l : List Span). AllByRecursion IsPayload (payloads_in bytes l)) (sym e) (sized_on bytes spans at i.within i.split i.place i.sized o len long m.some m.small measure);
       inside = subst (λ (l : List Span). AreInside (length bytes) l) (sym e) (inside_push (length bytes) spans (record { start = at + 5; len = len }) i.inside (omega (arith, fits)));
+      follow = subst (λ (l : List Span). FollowOn 8 l) (sym e) (follow_push 8 spans (record { start = at + 5; len = len }) i.follow (ap (λ (k : ℕ). k + 5) i.after));
+      after = omega (arith, i.after, ap (gate_after 8) e, gate_after-push 8 spans (record { start = at + 5; len = len }));
     }

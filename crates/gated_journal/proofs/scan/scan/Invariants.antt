@@ -1,7 +1,7 @@
 use Rattle.std.proofs.Common.{◌≡◌, ◌<◌, ◌-◌, ◌++◌, length, drop}
 use Rattle.std.specs.List.{AllByRecursion}
 use Rattle.gated_journal.specs.Format.{before_gate, IsPayload}
-use Rattle.gated_journal.specs.Records.{payloads_in, AreInside}
+use Rattle.gated_journal.specs.Records.{payloads_in, AreInside, FollowOn, gate_after}
 use Rattle.gated_journal.proofs.scan.scan.Given as goal
 
 abbrev pub invariant-loop-at : goal.invariant-loop-at
@@ -11,6 +11,8 @@ invariant-loop-at l = record {
   place : l.at ≡ length (before_gate (payloads_in l.bytes l.spans.items));
   sized : AllByRecursion IsPayload (payloads_in l.bytes l.spans.items);
   inside : AreInside (length l.bytes) l.spans.items;
+  follow : FollowOn 8 l.spans.items;
+  after : l.at ≡ gate_after 8 l.spans.items;
 }
 
 abbrev pub decreases-loop-at : goal.decreases-loop-at

@@ -1,6 +1,11 @@
-use Rattle.std.proofs.Common.{◌+◌, ◌∷◌, ◌++◌, [], length, ◌∙◌, None, Some}
+use Rattle.std.proofs.Common.{◌+◌, ◌∷◌, ◌++◌, [], List, ℕ, Bool, IsTrue, length, ◌∙◌, subst, sym, None, Some}
+use Rattle.outside_api.specs.Calls.{AllDone, FailsIn}
+use Rattle.gated_journal.specs.Calls.{record_calls, gate_calls}
+use Rattle.gated_journal.specs.Format.{open_gate}
+use Rattle.gated_journal.specs.Journal.{JournalView, body}
 use Rattle.gated_journal.specs.declared.state.State.TheVariants.{Clean, BodyFailed, GateFailed}
 use Rattle.gated_journal.proofs.Appends.{on_err, view_of, kept_on}
+use Rattle.gated_journal.proofs.Calls.{body_failed, gate_failed}
 use Rattle.gated_journal.proofs.AppendSteps.{failed_at_body, moments_of_body, failed_at_gate, moments_of_gate, added_record}
 use Rattle.gated_journal.proofs.journal.Journal.append.Goals as goal
 
@@ -57,3 +62,22 @@ returns-clause-kept g c =
     kept_on (g.D.Disk.shown c.args.disk.now) (g.D.Disk.shown c.write_gate.new.disk) c.args.self.now
     (view_of c.self.inside.file (c.self.inside.end + length c.body-body.result.now) Clean)
     (c.in_ok-write_gate.ensures.counts.1 ∙ c.in_ok-write_record.ensures.counts.1) (λ records. records ++ c.args.payload.now.bytes ∷ []) None c.requires.clean (returns-clause-added g c) c.requires.kept
+
+pub returns-in_err-write_record-clause-calls : goal.returns-in_err-write_record-clause-calls
+returns-in_err-write_record-clause-calls g c =
+    let old = g.D.Disk.shown c.args.disk.now in
+    let new = g.D.Disk.shown c.write_record.new.disk in
+    body_failed _ c.from_residual.result old new c.args.self.now c.args.payload.now.bytes c.from_residual.ensures.0
+    (subst (λ (j : JournalView). IsTrue old.tells → FailsIn j.file (record_calls j.end (body c.args.payload.now.bytes)) old new) c.self.view_is
+    (subst (λ (l : List ℕ). IsTrue old.tells → FailsIn c.self.inside.file (record_calls c.self.inside.end l) old new) c.body-body.ensures.body c.in_err-write_record.ensures.calls))
+
+pub returns-in_err-write_gate-clause-calls : goal.returns-in_err-write_gate-clause-calls
+returns-in_err-write_gate-clause-calls g c =
+    let old = g.D.Disk.shown c.args.disk.now in
+    let mid = g.D.Disk.shown c.write_record.new.disk in
+    let new = g.D.Disk.shown c.write_gate.new.disk in
+    gate_failed _ c.from_residual-in_err-write_gate.result old mid new c.args.self.now c.args.payload.now.bytes c.from_residual-in_err-write_gate.ensures.0
+    (subst (λ (j : JournalView). IsTrue old.tells → AllDone j.file (record_calls j.end (body c.args.payload.now.bytes)) old mid) c.self.view_is
+    (subst (λ (l : List ℕ). IsTrue old.tells → AllDone c.self.inside.file (record_calls c.self.inside.end l) old mid) c.body-body.ensures.body c.in_ok-write_record.ensures.calls))
+    (subst (λ (j : JournalView). IsTrue old.tells → FailsIn j.file (gate_calls j.end open_gate) mid new) c.self.view_is
+    (λ tells. c.in_err-write_gate.ensures.calls (subst (λ (b : Bool). IsTrue b) (sym c.in_ok-write_record.ensures.counts.1) tells)))

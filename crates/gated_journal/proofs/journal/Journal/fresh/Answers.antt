@@ -1,6 +1,9 @@
-use Rattle.std.proofs.Common.{◌≡◌, ◌∷◌, [], List, ℕ, Bool, IsTrue, subst, sym, ap, ◌∙◌, None}
-use Rattle.outside_api.specs.Disk.{FileState, put, kept_file}
+use Rattle.std.proofs.Common.{◌≡◌, ◌∷◌, [], List, ℕ, Bool, IsTrue, subst, sym, ap, ◌∙◌, None, inl, inr, Result, Ok, Err}
+use Rattle.outside_api.specs.Disk.{FileState, DiskView, Changes, Writing, put, kept_file}
+use Rattle.outside_api.specs.declared.disk.DiskFault.{DiskFault}
+use Rattle.gated_journal.specs.Calls.{fresh_calls}
 use Rattle.gated_journal.specs.Journal.{fresh_bytes}
+use Rattle.gated_journal.proofs.Calls.{makes_failed, nine_bytes}
 use Rattle.gated_journal.proofs.Moments.{passes_one, passes_on}
 use Rattle.gated_journal.proofs.Appends.{held_fresh, put_fresh}
 use Rattle.gated_journal.proofs.journal.Journal.fresh.Goals as goal
@@ -53,3 +56,51 @@ returns-clause-keeps g c tells''' =
 
 pub returns-clause-kept : goal.returns-clause-kept
 returns-clause-kept g c tells = ([], None, returns-clause-keeps g c tells)
+
+wrote_fresh : (result : Result (Unit {0}) DiskFault) (file : ℕ) (old new : DiskView) → Changes old new file (Writing 0 (0x71 ∷ 0x74 ∷ 0x70 ∷ 0x6c ∷ 0x61 ∷ 0x6e ∷ 0x74 ∷ 0x31 ∷ 0 ∷ []) result) → Changes old new file (Writing 0 fresh_bytes result)
+wrote_fresh result file old new c = subst (λ (l : List ℕ). Changes old new file (Writing 0 l result)) nine_bytes c
+
+pub returns-in_err-write_at-clause-calls : goal.returns-in_err-write_at-clause-calls
+returns-in_err-write_at-clause-calls g c =
+    let old = g.D.Disk.shown c.args.disk.now in
+    let one = g.D.Disk.shown c.cut.new.self in
+    let new = g.D.Disk.shown c.write_at.new.self in
+    let fault = c.in_err-write_at.field-0.0 in
+    makes_failed _ c.from_residual-in_err-write_at.result old new c.args.file fresh_calls c.from_residual-in_err-write_at.ensures.0 (λ tells.
+    let tells' : IsTrue one.tells = subst (λ (b : Bool). IsTrue b) (sym c.in_ok-cut.ensures.counts.1) tells in
+    inr (one, c.in_ok-cut.ensures.changes tells, inl (fault, wrote_fresh (Err fault) c.args.file one new (c.in_err-write_at.ensures.changes tells'))))
+
+pub returns-in_err-sync-clause-calls : goal.returns-in_err-sync-clause-calls
+returns-in_err-sync-clause-calls g c =
+    let old = g.D.Disk.shown c.args.disk.now in
+    let one = g.D.Disk.shown c.cut.new.self in
+    let two = g.D.Disk.shown c.write_at.new.self in
+    let new = g.D.Disk.shown c.sync.new.self in
+    makes_failed _ c.from_residual-in_err-sync.result old new c.args.file fresh_calls c.from_residual-in_err-sync.ensures.0 (λ tells.
+    let tells' : IsTrue one.tells = subst (λ (b : Bool). IsTrue b) (sym c.in_ok-cut.ensures.counts.1) tells in
+    let tells'' : IsTrue two.tells = subst (λ (b : Bool). IsTrue b) (sym c.in_ok-write_at.ensures.counts.1) tells' in
+    inr (
+      one,
+      c.in_ok-cut.ensures.changes tells,
+      inr (
+        two,
+        wrote_fresh (Ok (tt {0})) c.args.file one two (c.in_ok-write_at.ensures.changes tells'),
+        inl (c.in_err-sync.field-0.0, c.in_err-sync.ensures.changes tells''),
+      ),
+    ))
+
+pub returns-clause-calls : goal.returns-clause-calls
+returns-clause-calls g c tells =
+    let one = g.D.Disk.shown c.cut.new.self in
+    let two = g.D.Disk.shown c.write_at.new.self in
+    let new = g.D.Disk.shown c.sync.new.self in
+    let tells' : IsTrue one.tells = subst (λ (b : Bool). IsTrue b) (sym c.in_ok-cut.ensures.counts.1) tells in
+    let tells'' : IsTrue two.tells = subst (λ (b : Bool). IsTrue b) (sym c.in_ok-write_at.ensures.counts.1) tells' in (
+      one,
+      c.in_ok-cut.ensures.changes tells,
+      (
+        two,
+        wrote_fresh (Ok (tt {0})) c.args.file one two (c.in_ok-write_at.ensures.changes tells'),
+        (new, c.in_ok-sync.ensures.changes tells'', (λ i. new.now, λ i. new.past)),
+      ),
+    )

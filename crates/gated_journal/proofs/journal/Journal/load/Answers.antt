@@ -1,21 +1,70 @@
-use Rattle.std.proofs.Common.{◌≡◌, ℕ, List, Bool, IsTrue, length, subst, sym, ap, ◌∙◌, None}
-use Rattle.outside_api.specs.Disk.{kept_file}
-use Rattle.gated_journal.specs.Format.{Reads, before_gate}
-use Rattle.gated_journal.specs.Records.{payloads_in}
-use Rattle.gated_journal.proofs.Loads.{held_loaded}
+use Rattle.std.proofs.Common.{◌≡◌, ℕ, List, Bool, IsTrue, Option, Some, IfSome, length, subst, sym, ap, ◌∙◌, None}
+use Rattle.outside_api.specs.Disk.{FileState, kept_file}
+use Rattle.gated_journal.specs.Format.{Reads, IsPrefix, IsCorrupt}
+use Rattle.gated_journal.specs.declared.journal.Journal.{Journal}
+use Rattle.gated_journal.specs.declared.records.Records.{Records}
+use Rattle.gated_journal.specs.declared.scan.ValidPrefix.{ValidPrefix}
+use Rattle.gated_journal.proofs.Calls.{raised}
+use Rattle.gated_journal.proofs.Loads.{held_loaded, synced, synced_still}
 use Rattle.gated_journal.proofs.journal.Journal.load.Goals as goal
 
-pub returns-clause-keeps : goal.returns-clause-keeps
-returns-clause-keeps g c tells =
-    let old = g.D.Disk.shown c.args.disk.now in
-    let tells' : IsTrue old.tells = subst (λ (b : Bool). IsTrue b) c.in_ok-bytes.ensures.counts.1 tells in
-    let bytes = c.in_ok-bytes.bytes.items in
-    let same = c.as_slice.ensures.value in
-    let records : c.from_parts.result ≡ payloads_in c.as_slice.result.now c.in_ok-end.spans.items = c.from_parts.ensures ∙ ap (λ (b : List ℕ). payloads_in b c.in_ok-end.spans.items) (sym same) in
-    held_loaded c.args.file c.in_ok-end.end _ c.as_slice.result.now c.from_parts.result
-    (c.in_ok-bytes.ensures.synced tells' ∙ ap kept_file (sym (same ∙ c.in_ok-bytes.ensures.bytes tells')))
-    (subst (λ (l : List (List ℕ)). Reads c.as_slice.result.now l) (sym records) c.in_ok-end.ensures.reads)
-    (c.in_ok-end.ensures.end ∙ ap (λ (l : List (List ℕ)). length (before_gate l)) (sym records))
+pub returns-in_err-sync-clause-any_moment : goal.returns-in_err-sync-clause-any_moment
+returns-in_err-sync-clause-any_moment g c tells = synced _ _ c.args.file _ (c.sync.ensures.changes tells)
 
-pub returns-clause-kept : goal.returns-clause-kept
-returns-clause-kept g c tells = (c.from_parts.result, None, returns-clause-keeps g c tells)
+pub returns-in_err-records-clause-calls : goal.returns-in_err-records-clause-calls
+returns-in_err-records-clause-calls g c =
+    raised (ValidPrefix) (Journal × Records) c.args.file (g.D.Disk.shown c.args.disk.now) (g.D.Disk.shown c.sync.new.self) (g.D.Disk.shown c.read_valid.new.disk) c.in_ok-sync.ensures.counts.1 c.in_ok-sync.ensures.changes
+    c.from_residual-in_err-records.result c.in_err-records.field-0.0 c.from_residual-in_err-records.ensures.1 c.in_err-records.ensures.calls
+
+pub returns-in_err-records-clause-any_moment : goal.returns-in_err-records-clause-any_moment
+returns-in_err-records-clause-any_moment g c tells =
+    let tells' : IsTrue (g.D.Disk.shown c.sync.new.self).tells = subst (λ (b : Bool). IsTrue b) (sym c.in_ok-sync.ensures.counts.1) tells in
+    synced_still _ _ _ c.args.file (c.in_ok-sync.ensures.changes tells) (c.read_valid.ensures.stays tells')
+
+pub returns-in-Some-clause-calls : goal.returns-in-Some-clause-calls
+returns-in-Some-clause-calls g c tells =
+    let tells' : IsTrue (g.D.Disk.shown c.sync.new.self).tells = subst (λ (b : Bool). IsTrue b) (sym c.in_ok-sync.ensures.counts.1) tells in
+    (g.D.Disk.shown c.sync.new.self, c.in_ok-sync.ensures.changes tells, c.in_ok-records.ensures.calls tells')
+
+pub returns-in-Some-clause-any_moment : goal.returns-in-Some-clause-any_moment
+returns-in-Some-clause-any_moment g c tells =
+    let tells' : IsTrue (g.D.Disk.shown c.sync.new.self).tells = subst (λ (b : Bool). IsTrue b) (sym c.in_ok-sync.ensures.counts.1) tells in
+    synced_still _ _ _ c.args.file (c.in_ok-sync.ensures.changes tells) (c.read_valid.ensures.stays tells')
+
+pub returns-in-Some-clause-corrupt : goal.returns-in-Some-clause-corrupt
+returns-in-Some-clause-corrupt g c tells =
+    let mid = g.D.Disk.shown c.sync.new.self in
+    let file = c.args.file in
+    let records = c.in_ok-records.field-0.records in
+    let tells' : IsTrue mid.tells = subst (λ (b : Bool). IsTrue b) (sym c.in_ok-sync.ensures.counts.1) tells in
+    let same : (mid.now file).bytes ≡ ((g.D.Disk.shown c.args.disk.now).now file).bytes = ap (λ (f : FileState). f.bytes) (c.in_ok-sync.ensures.changes tells).changed in
+    let is : IfSome (Some c.in-Some.bytes) (λ at. IsTrue mid.tells → IsCorrupt (mid.now file).bytes (length records) at) =
+    subst (λ (f : Option ℕ). IfSome f (λ at. IsTrue mid.tells → IsCorrupt (mid.now file).bytes (length records) at)) c.in-Some.is c.in_ok-records.ensures.corrupt in
+    subst (λ (l : List ℕ). IsCorrupt l c.len-records.result c.in-Some.bytes) same
+    (subst (λ (n : ℕ). IsCorrupt (mid.now file).bytes n c.in-Some.bytes) (sym c.len-records.ensures) (is tells'))
+
+pub returns-in-None-clause-calls : goal.returns-in-None-clause-calls
+returns-in-None-clause-calls g c tells =
+    let tells' : IsTrue (g.D.Disk.shown c.sync.new.self).tells = subst (λ (b : Bool). IsTrue b) (sym c.in_ok-sync.ensures.counts.1) tells in
+    (g.D.Disk.shown c.sync.new.self, c.in_ok-sync.ensures.changes tells, c.in_ok-records.ensures.calls tells')
+
+pub returns-in-None-clause-any_moment : goal.returns-in-None-clause-any_moment
+returns-in-None-clause-any_moment g c tells =
+    let tells' : IsTrue (g.D.Disk.shown c.sync.new.self).tells = subst (λ (b : Bool). IsTrue b) (sym c.in_ok-sync.ensures.counts.1) tells in
+    synced_still _ _ _ c.args.file (c.in_ok-sync.ensures.changes tells) (c.read_valid.ensures.stays tells')
+
+pub returns-in-None-clause-keeps : goal.returns-in-None-clause-keeps
+returns-in-None-clause-keeps g c tells =
+    let mid = g.D.Disk.shown c.sync.new.self in
+    let file = c.args.file in
+    let records = c.in_ok-records.field-0.records in
+    let tells' : IsTrue mid.tells = subst (λ (b : Bool). IsTrue b) c.in_ok-records.ensures.counts.1 tells in
+    let tells'' : IsTrue (g.D.Disk.shown c.args.disk.now).tells = subst (λ (b : Bool). IsTrue b) c.in_ok-sync.ensures.counts.1 tells' in
+    let kept = (c.in_ok-sync.ensures.changes tells'').changed in
+    let reads : Reads (mid.now file).bytes records = subst (λ (f : Option ℕ). IsPrefix (mid.now file).bytes records f) c.in-None.is (c.in_ok-records.ensures.prefix tells') in
+    held_loaded file c.end-end.result _ (mid.now file).bytes records
+    (ap (λ (f : ℕ → FileState). f file) (c.read_valid.ensures.stays tells').0 ∙ kept ∙ ap kept_file (sym (ap (λ (f : FileState). f.bytes) kept)))
+    reads c.end-end.ensures.offset
+
+pub returns-in-None-clause-kept : goal.returns-in-None-clause-kept
+returns-in-None-clause-kept g c tells = (c.in_ok-records.field-0.records, None, returns-in-None-clause-keeps g c tells)

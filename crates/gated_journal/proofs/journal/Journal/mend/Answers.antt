@@ -1,4 +1,4 @@
-use Rattle.std.proofs.Common.{rules, ◌≡◌, IsTrue, None, subst}
+use Rattle.std.proofs.Common.{◌≡◌, IsTrue, None, subst}
 use Rattle.outside_api.specs.Disk.{Passes}
 use Rattle.gated_journal.specs.Journal.{Keeps, JournalView, MayRead}
 use Rattle.gated_journal.specs.declared.state.State.TheVariants.{Clean, BodyFailed}
@@ -29,29 +29,35 @@ returns-in_err-write_gate-in-GateFailed-clause-any_moment g c records late =
     subst (λ (j : JournalView). Keeps old j records late → IsTrue old.tells → Passes old new j.file (MayRead records late)) c.self.view_is
     (mend_gate_moments c.self.inside.file c.self.inside.end records old new c.self.inside.state late c.in-GateFailed.is c.write_gate.ensures.ajar)
 
-pub returns-in_err-sync-in-Clean : goal.returns-in_err-sync-in-Clean
-returns-in_err-sync-in-Clean g c =
+pub returns-in_err-sync-in-Clean-clause-failed : goal.returns-in_err-sync-in-Clean-clause-failed
+returns-in_err-sync-in-Clean-clause-failed g c =
     let old = g.D.Disk.shown c.args.disk.now in
     let new = g.D.Disk.shown c.sync.new.self in
     let file = c.self.inside.file in
     let end = c.self.inside.end in
-    record {
-      mended = search rules;
-      failed = on_err c.from_residual-in_err-sync-in-Clean.result _ (λ records late.
-          subst (λ (j : JournalView). Keeps old j records late → Keeps new (view_of file end BodyFailed) records late) c.self.view_is
-          (mend_body_failed file end records old new c.sync.result c.sync.ensures.changes c.self.inside.state late c.in-Clean.is c.in_err-sync-in-Clean.ensures.counts.1));
-      any_moment = λ records late.
-          subst (λ (j : JournalView). Keeps old j records late → IsTrue old.tells → Passes old new j.file (MayRead records late)) c.self.view_is
-          (mend_body_moments file end records old new c.sync.result c.sync.ensures.changes c.self.inside.state late c.in-Clean.is);
-      bytes = search rules;
-      kept = kept_still old new c.args.self.now (view_of file end BodyFailed) c.in_err-sync-in-Clean.ensures.counts.1 (λ records late.
-          subst (λ (j : JournalView). Keeps old j records late → Keeps new (view_of file end BodyFailed) records late) c.self.view_is
-          (mend_body_failed file end records old new c.sync.result c.sync.ensures.changes c.self.inside.state late c.in-Clean.is c.in_err-sync-in-Clean.ensures.counts.1)) c.requires;
-      clean = search rules;
-      unclean = on_err c.from_residual-in_err-sync-in-Clean.result _ (λ e. cc);
-      same = search rules;
-      counts = search rules;
-    }
+    on_err c.from_residual-in_err-sync-in-Clean.result _ (λ records late.
+    subst (λ (j : JournalView). Keeps old j records late → Keeps new (view_of file end BodyFailed) records late) c.self.view_is
+    (mend_body_failed file end records old new c.sync.result c.sync.ensures.changes c.self.inside.state late c.in-Clean.is c.in_err-sync-in-Clean.ensures.counts.1))
+
+pub returns-in_err-sync-in-Clean-clause-any_moment : goal.returns-in_err-sync-in-Clean-clause-any_moment
+returns-in_err-sync-in-Clean-clause-any_moment g c records late =
+    let old = g.D.Disk.shown c.args.disk.now in
+    let new = g.D.Disk.shown c.sync.new.self in
+    subst (λ (j : JournalView). Keeps old j records late → IsTrue old.tells → Passes old new j.file (MayRead records late)) c.self.view_is
+    (mend_body_moments c.self.inside.file c.self.inside.end records old new c.sync.result c.sync.ensures.changes c.self.inside.state late c.in-Clean.is)
+
+pub returns-in_err-sync-in-Clean-clause-kept : goal.returns-in_err-sync-in-Clean-clause-kept
+returns-in_err-sync-in-Clean-clause-kept g c =
+    let old = g.D.Disk.shown c.args.disk.now in
+    let new = g.D.Disk.shown c.sync.new.self in
+    let file = c.self.inside.file in
+    let end = c.self.inside.end in
+    kept_still old new c.args.self.now (view_of file end BodyFailed) c.in_err-sync-in-Clean.ensures.counts.1 (λ records late.
+    subst (λ (j : JournalView). Keeps old j records late → Keeps new (view_of file end BodyFailed) records late) c.self.view_is
+    (mend_body_failed file end records old new c.sync.result c.sync.ensures.changes c.self.inside.state late c.in-Clean.is c.in_err-sync-in-Clean.ensures.counts.1)) c.requires
+
+pub returns-in_err-sync-in-Clean-clause-unclean : goal.returns-in_err-sync-in-Clean-clause-unclean
+returns-in_err-sync-in-Clean-clause-unclean g c = on_err c.from_residual-in_err-sync-in-Clean.result _ (λ e. cc)
 
 pub returns-clause-mended : goal.returns-clause-mended
 returns-clause-mended g c records late =

@@ -24,6 +24,6 @@ returns-clause-ok c =
     let first = subst (λ (l : List Numbered). IsFirst l c.args.number c.in_ok-i.i) (sym c.self.view_is) c.in_ok-i.ensures.first in
     on_ok c.write.result _ _
     (changes_over c.args.self.now es c.entry.new.self c.args.number c.in_ok-i.i c.index_mut.result.now c.write.new.self
-    (λ (f : FileState). written f c.args.at (length c.args.bytes.now) (put f.bytes c.args.at c.args.bytes.now))
+    (λ (f : FileState). written f c.args.at c.args.size (put f.bytes c.args.at c.args.bytes.now))
     c.in_ok-i.ensures.same c.self.view_is less first c.index_mut.ensures.value)
     c.write.ensures.ok
