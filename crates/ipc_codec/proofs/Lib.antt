@@ -15,3 +15,4 @@ pub mod WrittenLemmas
 pub mod PlainLemmas
 pub mod LengthLemmas
 pub mod FitLemmas
+pub mod CanonicalLemmas

@@ -62,7 +62,7 @@ form_of-atom k.Minute = refl
 form_of-atom k.Second = refl
 form_of-atom k.Time = refl
 
-kind_at-number : (kind : Kind) → kind_at (type_number kind) ≡ Some kind
+pub kind_at-number : (kind : Kind) → kind_at (type_number kind) ≡ Some kind
 kind_at-number k.Boolean = refl
 kind_at-number k.Byte = refl
 kind_at-number k.Short = refl
@@ -203,7 +203,7 @@ elements_again order k.Second xs bytes rest h = cells_at-again order k.Second xs
 elements_again order k.Time xs bytes rest h = cells_at-again order k.Time xs bytes rest refl h
 
 -- a vector, after its type byte
-vector_again : (order : Order) (attribute : ℕ) (count body rest : List ℕ) (v : Contents) → SpellsCount order count (length v.atoms) → InTurn (SpellsElementOf order v.kind) body v.atoms → vector_at order v.kind (attribute ∷ (count ++ body) ++ rest) ≡ Ok (v, rest)
+pub vector_again : (order : Order) (attribute : ℕ) (count body rest : List ℕ) (v : Contents) → SpellsCount order count (length v.atoms) → InTurn (SpellsElementOf order v.kind) body v.atoms → vector_at order v.kind (attribute ∷ (count ++ body) ++ rest) ≡ Ok (v, rest)
 unfolding vector_at
 vector_again order attribute count body rest v counted elements =
     let regrouped : (count ++ body) ++ rest ≡ count ++ (body ++ rest) = append_assoc count body rest in

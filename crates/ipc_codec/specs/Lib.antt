@@ -9,3 +9,4 @@ pub mod Spells
 pub mod Laws
 pub mod Lengths
 pub mod Decoded
+pub mod Canonical

@@ -119,7 +119,9 @@ fn names_length(names: &[Sym]) -> usize
     total
 }
 
-fn columns_length(columns: &[Vector]) -> usize
+/// The number of bytes of the canonical encodings of these vectors together, and `usize::MAX` where it is more than that. It
+/// takes no memory.
+pub fn columns_length(columns: &[Vector]) -> usize
     ensures value { result ≡ saturated (length (flat_map vector_bytes columns.now)) }
     ensures fit { All VectorFits columns.now }
 {

@@ -11,6 +11,8 @@
 //! - [`encode`] appends the canonical encoding of a value.
 //! - [`encoded_length`] returns the length of that encoding, and allocates nothing.
 //! - [`Order`] is the byte order, which a message's header says.
+//! - [`encode_vector`], [`encode_vectors`], [`encode_list_head`] and [`encode_symbol`] append parts of objects, and
+//!   [`decode_vector`] reads a vector that is in its canonical encoding: for formats that keep objects without a `Value`.
 //!
 //! ```text
 //! let (value, length) = decode(alloc, b"\xfa\0\0\0\x01\x65", Order::Big)?;
@@ -38,11 +40,13 @@ mod order;
 mod reach;
 mod reading;
 mod refusal;
+mod vectors;
 mod writing;
 
-pub use lengths::encoded_length;
+pub use lengths::{columns_length as encoded_vectors_length, encoded_length};
 pub use order::Order;
 pub use reach::measure;
 pub use reading::decode;
 pub use refusal::DecodeRefusal;
-pub use writing::encode;
+pub use vectors::{VectorFault, decode_vector, encode_list_head, encode_symbol};
+pub use writing::{encode, put_columns as encode_vectors, put_vector as encode_vector};

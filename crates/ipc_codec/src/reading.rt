@@ -104,7 +104,13 @@ fn elements_of(
 }
 
 #[tactic(auto, unfolding(crate::specs::Reading::vector_at))]
-fn vector_of(alloc: Global, bytes: &[u8], order: Order, kind: Kind) -> Result<(Vector, &[u8]), Stop>
+/// Reads a vector, after its type byte.
+pub fn vector_of(
+    alloc: Global,
+    bytes: &[u8],
+    order: Order,
+    kind: Kind,
+) -> Result<(Vector, &[u8]), Stop>
     ensures { Gives (λ x. (x.0, x.1.now)) result (vector_at order kind bytes.now) }
 {
     let (count, rest) = count_of(bytes, order)?;

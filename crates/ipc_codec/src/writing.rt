@@ -23,8 +23,8 @@ const BLOCK: usize = 64;
 // The most bytes that they take: eight and a 0 for each.
 const BLOCK_BYTES: usize = 576;
 
-// A type byte, the attribute byte 0 and a count.
-fn put_head(out: &mut Vec<u8>, code: u8, count: usize) -> Result<(), NoMemory>
+/// A type byte, the attribute byte 0 and a count.
+pub fn put_head(out: &mut Vec<u8>, code: u8, count: usize) -> Result<(), NoMemory>
     requires { count ≤ 2147483647 }
     ensures ok { OnOk result (out.new.items ≡ out.old.items ++ head code count) }
     ensures err { OnErr result (out.new.items ≡ out.old.items) }
@@ -89,9 +89,9 @@ fn put_booleans(out: &mut Vec<u8>, items: &[bool]) -> Result<(), NoMemory>
     Ok(())
 }
 
-// A text, and the 0 that ends it.
+/// A text, and the 0 that ends it.
 #[tactic(auto, using(crate::proofs::WritingLemmas::begins))]
-fn put_text(out: &mut Vec<u8>, text: &[u8]) -> Result<(), NoMemory>
+pub fn put_text(out: &mut Vec<u8>, text: &[u8]) -> Result<(), NoMemory>
     ensures ok { OnOk result (out.new.items ≡ out.old.items ++ text_bytes text.now) }
     ensures err { OnErr result (Begins out.old.items out.new.items) }
 {
@@ -170,8 +170,9 @@ fn put_elements(out: &mut Vec<u8>, column: &Column) -> Result<(), NoMemory>
     }
 }
 
+/// Appends the canonical encoding of a vector (KX, IPC reference). Out of memory, `out` begins with what it had.
 #[tactic(auto, using(crate::proofs::WritingLemmas::begins), unfolding(crate::specs::Written::vector_bytes))]
-fn put_vector(out: &mut Vec<u8>, vector: &Vector) -> Result<(), NoMemory>
+pub fn put_vector(out: &mut Vec<u8>, vector: &Vector) -> Result<(), NoMemory>
     requires { length vector.now.atoms ≤ 2147483647 }
     ensures ok { OnOk result (out.new.items ≡ out.old.items ++ vector_bytes vector.now) }
     ensures err { OnErr result (Begins out.old.items out.new.items) }
@@ -191,8 +192,9 @@ fn put_names(out: &mut Vec<u8>, names: &[Sym]) -> Result<(), NoMemory>
     Ok(())
 }
 
+/// Appends the vectors one after another, each in its canonical encoding. Out of memory, `out` begins with what it had.
 #[tactic(auto, using(crate::proofs::WritingLemmas::begins))]
-fn put_columns(out: &mut Vec<u8>, columns: &[Vector]) -> Result<(), NoMemory>
+pub fn put_columns(out: &mut Vec<u8>, columns: &[Vector]) -> Result<(), NoMemory>
     requires { All (λ column. length column.atoms ≤ 2147483647) columns.now }
     ensures ok { OnOk result (out.new.items ≡ out.old.items ++ flat_map vector_bytes columns.now) }
     ensures err { OnErr result (Begins out.old.items out.new.items) }

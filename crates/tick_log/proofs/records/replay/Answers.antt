@@ -1,0 +1,26 @@
+use Rattle.std.proofs.Common.{◌≡◌, ◌+◌, ◌∷◌, ◌++◌, [], List, ℕ, take, subst, sym, ap, ◌∙◌, arith}
+use Rattle.day_rows.specs.Day.{entry_rows, total_rows}
+use Rattle.day_rows.specs.declared.entry.Entry.{Entry}
+use Rattle.tick_log.specs.Chunk.{IsChunk}
+use Rattle.tick_log.specs.Replay.{AreChunks}
+use Rattle.tick_log.proofs.Replays.{chunks_more, take_next, total-more}
+use Rattle.tick_log.proofs.records.replay.Goals as goal
+
+pub loop-i-preserved : goal.loop-i-preserved
+loop-i-preserved c =
+    let i = c.loop-i.invariant in
+    let schema = c.args.schema.now in
+    let records = c.args.records.now in
+    let front = take c.loop-i.i records in
+    let payload = c.at.result.now in
+    let entries = c.loop-i.entries in
+    let entry = c.in-Ok.entry in
+    let next = take_next records c.loop-i.i payload c.at.ensures in
+    let pushed = c.in_ok-push-in-Ok.ensures.ok in
+    let same : c.loop-i.rows ≡ 0 + total_rows entries = omega (arith, i.rows_are) in
+    let more = chunks_more schema 0 front entries payload entry i.good (subst (λ (n : ℕ). IsChunk schema n payload entry) same c.in-Ok.ensures.found) in
+    record {
+      good = subst (λ (ps : List (List ℕ)). AreChunks schema 0 ps c.push.new.self) (sym next) (subst (λ (es : List Entry). AreChunks schema 0 (front ++ payload ∷ []) es) (sym pushed) more);
+      rows_are = c.in-Ok.ensures.rows ∙ ap (λ (n : ℕ). n + entry_rows entry) i.rows_are ∙ sym (total-more entries entry) ∙ ap total_rows (sym pushed);
+      bounded = c.in-Ok.ensures.bounded;
+    }
