@@ -1,0 +1,4 @@
+mod EncodingLemmas
+mod LawLemmas
+mod OrderLemmas
+mod TableLemmas

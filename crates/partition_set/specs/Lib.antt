@@ -1,0 +1,3 @@
+pub mod Laws
+pub mod Manifest
+pub mod Records

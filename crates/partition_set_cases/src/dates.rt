@@ -1,0 +1,121 @@
+//! Many dates, and a call of the disk that fails.
+ghost use Rattle.std.specs.Prelude.{◌≡◌, None, IfOk};
+ghost use Rattle.outside_mem.specs.MemDisk.{shown_by};
+ghost use Rattle.partition_set.specs.Manifest.{Keeps};
+
+use outside_mem::{Calling, Callings, MemDisk};
+use partition_set::{Manifest, ManifestRecord, ManifestRefusal};
+use q_values::NoMemory;
+use schema_text::built_in_schema;
+use std::alloc::Global;
+use std::test::Fail;
+
+// A disk with a manifest of the built-in tables.
+fn started(alloc: Global) -> Result<MemDisk, ManifestRefusal> {
+    let schema = built_in_schema(alloc)?;
+    let mut disk = MemDisk::new(alloc);
+    let manifest = Manifest::make(alloc, &mut disk, &schema)?;
+    drop(manifest);
+    Ok(disk)
+}
+
+// Opens this date by the pass 3, where it may be opened.
+fn open(disk: &mut MemDisk, manifest: &mut Manifest, date: i32) -> Result<bool, ManifestRefusal>
+    requires { Keeps (shown_by disk.old) manifest.old None }
+    ensures { IfOk result (λ _. Keeps (shown_by disk.new) manifest.new None) }
+{
+    if !manifest.is_clean() || !manifest.may_open(3, date) {
+        return Ok(false);
+    }
+    manifest.reserve()?;
+    manifest.opened(disk, 3, date)?;
+    Ok(true)
+}
+
+// Loads the manifest, and opens this many dates from the first one on. Whether all of them were opened.
+fn open_all(
+    alloc: Global,
+    disk: &mut MemDisk,
+    first: i32,
+    count: i32,
+) -> Result<bool, ManifestRefusal> {
+    let mut manifest = Manifest::load(alloc, disk)?;
+    for i in 0..count {
+        if !open(disk, &mut manifest, first.wrapping_add(i))? {
+            return Ok(false);
+        }
+    }
+    Ok(true)
+}
+
+// Whether the manifest has two tables, and then this many dates from the first one on.
+fn has_dates(
+    alloc: Global,
+    disk: &mut MemDisk,
+    first: i32,
+    count: usize,
+) -> Result<bool, ManifestRefusal> {
+    let manifest = Manifest::load(alloc, disk)?;
+    let mut next = first;
+    let mut dates = 0usize;
+    for record in manifest.records() {
+        if let ManifestRecord::Opened { by, date } = record {
+            if *by != 3 || *date != next {
+                return Ok(false);
+            }
+            next = next.wrapping_add(1);
+            dates = dates.wrapping_add(1);
+        }
+    }
+    Ok(dates == count && manifest.records().len() == dates.wrapping_add(2))
+}
+
+fn run_of_dates(alloc: Global) -> Result<bool, ManifestRefusal> {
+    let mut disk = started(alloc)?;
+    let first = open_all(alloc, &mut disk, 0, 10_000)?;
+    let second = open_all(alloc, &mut disk, 10_000, 10_000)?;
+    let earlier = open_all(alloc, &mut disk, 19_999, 1)?;
+    Ok(first && second && !earlier && has_dates(alloc, &mut disk, 0, 20_000)?)
+}
+
+#[test]
+fn many_dates(rt: HostRuntime) -> Result<(), Fail> {
+    let alloc = rt.alloc();
+    assert!(rt; run_of_dates(alloc) == Ok(true));
+    Ok(())
+}
+
+// Calls of which the one after `place` others fails.
+fn one_failing(alloc: Global, place: usize) -> Result<Callings, NoMemory> {
+    let mut callings = Callings::new(alloc);
+    for _ in 0..place {
+        callings.push(Calling::Succeeds)?;
+    }
+    callings.push(Calling::FailsDone)?;
+    Ok(callings)
+}
+
+// A manifest of which the call after `place` others fails as a date is opened: whether it is repaired then, and the date opened.
+fn is_repaired(alloc: Global, place: usize) -> Result<bool, ManifestRefusal> {
+    let mut disk = started(alloc)?;
+    let mut manifest = Manifest::load(alloc, &mut disk)?;
+    disk.plan(one_failing(alloc, place)?, None);
+    manifest.reserve()?;
+    if !manifest.is_clean() || !manifest.may_open(3, 5) {
+        return Ok(false);
+    }
+    let failed = manifest.opened(&mut disk, 3, 5).is_err();
+    let unclean = !manifest.is_clean();
+    manifest.mend(&mut disk)?;
+    let opened = open(&mut disk, &mut manifest, 5)?;
+    Ok(failed && unclean && opened && has_dates(alloc, &mut disk, 5, 1)?)
+}
+
+#[test]
+fn failed_calls_are_repaired(rt: HostRuntime) -> Result<(), Fail> {
+    let alloc = rt.alloc();
+    for place in 0..4 {
+        assert!(rt; is_repaired(alloc, place) == Ok(true));
+    }
+    Ok(())
+}
