@@ -1,4 +1,5 @@
 pub mod AscendingLemmas
 pub mod RankingLemmas
 pub mod KeyLemmas
+pub mod CellLemmas
 pub mod RowLemmas

@@ -1,4 +1,5 @@
 pub mod Ascending
+pub mod Cells
 pub mod Ranking
 pub mod Keys
 pub mod Laws

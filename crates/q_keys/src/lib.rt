@@ -13,13 +13,16 @@
 //! rows.of_group(2)                  // 0 2
 //! ```
 //!
-//! Each column is numbered by `q_groups::Groups` and its groups are ranked (`ranking`). The ranks of two columns make one
-//! number of 64 bits a row, in the order of the pairs, which is numbered again (`keys`). The rows of the groups come by
-//! counting (`group_rows`). `specs/Keys.antt` says what keys, codes and rows of groups are, and [`laws`] that keys ascend.
+//! Each column is numbered by `q_groups::Groups` and its groups are ranked (`ranking`). The ranks of two columns are a cell of
+//! a table, which is gone over in order where it is small beside the rows (`cells`); else they make one number of 64 bits a
+//! row, in the order of the pairs, which is numbered again (`keys`). [`KeyGroups::of_lent`] takes columns that are lent. The
+//! rows of the groups come by counting (`group_rows`). `specs/Keys.antt` says what keys, codes and rows of groups are, and
+//! [`laws`] that keys ascend.
 //!
 //! It knows nothing of names, queries or aggregates. More than 4,294,967,295 rows are refused as out of memory.
 #![tactic(auto)]
 
+mod cells;
 mod group_rows;
 mod keys;
 pub mod laws;

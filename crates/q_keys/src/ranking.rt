@@ -30,8 +30,8 @@ fn places_in(alloc: Global, sorted: &[u32]) -> Result<Vec<u32>, NoMemory>
     Ok(places)
 }
 
-// The items at these indices.
-fn picked(alloc: Global, items: &[u32], indices: &[u32]) -> Result<Vec<u32>, NoMemory>
+/// The items at these indices.
+pub(crate) fn picked(alloc: Global, items: &[u32], indices: &[u32]) -> Result<Vec<u32>, NoMemory>
     requires { All (λ i. i < length items.now) indices.now }
     ensures { IfOk result (λ v. v.items ≡ map (slice_index items.now) indices.now) }
 {

@@ -116,7 +116,7 @@ fn assert_many(
 #[test]
 fn many_rows(rt: HostRuntime) -> Result<(), Fail> {
     let alloc = rt.alloc();
-    for (first_keys, next_keys) in [(300u16, 200u16), (16_384, 1), (3, 5)] {
+    for (first_keys, next_keys) in [(300u16, 200u16), (150, 160), (16_384, 1), (3, 5)] {
         assert_many(&rt, alloc, first_keys, next_keys)?;
     }
     Ok(())

@@ -1,5 +1,5 @@
 -- Groups of rows, and what is read of them.
-use Rattle.std.proofs.Common.{◌≡◌, ◌≢◌, ℕ, ◌+◌, ◌-◌, ◌<◌, Bool, true, false, cond, List, [], ◌∷◌, ◌++◌, length, get_or, set, map, refl, sym, ap, ◌∙◌, arith, zero, suc, All, subst, length-append}
+use Rattle.std.proofs.Common.{◌≡◌, ◌≢◌, ℕ, ◌+◌, ◌-◌, ◌<◌, Bool, true, false, cond, Bor, List, [], ◌∷◌, ◌++◌, length, get_or, set, map, refl, sym, ap, ◌∙◌, arith, zero, suc, All, subst, length-append}
 use Rattle.std.specs.Prelude.{slice_index}
 use Rattle.std.specs.List.{filter, flat_map, range_with_len}
 use Rattle.std.specs.Simd.Lanes.{zip2}
@@ -241,3 +241,10 @@ lasts_are places codes groups size each =
         each g low
         ∙ sym (get_or-map last_row (parts codes groups) g [] 0 (omega (arith, low, parts_size codes groups))
         ∙ ap last_row (get_or-map-range_with_len (λ (h : ℕ). rows_of_group h codes) 0 groups g g [] low (plain g)))
+
+-- a lent column, among the columns that are lent
+abbrev pub lent_columns : List (Bor Contents) → List Contents
+lent_columns columns = map (λ (c : Bor Contents). c.now) columns
+
+pub column_is : (columns : List (Bor Contents)) (i : ℕ) (column : Bor Contents) → column ≡ get_or columns i column → i < length columns → column.now ≡ get_or (lent_columns columns) i column.now
+column_is columns i column is low = ap (λ (c : Bor Contents). c.now) is ∙ sym (get_or-map (λ (c : Bor Contents). c.now) columns i column column.now low)

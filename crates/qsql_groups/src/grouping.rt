@@ -3,14 +3,16 @@ ghost use Rattle.std.specs.Prelude.{◌≡◌, ◌<◌, map, length, All, IfOk};
 ghost use Rattle.q_values.specs.Table.{rows_of};
 ghost use Rattle.qsql_request.specs.Views.{form, column_form};
 ghost use Rattle.qsql_values.specs.Frames.{AreColumns, frame_of, rows_at};
+ghost use Rattle.qsql_values.specs.Operands.{contents_of, operand_tree};
 ghost use Rattle.qsql_values.specs.Places.{column_at};
+ghost use Rattle.qsql_values.specs.Values.{items_in};
 ghost use Rattle.qsql_groups.specs.Groups.{key_columns, groups, groups_by, parts, parts_of, last_row};
 ghost use Rattle.qsql_groups.specs.Ready.{IsKey};
 
 use q_keys::{GroupRows, KeyGroups};
 use q_values::{NoMemory, Sym, Vector};
 use qsql_request::Col;
-use qsql_values::{Scope, columns_at, value_of};
+use qsql_values::{Held, Operand, Scope, value_of};
 use std::alloc::Global;
 use std::marker::Model;
 
@@ -54,41 +56,66 @@ pub(crate) fn indices(alloc: Global, numbers: &[u32]) -> Result<Vec<usize>, NoMe
     Ok(found)
 }
 
+// A key column: lent where it is a column of the rows.
+fn key_of<'a>(alloc: Global, value: Operand<'a>) -> Result<Held<'a>, NoMemory>
+    ensures { IfOk result (λ h. contents_of h ≡ items_in (operand_tree value.entry)) }
+{
+    match value {
+        Operand::Atom(atom) => Ok(Held::Made(Operand::Atom(atom).into_items(alloc)?)),
+        Operand::Column(held) => Ok(held),
+    }
+}
+
 // The key columns: the values of the columns after `by`.
-fn keys_of(alloc: Global, by: &[Col], scope: &Scope) -> Result<Vec<Vector>, NoMemory>
+fn keys_of<'a>(alloc: Global, by: &'a [Col], scope: &Scope<'a>) -> Result<Vec<Held<'a>>, NoMemory>
     requires { All (λ c. IsKey scope.now (form c.expr)) by.now }
-    ensures { IfOk result (λ v. v.items ≡ key_columns (map column_form by.now) scope.now) }
+    ensures { IfOk result (λ v. map contents_of v.items ≡ key_columns (map column_form by.now) scope.now) }
 {
     let mut keys = Vec::with_capacity(alloc, by.len())?;
     for column in by {
         let value = value_of(alloc, &column.expr, scope)?;
-        keys.push(value.into_items(alloc)?)?;
+        keys.push(key_of(alloc, value)?)?;
     }
     Ok(keys)
 }
 
+// Lends the columns.
+fn lent<'a>(alloc: Global, keys: &'a [Held<'_>]) -> Result<Vec<&'a Vector>, NoMemory>
+    ensures { IfOk result (λ v. map (λ c. c.now) v.items ≡ map contents_of keys.now) }
+{
+    let mut columns = Vec::with_capacity(alloc, keys.len())?;
+    for key in keys {
+        columns.push_reserved(key.vector());
+    }
+    Ok(columns)
+}
+
 // The items of each key column at each group's first row.
-fn keys_at(alloc: Global, keys: &[Vector], firsts: &[u32]) -> Result<Vec<Vector>, NoMemory>
-    requires { All (λ c. All (λ f. f < length c.atoms) firsts.now) keys.now }
-    ensures { IfOk result (λ v. v.items ≡ map (column_at firsts.now) keys.now) }
+fn keys_at(alloc: Global, keys: &[&Vector], firsts: &[u32]) -> Result<Vec<Vector>, NoMemory>
+    requires { All (λ c. All (λ f. f < length c.atoms) firsts.now) (map (λ c. c.now) keys.now) }
+    ensures { IfOk result (λ v. v.items ≡ map (column_at firsts.now) (map (λ c. c.now) keys.now)) }
 {
     let places = indices(alloc, firsts)?;
-    columns_at(alloc, keys, &places)
+    let mut gathered = Vec::with_capacity(alloc, keys.len())?;
+    for key in keys {
+        gathered.push(key.gather(alloc, &places)?)?;
+    }
+    Ok(gathered)
 }
 
 // The rows of these columns, grouped by these key columns.
 fn grouped<'a>(
     alloc: Global,
-    keys: &[Vector],
+    keys: &[&Vector],
     names: &'a [Sym],
     columns: &'a [Vector],
 ) -> Result<Grouping<'a>, NoMemory>
     requires columns { AreColumns names.now columns.now }
     requires some { 0 < length keys.now }
-    requires even { All (λ c. length c.atoms ≡ rows_of columns.now) keys.now }
-    ensures { IfOk result (λ g. g ≡ groups_by (frame_of names.now columns.now) keys.now) }
+    requires even { All (λ c. length c.atoms ≡ rows_of columns.now) (map (λ c. c.now) keys.now) }
+    ensures { IfOk result (λ g. g ≡ groups_by (frame_of names.now columns.now) (map (λ c. c.now) keys.now)) }
 {
-    let groups = KeyGroups::of(alloc, keys)?;
+    let groups = KeyGroups::of_lent(alloc, keys)?;
     let keys = keys_at(alloc, keys, groups.firsts())?;
     Ok(Grouping {
         names,
@@ -125,7 +152,8 @@ impl<'a> Grouping<'a> {
     {
         let scope = Scope::new(names, columns);
         let keys = keys_of(alloc, by, &scope)?;
-        let grouping = grouped(alloc, &keys, names, columns)?;
+        let lent = lent(alloc, &keys)?;
+        let grouping = grouped(alloc, &lent, names, columns)?;
         Ok(grouping)
     }
 
