@@ -24,6 +24,8 @@ pub record AreNumbers (left right : List Atom) (of_left of_right : List ℤ) : T
   pub left_size : length of_left ≡ length left
   pub right_size : length of_right ≡ length right
   pub across : (i j : ℕ) → i < length left → j < length right
-      → int_cmp (slice_index_or of_right j (pos 0)) (slice_index_or of_left i (pos 0)) ≡ atom_cmp (slice_index_or right j absent) (slice_index_or left i absent)
+      → int_cmp (slice_index_or of_right j (pos 0)) (slice_index_or of_left i (pos 0))
+      ≡ atom_cmp (slice_index_or right j absent) (slice_index_or left i absent)
   pub within : (i j : ℕ) → i < length right → j < length right
-      → int_cmp (slice_index_or of_right i (pos 0)) (slice_index_or of_right j (pos 0)) ≡ atom_cmp (slice_index_or right i absent) (slice_index_or right j absent)
+      → int_cmp (slice_index_or of_right i (pos 0)) (slice_index_or of_right j (pos 0))
+      ≡ atom_cmp (slice_index_or right i absent) (slice_index_or right j absent)

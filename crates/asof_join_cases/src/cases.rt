@@ -59,14 +59,15 @@ fn asof_join_ties(rt: HostRuntime) -> Result<(), Fail> {
     assert_answers(&rt, alloc, &three_of_one(alloc)?, &cases)
 }
 
-const JOINS: [(&[u8], &[u8]); 15] = [
+const JOINS: [(&[u8], &[u8]); 20] = [
     (
         b"aj[`sym`time;select time,sym from trade;select time,sym,bid from quote]",
         b"time=n[10 12 15 11 14 9] sym=s[a b a b c a] bid=j[2 3 7 3 -9223372036854775808 1]",
     ),
     (
         b"aj[`date`sym`time;select date,time,sym from trade;select date,time,sym,bid,ask from quote where bid<7]",
-        b"date=d[8767 8767 8767 8768 8768 8768] time=n[10 12 15 11 14 9] sym=s[a b a b c a] bid=j[2 3 4 6 -9223372036854775808 -9223372036854775808] ask=j[12 13 14 16 -9223372036854775808 -9223372036854775808]",
+        b"date=d[8767 8767 8767 8768 8768 8768] time=n[10 12 15 11 14 9] sym=s[a b a b c a] \
+        bid=j[2 3 4 6 -9223372036854775808 -9223372036854775808] ask=j[12 13 14 16 -9223372036854775808 -9223372036854775808]",
     ),
     (
         b"aj[`time;select time,price from trade;select time,bid from quote]",
@@ -78,7 +79,8 @@ const JOINS: [(&[u8], &[u8]); 15] = [
     ),
     (
         b"aj[`sym`time;trade;select time,sym,bid from quote where bid=3]",
-        b"date=d[8767 8767 8767 8768 8768 8768] time=n[10 12 15 11 14 9] sym=s[a b a b c a] price=j[100 200 101 201 300 102] size=j[1 2 3 4 5 6] bid=j[-9223372036854775808 3 -9223372036854775808 3 -9223372036854775808 -9223372036854775808]",
+        b"date=d[8767 8767 8767 8768 8768 8768] time=n[10 12 15 11 14 9] sym=s[a b a b c a] price=j[100 200 101 201 300 102] size=j[1 2 3 4 5 6] \
+        bid=j[-9223372036854775808 3 -9223372036854775808 3 -9223372036854775808 -9223372036854775808]",
     ),
     (
         b"aj[`sym`time;select time,sym from trade where sym=`c;select time,sym,bid from quote where bid>100]",
@@ -119,6 +121,26 @@ const JOINS: [(&[u8], &[u8]); 15] = [
     (
         b"aj[`sym`time;select date,time,sym from trade where size=2;quote]",
         b"date=d[8767] time=n[12] sym=s[b] bid=j[3] ask=j[13] bsize=j[7] asize=j[7]",
+    ),
+    (
+        b"aj[`sym`time;select time,sym,price from trade where price>200;select time,sym,ask from quote]",
+        b"time=n[11 14] sym=s[b c] price=j[201 300] ask=j[13 -9223372036854775808]",
+    ),
+    (
+        b"aj[`date`time;select date,time,size from trade where date=2024.01.03;select date,time,bid from quote]",
+        b"date=d[8768 8768 8768] time=n[11 14 9] size=j[4 5 6] bid=j[6 7 -9223372036854775808]",
+    ),
+    (
+        b"aj[`sym`time;select time,sym from trade where size<4;select time,sym,n:bsize*bid from quote where date=2024.01.02]",
+        b"time=n[10 12 15] sym=s[a b a] n=j[14 21 28]",
+    ),
+    (
+        b"aj[`time;select time from trade where sym=`c;select time,sym,bid from quote where sym=`b]",
+        b"time=n[14] sym=s[b] bid=j[3]",
+    ),
+    (
+        b"aj[`sym`time;select time:time+0D00:00:00.000000005,sym from trade where date=2024.01.03;select time,sym,bid from quote]",
+        b"time=n[16 19 14] sym=s[b c a] bid=j[3 -9223372036854775808 7]",
     ),
 ];
 
