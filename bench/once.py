@@ -3,7 +3,8 @@
 and then queries over a day of a million rows, one after the other.
 
 Prints, for each, the messages per second, the seconds, the bytes in and out and the peak memory, and then the ratio; for the
-queries of a day, the messages per second, and by how many bytes a row the peak of the memory rose above the day's own.
+queries of a day, the messages per second, and by how many bytes a row the peak of the memory rose above the day's own: in
+all, and for each of the columns that the query reads (at most 24 is wanted).
 Needs rustc, a C compiler (gcc, or the one that CC names) and what `bin/plant` needs, and nothing else but Python 3.
 """
 
@@ -208,8 +209,8 @@ def feed_day(client, columns):
 def ask_day(rows, runs):
     """Queries over one day, one after the other, each compared with what Python makes of the same rows."""
     columns = day_columns(rows)
-    print(f"{'a day of ' + format(rows, ','):58} {'per second':>12} {'ms':>9} {'peak bytes a row':>17}")
-    for query, _, wanted in day_queries(columns):
+    print(f"{'a day of ' + format(rows, ','):58} {'per second':>12} {'ms':>9} {'peak bytes a row':>17} {'a column':>9}")
+    for query, read, wanted in day_queries(columns):
         with Client.run(PLANT) as client:
             feed_day(client, columns)
             client.query("exec count i from quote")
@@ -222,7 +223,7 @@ def ask_day(rows, runs):
         answer = plain(answer)
         if (answer if isinstance(answer, int) else answer["price"]) != wanted:
             sys.exit(f"once.py: another answer to {query}")
-        print(f"{query:58} {1 / min(took):12,.0f} {min(took) * 1e3:9.3f} {rose:17.1f}")
+        print(f"{query:58} {1 / min(took):12,.0f} {min(took) * 1e3:9.3f} {rose:17.1f} {rose / read:9.1f}")
 
 
 def main():

@@ -1,11 +1,11 @@
 -- Columns of which some are chosen by their names.
-use Rattle.std.proofs.Common.{◌≡◌, ◌<◌, ◌≤◌, ◌+◌, ℕ, zero, suc, Bool, true, false, cond, append_assoc, List, [], ◌∷◌, ◌++◌, length, map, take, drop, refl, sym, ap, ap₂, ◌∙◌, All, Option, Some, None, subst, arith}
-use Rattle.std.specs.Prelude.{codes, is_some, unwrap_or, slice_get}
-use Rattle.std.specs.List.{filter, list_all, list_any}
+use Rattle.std.proofs.Common.{◌≡◌, ◌<◌, ◌≤◌, ◌+◌, ℕ, zero, suc, Bool, true, false, cond, append_assoc, List, [], ◌∷◌, ◌++◌, length, map, take, refl, sym, ap, ap₂, ◌∙◌, Option, Some, None, arith}
+use Rattle.std.specs.Prelude.{slice_get}
+use Rattle.std.specs.List.{filter}
 use Rattle.std.specs.Str.{bytes_eq}
 use Rattle.std.proofs.lemmas.Slice.Eq.{bytes_eq-Decides}
 use Rattle.std.proofs.lemmas.List.{length-map, length-append, length-take, take_more, take_all}
-use Rattle.std.proofs.lemmas.List.Elements.{All-nil, All-cons, All-head, All-tail, All-weaker, filter-append}
+use Rattle.std.proofs.lemmas.List.Elements.{All-nil, All-cons, All-head, All-tail, filter-append}
 use Rattle.std.proofs.lemmas.Option.{slice_get_within, get_or_from_slice_get, slice_get-map}
 use Rattle.q_values.specs.Contents.{Contents}
 use Rattle.q_values.specs.Table.{rows_of}
@@ -14,8 +14,8 @@ use Rattle.day_rows.specs.Rows.{Row, column_of, field}
 use Rattle.day_rows.specs.declared.schema.Shape.{Shape}
 use Rattle.plant_core.specs.Plant.{HasColumn}
 use Rattle.qsql_values.specs.Beside.{beside}
-use Rattle.qsql_values.specs.Frames.{Frame, AreColumns, frame_of, kind_beside, column_in}
-use Rattle.qsql_values.proofs.FrameLemmas.{Even, column-lent, kind-lent, length_frame}
+use Rattle.qsql_values.specs.Frames.{AreColumns, frame_of}
+use Rattle.qsql_values.proofs.FrameLemmas.{Even, column-lent, kind-lent}
 use Rattle.qsql_eval.proofs.ReadyLemmas.{even_rows}
 use Rattle.gateway.specs.Needs.{chosen, SameColumn}
 use Rattle.gateway.specs.TableRows.{columns_from}

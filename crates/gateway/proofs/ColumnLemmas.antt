@@ -1,27 +1,27 @@
 -- A table's columns over all dates, date by date.
-use Rattle.std.proofs.Common.{◌≡◌, ◌<◌, ◌≤◌, ◌+◌, ◌-◌, ℕ, zero, suc, ℤ, Bool, true, false, List, [], ◌∷◌, ◌++◌, length, map, take, drop, get_or, replicate, All, refl, sym, ap, ap₂, ◌∙◌, cond, arith, subst, Some, append_assoc}
-use Rattle.std.specs.Prelude.{pos, slice_get}
+use Rattle.std.proofs.Common.{◌≡◌, ◌<◌, ◌+◌, ◌-◌, ℕ, zero, suc, ℤ, Bool, true, false, List, [], ◌∷◌, ◌++◌, length, map, take, drop, get_or, replicate, refl, sym, ap, ap₂, ◌∙◌, cond, arith, append_assoc}
+use Rattle.std.specs.Prelude.{pos}
 use Rattle.std.specs.List.{flat_map, range_with_len}
 use Rattle.std.specs.Ordering.{int_eq}
 use Rattle.std.proofs.Math.Seq.{take-length}
 use Rattle.std.proofs.lemmas.Bool.Decides.{Decides-int_eq}
-use Rattle.std.proofs.lemmas.List.{append-nil, replicate-append-replicate, map-append, length-map, length-append, take_more, take_all}
+use Rattle.std.proofs.lemmas.List.{append-nil, replicate-append-replicate, map-append, length-map, length-append, take_more}
 use Rattle.std.proofs.lemmas.List.Concat.{flat_map-append}
+use Rattle.std.proofs.lemmas.List.Elements.{All-get_or}
 use Rattle.std.proofs.lemmas.List.FromFn.{length-map-range_with_len}
 use Rattle.std.proofs.lemmas.Simd.{map-map}
-use Rattle.day_rows.specs.Chronicle.{view, DatesAscend, date_of}
+use Rattle.day_rows.specs.Chronicle.{view, date_of}
 use Rattle.day_rows.specs.Rows.{Row, column_of, field}
 use Rattle.day_rows.specs.declared.entry.Entry.{Entry}
 use Rattle.day_rows.specs.declared.entry.Entry.TheVariants as e
 use Rattle.plant_core.proofs.ItemsLemmas.{map-replicate}
-use Rattle.plant_core.proofs.LawLemmas.{view-by_dates}
 use Rattle.plant_core.specs.Chronicle.{dates_of, on_date, date_at, rows_at}
 use Rattle.q_values.specs.Contents.{Contents}
 use Rattle.q_values.specs.declared.atom.Atom.{Atom}
 use Rattle.q_values.specs.declared.atom.Atom.TheVariants as a
 use Rattle.q_values.specs.declared.kind.Kind.{Kind}
-use Rattle.q_values.specs.declared.kind.Kind.TheVariants as k
-use Rattle.gateway.specs.TableRows.{dates_of_rows, numbers_to, row_numbers}
+use Rattle.gateway.specs.DateRows.{AreDates, rows_on}
+use Rattle.gateway.specs.TableRows.{numbers_to, numbers_on}
 
 -- a plant has a date
 pub some_dates : (first : ℤ) (entries : List Entry) → 0 < length (dates_of first entries)
@@ -32,26 +32,20 @@ some_dates first (e.Fault by ∷ entries) = some_dates first entries
 
 -- ---- dates one after another
 
--- the rows of a table on the first n dates
-abbrev pub rows_until : ℤ → List Entry → ℕ → ℕ → List Row
-rows_until first entries table n = flat_map (λ d. on_date d (view first entries table)) (take n (dates_of first entries))
+-- one of these dates is a date
+pub date_here : (first : ℤ) (entries : List Entry) (ks : List ℕ) (i d : ℕ) → AreDates first entries ks → i < length ks → get_or ks i d < length (dates_of first entries)
+date_here first entries ks i d all within = All-get_or (λ (k : ℕ). k < length (dates_of first entries)) ks i d within all
 
 -- one date more
-pub rows_until-more : (first : ℤ) (entries : List Entry) (table n : ℕ) → n < length (dates_of first entries) → rows_until first entries table (n + 1) ≡ rows_until first entries table n ++ rows_at first entries n table
-rows_until-more first entries table n within =
-    let f : ℤ → List Row = λ d. on_date d (view first entries table) in
-    let dates = dates_of first entries in
-    ap (flat_map f) (take_more dates n first within) ∙ flat_map-append f (take n dates) (get_or dates n first ∷ []) ∙ ap (λ l. rows_until first entries table n ++ l) (append-nil (f (get_or dates n first)))
+flat_map_next : {X : Type 0} (f : ℕ → List X) (ks : List ℕ) (i d : ℕ) → i < length ks → flat_map f (take (i + 1) ks) ≡ flat_map f (take i ks) ++ f (get_or ks i d)
+flat_map_next f ks i d within =
+    ap (flat_map f) (take_more ks i d within) ∙ flat_map-append f (take i ks) (get_or ks i d ∷ []) ∙ ap (λ l. flat_map f (take i ks) ++ l) (append-nil (f (get_or ks i d)))
 
--- all dates
-pub rows_until-all : (first : ℤ) (entries : List Entry) (table n : ℕ) → DatesAscend first entries → length (dates_of first entries) ≤ n → rows_until first entries table n ≡ view first entries table
-rows_until-all first entries table n ascend all =
-    let whole : take n (dates_of first entries) ≡ dates_of first entries = take_all n (dates_of first entries) all in
-    ap (flat_map (λ d. on_date d (view first entries table))) whole ∙ sym (view-by_dates first table entries ascend)
+abbrev pub parts_at : ℤ → List Entry → ℕ → ℕ → List Row
+parts_at first entries table k = rows_at first entries k table
 
--- the first date
-pub rows_until-one : (first : ℤ) (entries : List Entry) (table : ℕ) → rows_until first entries table 1 ≡ rows_at first entries 0 table
-rows_until-one first entries table = rows_until-more first entries table 0 (some_dates first entries)
+rows_next : (first : ℤ) (entries : List Entry) (table : ℕ) (ks : List ℕ) (i d : ℕ) → i < length ks → rows_on (take (i + 1) ks) first entries table ≡ rows_on (take i ks) first entries table ++ rows_at first entries (get_or ks i d) table
+rows_next first entries table ks i d within = flat_map_next (parts_at first entries table) ks i d within
 
 -- ---- the dates
 
@@ -69,15 +63,21 @@ dated : (d : ℤ) (rows : List Row) → map date_of_row (on_date d rows) ≡ rep
 dated d [] = refl
 dated d (row ∷ rows) = dated_by d row (on_date d rows) (int_eq row.date d) refl (dated d rows)
 
+-- all rows of a date have that date
+pub rows_dated : (first : ℤ) (entries : List Entry) (table k : ℕ) → map date_of_row (rows_at first entries k table) ≡ replicate (length (rows_at first entries k table)) (a.Date (date_at first entries k))
+rows_dated first entries table k = dated (date_at first entries k) (view first entries table)
+
 -- one date more
-pub dates_more : (first : ℤ) (entries : List Entry) (table n : ℕ) (dates more : List ℤ) (rows : ℕ) (date : ℤ) → n < length (dates_of first entries) → map (λ x. a.Date x) dates ≡ map date_of_row (rows_until first entries table n) → more ≡ dates ++ replicate rows date → rows ≡ length (rows_at first entries n table) → date ≡ date_at first entries n → map (λ x. a.Date x) more ≡ map date_of_row (rows_until first entries table (n + 1))
-dates_more first entries table n dates more rows date within so_far e size is =
-    let here : map (λ x. a.Date x) (replicate rows date) ≡ map date_of_row (rows_at first entries n table) =
-    map-replicate (λ x. a.Date x) rows date ∙ ap₂ (λ (m : ℕ) (d : ℤ). replicate m (a.Date d)) size is ∙ sym (dated (date_at first entries n) (view first entries table)) in
-    ap (map (λ x. a.Date x)) e ∙ map-append (λ x. a.Date x) dates (replicate rows date)
+pub dates_more : (first : ℤ) (entries : List Entry) (table : ℕ) (ks : List ℕ) (i d : ℕ) (column more : List ℤ) (rows : ℕ) (date : ℤ) → i < length ks → map (λ x. a.Date x) column ≡ map date_of_row (rows_on (take i ks) first entries table)
+    → more ≡ column ++ replicate rows date → rows ≡ length (rows_at first entries (get_or ks i d) table) → date ≡ date_at first entries (get_or ks i d) → map (λ x. a.Date x) more ≡ map date_of_row (rows_on (take (i + 1) ks) first entries table)
+dates_more first entries table ks i d column more rows date within so_far e size is =
+    let k = get_or ks i d in
+    let here : map (λ x. a.Date x) (replicate rows date) ≡ map date_of_row (rows_at first entries k table) =
+    map-replicate (λ x. a.Date x) rows date ∙ ap₂ (λ (m : ℕ) (x : ℤ). replicate m (a.Date x)) size is ∙ sym (rows_dated first entries table k) in
+    ap (map (λ x. a.Date x)) e ∙ map-append (λ x. a.Date x) column (replicate rows date)
     ∙ ap₂ (λ (xs ys : List Atom). xs ++ ys) so_far here
-    ∙ sym (map-append date_of_row (rows_until first entries table n) (rows_at first entries n table))
-    ∙ ap (map date_of_row) (sym (rows_until-more first entries table n within))
+    ∙ sym (map-append date_of_row (rows_on (take i ks) first entries table) (rows_at first entries k table))
+    ∙ ap (map date_of_row) (sym (rows_next first entries table ks i d within))
 
 -- ---- the numbers
 
@@ -91,42 +91,28 @@ range-more a (suc n) =
 pub range_more : (n : ℕ) → range_with_len 0 (n + 1) ≡ range_with_len 0 n ++ n ∷ []
 range_more n = let z : 0 + n ≡ n = omega arith in range-more 0 n ∙ ap (λ m. range_with_len 0 n ++ m ∷ []) z
 
--- the numbers of the rows on the first n dates
-abbrev pub numbers_until : ℤ → List Entry → ℕ → ℕ → List Atom
-numbers_until first entries table n = flat_map (λ (k : ℕ). numbers_to (length (rows_at first entries k table))) (range_with_len 0 n)
+abbrev pub numbers_at : ℤ → List Entry → ℕ → ℕ → List Atom
+numbers_at first entries table k = numbers_to (length (rows_at first entries k table))
 
-numbers_until-more : (first : ℤ) (entries : List Entry) (table n : ℕ) → numbers_until first entries table (n + 1) ≡ numbers_until first entries table n ++ numbers_to (length (rows_at first entries n table))
-numbers_until-more first entries table n =
-    let f : ℕ → List Atom = λ k. numbers_to (length (rows_at first entries k table)) in
-    ap (flat_map f) (range_more n) ∙ flat_map-append f (range_with_len 0 n) (n ∷ []) ∙ ap (λ l. numbers_until first entries table n ++ l) (append-nil (f n))
-
-pub numbers_more : (first : ℤ) (entries : List Entry) (table n : ℕ) (numbers more : List ℤ) (rows : ℕ) → map (λ x. a.Long x) numbers ≡ numbers_until first entries table n → more ≡ numbers ++ map (λ i. pos i) (range_with_len 0 rows) → rows ≡ length (rows_at first entries n table) → map (λ x. a.Long x) more ≡ numbers_until first entries table (n + 1)
-numbers_more first entries table n numbers more rows so_far e size =
-    let here : map (λ x. a.Long x) (map (λ i. pos i) (range_with_len 0 rows)) ≡ numbers_to (length (rows_at first entries n table)) =
+pub numbers_more : (first : ℤ) (entries : List Entry) (table : ℕ) (ks : List ℕ) (i d : ℕ) (numbers more : List ℤ) (rows : ℕ) → i < length ks → map (λ x. a.Long x) numbers ≡ (numbers_on (take i ks) first entries table).atoms
+    → more ≡ numbers ++ map (λ i. pos i) (range_with_len 0 rows) → rows ≡ length (rows_at first entries (get_or ks i d) table) → map (λ x. a.Long x) more ≡ (numbers_on (take (i + 1) ks) first entries table).atoms
+numbers_more first entries table ks i d numbers more rows within so_far e size =
+    let here : map (λ x. a.Long x) (map (λ i. pos i) (range_with_len 0 rows)) ≡ numbers_at first entries table (get_or ks i d) =
     map-map (λ x. a.Long x) (λ i. pos i) (range_with_len 0 rows) ∙ ap numbers_to size in
     ap (map (λ x. a.Long x)) e ∙ map-append (λ x. a.Long x) numbers (map (λ i. pos i) (range_with_len 0 rows))
     ∙ ap₂ (λ (xs ys : List Atom). xs ++ ys) so_far here
-    ∙ sym (numbers_until-more first entries table n)
+    ∙ sym (flat_map_next (numbers_at first entries table) ks i d within)
 
-length-numbers_to : (n : ℕ) → length (numbers_to n) ≡ n
+pub length-numbers_to : (n : ℕ) → length (numbers_to n) ≡ n
 length-numbers_to n = length-map-range_with_len (λ (i : ℕ). a.Long (pos i)) 0 n
 
 -- as many numbers as rows
-size_until : (first : ℤ) (entries : List Entry) (table n : ℕ) → n ≤ length (dates_of first entries) → length (numbers_until first entries table n) ≡ length (rows_until first entries table n)
-size_until first entries table zero within = refl
-size_until first entries table (suc n) within =
-    let next : n + 1 ≡ suc n = omega arith in
-    let here : n < length (dates_of first entries) = omega arith in
-    let so_far = size_until first entries table n (omega arith) in
-    let numbers = ap length (numbers_until-more first entries table n) ∙ length-append (numbers_until first entries table n) (numbers_to (length (rows_at first entries n table))) in
-    let rows = ap length (rows_until-more first entries table n here) ∙ length-append (rows_until first entries table n) (rows_at first entries n table) in
-    subst (λ (m : ℕ). length (numbers_until first entries table m) ≡ length (rows_until first entries table m)) next
-    (numbers ∙ ap₂ (λ (x y : ℕ). x + y) so_far (length-numbers_to (length (rows_at first entries n table))) ∙ sym rows)
-
-pub length-row_numbers : (first : ℤ) (entries : List Entry) (table : ℕ) → DatesAscend first entries → length (row_numbers first entries table).atoms ≡ length (view first entries table)
-length-row_numbers first entries table ascend =
-    let n = length (dates_of first entries) in
-    size_until first entries table n (omega arith) ∙ ap length (rows_until-all first entries table n ascend (omega arith))
+pub length-numbers_on : (ks : List ℕ) (first : ℤ) (entries : List Entry) (table : ℕ) → length (numbers_on ks first entries table).atoms ≡ length (rows_on ks first entries table)
+length-numbers_on [] first entries table = refl
+length-numbers_on (k ∷ ks) first entries table =
+    length-append (numbers_at first entries table k) (numbers_on ks first entries table).atoms
+    ∙ ap₂ (λ (x y : ℕ). x + y) (length-numbers_to (length (rows_at first entries k table))) (length-numbers_on ks first entries table)
+    ∙ sym (length-append (rows_at first entries k table) (rows_on ks first entries table))
 
 -- ---- a column
 
@@ -135,10 +121,11 @@ part_is kind column rows n part size is =
     let all : n ≡ length (map (field column) rows) = size ∙ sym (length-map rows (field column)) in
     is ∙ ap (λ (l : List Atom). record { kind = kind; atoms = l }) (ap (λ m. take m (map (field column) rows)) all ∙ take-length (map (field column) rows))
 
-pub column_more : (first : ℤ) (entries : List Entry) (table column n : ℕ) (kind : Kind) (whole part new : Contents) → n < length (dates_of first entries) → whole ≡ column_of kind column (rows_until first entries table n) → part ≡ column_of kind column (rows_at first entries n table) → new ≡ record whole { atoms = whole.atoms ++ part.atoms } → new ≡ column_of kind column (rows_until first entries table (n + 1))
-column_more first entries table column n kind whole part new within w p e =
-    let rows : rows_until first entries table n ++ rows_at first entries n table ≡ rows_until first entries table (n + 1) = sym (rows_until-more first entries table n within) in
-    e ∙ rw (w, p) (ap (λ (l : List Atom). record { kind = kind; atoms = l }) (sym (map-append (field column) (rows_until first entries table n) (rows_at first entries n table))) ∙ ap (column_of kind column) rows)
+pub column_more : (first : ℤ) (entries : List Entry) (table column : ℕ) (ks : List ℕ) (i d : ℕ) (kind : Kind) (whole part new : Contents) → i < length ks → whole ≡ column_of kind column (rows_on (take i ks) first entries table)
+    → part ≡ column_of kind column (rows_at first entries (get_or ks i d) table) → new ≡ record whole { atoms = whole.atoms ++ part.atoms } → new ≡ column_of kind column (rows_on (take (i + 1) ks) first entries table)
+column_more first entries table column ks i d kind whole part new within w p e =
+    let rows : rows_on (take i ks) first entries table ++ rows_at first entries (get_or ks i d) table ≡ rows_on (take (i + 1) ks) first entries table = sym (rows_next first entries table ks i d within) in
+    e ∙ rw (w, p) (ap (λ (l : List Atom). record { kind = kind; atoms = l }) (sym (map-append (field column) (rows_on (take i ks) first entries table) (rows_at first entries (get_or ks i d) table))) ∙ ap (column_of kind column) rows)
 
 -- ---- the open date
 

@@ -1,5 +1,5 @@
 -- Of the rows of a table, those columns that a query needs.
-use Rattle.std.proofs.Common.{◌≡◌, ◌<◌, ℕ, zero, suc, ℤ, Bool, true, false, cond, not, ◌+◌, ◌||◌, ◌==◌, List, [], ◌∷◌, ◌++◌, length, map, refl, sym, ap, ap₂, ◌∙◌, All, Option, Some, None, subst, arith}
+use Rattle.std.proofs.Common.{◌≡◌, ℕ, suc, ℤ, Bool, true, false, cond, not, ◌+◌, ◌||◌, List, [], ◌∷◌, length, refl, sym, ap, ap₂, ◌∙◌, All, Option, Some, None, subst, arith}
 use Rattle.std.specs.Prelude.{codes, is_some, slice_get}
 use Rattle.std.specs.List.{filter, list_all, list_any}
 use Rattle.std.specs.Str.{bytes_eq}
@@ -11,8 +11,6 @@ use Rattle.q_values.specs.Kind.{is}
 use Rattle.q_values.specs.Table.{rows_of}
 use Rattle.q_values.specs.declared.kind.Kind.{Kind}
 use Rattle.q_values.specs.declared.kind.Kind.TheVariants as k
-use Rattle.day_rows.specs.Chronicle.{view, DatesAscend}
-use Rattle.day_rows.specs.Rows.{Row}
 use Rattle.day_rows.proofs.DayLemmas.{all-slice_get}
 use Rattle.day_rows.specs.Schema.{IsSchema, IsShape}
 use Rattle.day_rows.specs.declared.entry.Entry.{Entry}
@@ -25,13 +23,14 @@ use Rattle.qsql_values.specs.Frames.{Frame, AreColumns, frame_of, kind_beside}
 use Rattle.qsql_values.specs.Kinds.{column_kind}
 use Rattle.qsql_values.proofs.FrameLemmas.{Even, some-lent, length_frame}
 use Rattle.qsql_eval.proofs.ReadyLemmas.{even_rows}
-use Rattle.qsql_eval.specs.Judgement.{Judgement, unknown, mistyped, fits, first_unknown, judged_by_names, judged_over, judgement, table_named, all_columns, is_typed, IsFit}
+use Rattle.qsql_eval.specs.Judgement.{mistyped, fits, first_unknown, judged_by_names, judged_over, judgement, table_named, all_columns, is_typed, IsFit}
 use Rattle.qsql_eval.specs.Meaning.{meaning}
 use Rattle.qsql_eval.specs.Views.{needed, is_kind, has_column, has_columns}
-use Rattle.gateway.specs.Answer.{table_index, query_value}
-use Rattle.gateway.specs.Needs.{wanted, is_wanted, chosen, SameColumn, AreSame}
-use Rattle.gateway.specs.TableRows.{dates_of_rows, row_numbers, columns_from, table_rows}
-use Rattle.gateway.proofs.ColumnLemmas.{date_of_row, length-row_numbers}
+use Rattle.gateway.specs.Answer.{table_index}
+use Rattle.gateway.specs.Needs.{is_wanted, chosen, SameColumn, AreSame}
+use Rattle.gateway.specs.DateRows.{rows_on, columns_on}
+use Rattle.gateway.specs.TableRows.{dates_of_rows, numbers_on, columns_from}
+use Rattle.gateway.proofs.ColumnLemmas.{date_of_row, length-numbers_on}
 use Rattle.gateway.proofs.ChosenLemmas.{chosen_columns, even_chosen, beside-chosen, same_column, size_of_found, length-columns_from, kinds-columns_from, even-columns_from}
 use Rattle.gateway.proofs.NeedLemmas.{needed_suffice}
 
@@ -115,86 +114,86 @@ wanted_needed (name ∷ names) = among (name ∷ names)
 
 -- ---- the columns of a table
 
-abbrev table_names : Shape → List (List ℕ)
+abbrev pub table_names : Shape → List (List ℕ)
 table_names table = codes "date" ∷ codes "i" ∷ table.names
 
-abbrev table_columns : ℤ → List Entry → ℕ → Shape → List Contents
-table_columns first entries index table =
-    dates_of_rows (view first entries index) ∷ row_numbers first entries index ∷ columns_from 0 table.kinds (view first entries index)
+-- the rows of a table on these dates, with all of its columns
+abbrev pub table_rows_on : List ℕ → ℤ → List Entry → ℕ → Shape → Frame
+table_rows_on dates first entries index table = frame_of (table_names table) (columns_on dates first entries index table)
 
-table_kinds : (first : ℤ) (entries : List Entry) (index : ℕ) (table : Shape) (name : List ℕ) → kind_beside (table_rows first entries index table) name ≡ column_kind table name
-table_kinds first entries index table name =
+table_kinds : (dates : List ℕ) (first : ℤ) (entries : List Entry) (index : ℕ) (table : Shape) (name : List ℕ) → kind_beside (table_rows_on dates first entries index table) name ≡ column_kind table name
+table_kinds dates first entries index table name =
     ap (λ (kinds : List Kind). cond (bytes_eq name (codes "date")) (Some k.Date) (cond (bytes_eq name (codes "i")) (Some k.Long) (beside name table.names kinds)))
-    (kinds-columns_from 0 table.kinds (view first entries index))
+    (kinds-columns_from 0 table.kinds (rows_on dates first entries index))
 
-table_size : (first : ℤ) (entries : List Entry) (index : ℕ) (table : Shape) → length table.names ≡ length table.kinds → length (table_names table) ≡ length (table_columns first entries index table)
-table_size first entries index table size = ap (λ (n : ℕ). suc (suc n)) (size ∙ sym (length-columns_from 0 table.kinds (view first entries index)))
+table_size : (dates : List ℕ) (first : ℤ) (entries : List Entry) (index : ℕ) (table : Shape) → length table.names ≡ length table.kinds → length (table_names table) ≡ length (columns_on dates first entries index table)
+table_size dates first entries index table size = ap (λ (n : ℕ). suc (suc n)) (size ∙ sym (length-columns_from 0 table.kinds (rows_on dates first entries index)))
 
-table_even : (first : ℤ) (entries : List Entry) (index : ℕ) (table : Shape) → DatesAscend first entries → Even (length (view first entries index)) (table_columns first entries index table)
-table_even first entries index table ascend =
-    let rows = view first entries index in
+table_even : (dates : List ℕ) (first : ℤ) (entries : List Entry) (index : ℕ) (table : Shape) → Even (length (rows_on dates first entries index)) (columns_on dates first entries index table)
+table_even dates first entries index table =
+    let rows = rows_on dates first entries index in
     let P : Contents → Type 0 = λ c. length c.atoms ≡ length rows in
-    All-cons P (dates_of_rows rows) (row_numbers first entries index ∷ columns_from 0 table.kinds rows) (length-map rows date_of_row)
-    (All-cons P (row_numbers first entries index) (columns_from 0 table.kinds rows) (length-row_numbers first entries index ascend)
+    All-cons P (dates_of_rows rows) (numbers_on dates first entries index ∷ columns_from 0 table.kinds rows) (length-map rows date_of_row)
+    (All-cons P (numbers_on dates first entries index) (columns_from 0 table.kinds rows) (length-numbers_on dates first entries index)
     (even-columns_from (length rows) 0 table.kinds rows refl))
 
-table_are : (first : ℤ) (entries : List Entry) (index : ℕ) (table : Shape) → DatesAscend first entries → length table.names ≡ length table.kinds → AreColumns (table_names table) (table_columns first entries index table)
-table_are first entries index table ascend size = record {
-  named = table_size first entries index table size;
-  even = even_rows (length (view first entries index)) (table_columns first entries index table) (table_even first entries index table ascend);
+table_are : (dates : List ℕ) (first : ℤ) (entries : List Entry) (index : ℕ) (table : Shape) → length table.names ≡ length table.kinds → AreColumns (table_names table) (columns_on dates first entries index table)
+table_are dates first entries index table size = record {
+  named = table_size dates first entries index table size;
+  even = even_rows (length (rows_on dates first entries index)) (columns_on dates first entries index table) (table_even dates first entries index table);
 }
 
 -- the columns that are wanted make rows
-pub wanted_columns : (first : ℤ) (entries : List Entry) (index : ℕ) (table : Shape) (needs : List (List ℕ)) → DatesAscend first entries → length table.names ≡ length table.kinds → AreColumns (filter (is_wanted needs) (table_names table)) (chosen (is_wanted needs) (table_names table) (table_columns first entries index table))
-wanted_columns first entries index table needs ascend size =
-    chosen_columns (length (view first entries index)) (is_wanted needs) (table_names table) (table_columns first entries index table) (table_size first entries index table size) (table_even first entries index table ascend)
+pub wanted_columns : (dates : List ℕ) (first : ℤ) (entries : List Entry) (index : ℕ) (table : Shape) (needs : List (List ℕ)) → length table.names ≡ length table.kinds → AreColumns (filter (is_wanted needs) (table_names table)) (chosen (is_wanted needs) (table_names table) (columns_on dates first entries index table))
+wanted_columns dates first entries index table needs size =
+    chosen_columns (length (rows_on dates first entries index)) (is_wanted needs) (table_names table) (columns_on dates first entries index table) (table_size dates first entries index table size) (table_even dates first entries index table)
 
-pub wanted_made : (first : ℤ) (entries : List Entry) (index : ℕ) (table : Shape) (needs names : List (List ℕ)) (columns : List Contents) → DatesAscend first entries → length table.names ≡ length table.kinds
-    → names ≡ filter (is_wanted needs) (table_names table) → columns ≡ chosen (is_wanted needs) (table_names table) (table_columns first entries index table) → AreColumns names columns
-wanted_made first entries index table needs names columns ascend size n c =
+pub wanted_made : (dates : List ℕ) (first : ℤ) (entries : List Entry) (index : ℕ) (table : Shape) (needs names : List (List ℕ)) (columns : List Contents) → length table.names ≡ length table.kinds
+    → names ≡ filter (is_wanted needs) (table_names table) → columns ≡ chosen (is_wanted needs) (table_names table) (columns_on dates first entries index table) → AreColumns names columns
+wanted_made dates first entries index table needs names columns size n c =
     subst (λ (ns : List (List ℕ)). AreColumns ns columns) (sym n)
-    (subst (λ (cs : List Contents). AreColumns (filter (is_wanted needs) (table_names table)) cs) (sym c) (wanted_columns first entries index table needs ascend size))
+    (subst (λ (cs : List Contents). AreColumns (filter (is_wanted needs) (table_names table)) cs) (sym c) (wanted_columns dates first entries index table needs size))
 
 some_item : {X : Type 0} (o : Option X) → is_some o ≡ true → (x : X) × (o ≡ Some x)
 some_item (Some x) h = (x, refl)
 some_item None h = no h
 
 -- a known name has a column
-found_column : (first : ℤ) (entries : List Entry) (index : ℕ) (table : Shape) (name : List ℕ) → IsKnown table name → (c : Contents) × (beside name (table_names table) (table_columns first entries index table) ≡ Some c)
-found_column first entries index table name known =
-    let some : is_some (kind_beside (table_rows first entries index table) name) ≡ true = ap is_some (table_kinds first entries index table name) ∙ known in
-    some_item (beside name (table_names table) (table_columns first entries index table)) (some-lent (table_names table) (table_columns first entries index table) name some)
+found_column : (dates : List ℕ) (first : ℤ) (entries : List Entry) (index : ℕ) (table : Shape) (name : List ℕ) → IsKnown table name → (c : Contents) × (beside name (table_names table) (columns_on dates first entries index table) ≡ Some c)
+found_column dates first entries index table name known =
+    let some : is_some (kind_beside (table_rows_on dates first entries index table) name) ≡ true = ap is_some (table_kinds dates first entries index table name) ∙ known in
+    some_item (beside name (table_names table) (columns_on dates first entries index table)) (some-lent (table_names table) (columns_on dates first entries index table) name some)
 
 -- the rows of the columns that are wanted
-abbrev pub wanted_rows : ℤ → List Entry → ℕ → Shape → List (List ℕ) → Frame
-wanted_rows first entries index table needs =
-    frame_of (filter (is_wanted needs) (table_names table)) (chosen (is_wanted needs) (table_names table) (table_columns first entries index table))
+abbrev pub wanted_rows : List ℕ → ℤ → List Entry → ℕ → Shape → List (List ℕ) → Frame
+wanted_rows dates first entries index table needs =
+    frame_of (filter (is_wanted needs) (table_names table)) (chosen (is_wanted needs) (table_names table) (columns_on dates first entries index table))
 
 -- they have the columns that are needed
-same_wanted : (first : ℤ) (entries : List Entry) (index : ℕ) (table : Shape) (needs : List (List ℕ)) → DatesAscend first entries → length table.names ≡ length table.kinds → (name : List ℕ) → is_wanted needs name ≡ true → IsKnown table name → SameColumn (table_rows first entries index table) (wanted_rows first entries index table needs) name
-same_wanted first entries index table needs ascend size name has known =
+same_wanted : (dates : List ℕ) (first : ℤ) (entries : List Entry) (index : ℕ) (table : Shape) (needs : List (List ℕ)) → length table.names ≡ length table.kinds → (name : List ℕ) → is_wanted needs name ≡ true → IsKnown table name → SameColumn (table_rows_on dates first entries index table) (wanted_rows dates first entries index table needs) name
+same_wanted dates first entries index table needs size name has known =
     let names = table_names table in
-    let columns = table_columns first entries index table in
-    let found = found_column first entries index table name known in
+    let columns = columns_on dates first entries index table in
+    let found = found_column dates first entries index table name known in
     same_column names (filter (is_wanted needs) names) columns (chosen (is_wanted needs) names columns) name found.0
-    (table_are first entries index table ascend size)
-    (wanted_columns first entries index table needs ascend size)
+    (table_are dates first entries index table size)
+    (wanted_columns dates first entries index table needs size)
     found.1
     (beside-chosen (is_wanted needs) name names columns has ∙ found.1)
 
 -- they are as many
-size_wanted : (first : ℤ) (entries : List Entry) (index : ℕ) (table : Shape) (needs : List (List ℕ)) → DatesAscend first entries → length table.names ≡ length table.kinds → (name : List ℕ) → is_wanted needs name ≡ true → IsKnown table name → length (table_rows first entries index table).rows ≡ length (wanted_rows first entries index table needs).rows
-size_wanted first entries index table needs ascend size name has known =
+size_wanted : (dates : List ℕ) (first : ℤ) (entries : List Entry) (index : ℕ) (table : Shape) (needs : List (List ℕ)) → length table.names ≡ length table.kinds → (name : List ℕ) → is_wanted needs name ≡ true → IsKnown table name → length (table_rows_on dates first entries index table).rows ≡ length (wanted_rows dates first entries index table needs).rows
+size_wanted dates first entries index table needs size name has known =
     let names = table_names table in
-    let columns = table_columns first entries index table in
-    let n = length (view first entries index) in
-    let found = found_column first entries index table name known in
+    let columns = columns_on dates first entries index table in
+    let n = length (rows_on dates first entries index) in
+    let found = found_column dates first entries index table name known in
     let there : rows_of (chosen (is_wanted needs) names columns) ≡ n =
-    size_of_found n (filter (is_wanted needs) names) (chosen (is_wanted needs) names columns) name found.0 (even_chosen n (is_wanted needs) names columns (table_even first entries index table ascend)) (beside-chosen (is_wanted needs) name names columns has ∙ found.1) in
-    length_frame names columns (table_are first entries index table ascend size)
-    ∙ length-map (view first entries index) date_of_row
+    size_of_found n (filter (is_wanted needs) names) (chosen (is_wanted needs) names columns) name found.0 (even_chosen n (is_wanted needs) names columns (table_even dates first entries index table)) (beside-chosen (is_wanted needs) name names columns has ∙ found.1) in
+    length_frame names columns (table_are dates first entries index table size)
+    ∙ length-map (rows_on dates first entries index) date_of_row
     ∙ sym there
-    ∙ sym (length_frame (filter (is_wanted needs) names) (chosen (is_wanted needs) names columns) (wanted_columns first entries index table needs ascend size))
+    ∙ sym (length_frame (filter (is_wanted needs) names) (chosen (is_wanted needs) names columns) (wanted_columns dates first entries index table needs size))
 
 -- a column that is read, whatever is needed
 one_wanted : (table : Shape) (needs : List (List ℕ)) → All (IsKnown table) needs → (name : List ℕ) × ((is_wanted needs name ≡ true) × IsKnown table name)
@@ -205,12 +204,12 @@ all_both : {X : Type 0} (P Q R : X → Type 0) → ((x : X) → P x → Q x → 
 all_both P Q R f [] p q = All-nil R
 all_both P Q R f (x ∷ xs) p q = All-cons R x xs (f x (All-head P x xs p) (All-head Q x xs q)) (all_both P Q R f xs (All-tail P x xs p) (All-tail Q x xs q))
 
-pub are_same : (first : ℤ) (entries : List Entry) (index : ℕ) (table : Shape) (needs : List (List ℕ)) → DatesAscend first entries → length table.names ≡ length table.kinds → All (IsKnown table) needs → AreSame (table_rows first entries index table) (wanted_rows first entries index table needs) needs
-are_same first entries index table needs ascend size known =
+pub are_same : (dates : List ℕ) (first : ℤ) (entries : List Entry) (index : ℕ) (table : Shape) (needs : List (List ℕ)) → length table.names ≡ length table.kinds → All (IsKnown table) needs → AreSame (table_rows_on dates first entries index table) (wanted_rows dates first entries index table needs) needs
+are_same dates first entries index table needs size known =
     let one = one_wanted table needs known in
     record {
-      size = size_wanted first entries index table needs ascend size one.0 one.1.0 one.1.1;
-      columns = all_both (λ (n : List ℕ). is_wanted needs n ≡ true) (IsKnown table) (SameColumn (table_rows first entries index table) (wanted_rows first entries index table needs)) (same_wanted first entries index table needs ascend size) needs (wanted_needed needs) known;
+      size = size_wanted dates first entries index table needs size one.0 one.1.0 one.1.1;
+      columns = all_both (λ (n : List ℕ). is_wanted needs n ≡ true) (IsKnown table) (SameColumn (table_rows_on dates first entries index table) (wanted_rows dates first entries index table needs)) (same_wanted dates first entries index table needs size) needs (wanted_needed needs) known;
     }
 
 -- ---- they are the rows that a query takes
@@ -226,43 +225,43 @@ all_pass : {X : Type 0} (test : X → Bool) (xs : List X) → All (λ (x : X). t
 all_pass test [] h = refl
 all_pass {X = X} test (x ∷ xs) h = rw (All-head (λ (y : X). test y ≡ true) x xs h) (all_pass test xs (All-tail (λ (y : X). test y ≡ true) x xs h))
 
-pub wanted_fit : (first : ℤ) (entries : List Entry) (index : ℕ) (table : Shape) (q : QueryForm) → DatesAscend first entries → length table.names ≡ length table.kinds → IsFit table q → has_columns table q (wanted_rows first entries index table (needed q table)) ≡ true
-wanted_fit first entries index table q ascend size fit =
+pub wanted_fit : (dates : List ℕ) (first : ℤ) (entries : List Entry) (index : ℕ) (table : Shape) (q : QueryForm) → length table.names ≡ length table.kinds → IsFit table q → has_columns table q (wanted_rows dates first entries index table (needed q table)) ≡ true
+wanted_fit dates first entries index table q size fit =
     let needs = needed q table in
     let known = known_needed table q fit size in
-    let g = wanted_rows first entries index table needs in
-    let same = are_same first entries index table needs ascend size known in
+    let g = wanted_rows dates first entries index table needs in
+    let same = are_same dates first entries index table needs size known in
     all_pass (has_column table (kind_beside g)) needs
-    (all_both (SameColumn (table_rows first entries index table) g) (IsKnown table) (λ (n : List ℕ). has_column table (kind_beside g) n ≡ true)
-    (λ n s known. kind_itself (column_kind table n) (kind_beside g n) (sym (table_kinds first entries index table n) ∙ s.kind) known)
+    (all_both (SameColumn (table_rows_on dates first entries index table) g) (IsKnown table) (λ (n : List ℕ). has_column table (kind_beside g) n ≡ true)
+    (λ n s known. kind_itself (column_kind table n) (kind_beside g n) (sym (table_kinds dates first entries index table n) ∙ s.kind) known)
     needs same.columns known)
 
-pub wanted_meaning : (first : ℤ) (entries : List Entry) (index : ℕ) (table : Shape) (q : QueryForm) → DatesAscend first entries → length table.names ≡ length table.kinds → IsFit table q → meaning (all_columns table) q (wanted_rows first entries index table (needed q table)) ≡ meaning (all_columns table) q (table_rows first entries index table)
-wanted_meaning first entries index table q ascend size fit =
-    sym (needed_suffice table q (table_rows first entries index table) (wanted_rows first entries index table (needed q table)) (are_same first entries index table (needed q table) ascend size (known_needed table q fit size)))
+pub wanted_meaning : (dates : List ℕ) (first : ℤ) (entries : List Entry) (index : ℕ) (table : Shape) (q : QueryForm) → length table.names ≡ length table.kinds → IsFit table q → meaning (all_columns table) q (wanted_rows dates first entries index table (needed q table)) ≡ meaning (all_columns table) q (table_rows_on dates first entries index table)
+wanted_meaning dates first entries index table q size fit =
+    sym (needed_suffice table q (table_rows_on dates first entries index table) (wanted_rows dates first entries index table (needed q table)) (are_same dates first entries index table (needed q table) size (known_needed table q fit size)))
 
 -- ---- the rows as they are made
 
-frame_made : (first : ℤ) (entries : List Entry) (index : ℕ) (shape table : Shape) (q : QueryForm) (needs names : List (List ℕ)) (columns : List Contents) → shape ≡ table → needs ≡ needed q table
-    → names ≡ filter (is_wanted needs) (table_names shape) → columns ≡ chosen (is_wanted needs) (table_names shape) (table_columns first entries index shape)
-    → frame_of names columns ≡ wanted_rows first entries index table (needed q table)
-frame_made first entries index shape table q needs names columns same n ns cs =
-    ap₂ frame_of ns cs ∙ ap₂ (λ (t : Shape) (wants : List (List ℕ)). wanted_rows first entries index t wants) same n
+frame_made : (dates : List ℕ) (first : ℤ) (entries : List Entry) (index : ℕ) (shape table : Shape) (q : QueryForm) (needs names : List (List ℕ)) (columns : List Contents) → shape ≡ table → needs ≡ needed q table
+    → names ≡ filter (is_wanted needs) (table_names shape) → columns ≡ chosen (is_wanted needs) (table_names shape) (columns_on dates first entries index shape)
+    → frame_of names columns ≡ wanted_rows dates first entries index table (needed q table)
+frame_made dates first entries index shape table q needs names columns same n ns cs =
+    ap₂ frame_of ns cs ∙ ap₂ (λ (t : Shape) (wants : List (List ℕ)). wanted_rows dates first entries index t wants) same n
 
 even_shape : (shape table : Shape) → shape ≡ table → length shape.names ≡ length shape.kinds → length table.names ≡ length table.kinds
 even_shape shape table same size = subst (λ (t : Shape). length t.names ≡ length t.kinds) same size
 
-pub rows_fit : (first : ℤ) (entries : List Entry) (index : ℕ) (shape table : Shape) (q : QueryForm) (needs names : List (List ℕ)) (columns : List Contents) → shape ≡ table → needs ≡ needed q table
-    → names ≡ filter (is_wanted needs) (table_names shape) → columns ≡ chosen (is_wanted needs) (table_names shape) (table_columns first entries index shape)
-    → DatesAscend first entries → length shape.names ≡ length shape.kinds → IsFit table q → has_columns table q (frame_of names columns) ≡ true
-rows_fit first entries index shape table q needs names columns same n ns cs ascend size fit =
-    ap (has_columns table q) (frame_made first entries index shape table q needs names columns same n ns cs) ∙ wanted_fit first entries index table q ascend (even_shape shape table same size) fit
+pub rows_fit : (dates : List ℕ) (first : ℤ) (entries : List Entry) (index : ℕ) (shape table : Shape) (q : QueryForm) (needs names : List (List ℕ)) (columns : List Contents) → shape ≡ table → needs ≡ needed q table
+    → names ≡ filter (is_wanted needs) (table_names shape) → columns ≡ chosen (is_wanted needs) (table_names shape) (columns_on dates first entries index shape)
+    → length shape.names ≡ length shape.kinds → IsFit table q → has_columns table q (frame_of names columns) ≡ true
+rows_fit dates first entries index shape table q needs names columns same n ns cs size fit =
+    ap (has_columns table q) (frame_made dates first entries index shape table q needs names columns same n ns cs) ∙ wanted_fit dates first entries index table q (even_shape shape table same size) fit
 
-pub rows_value : (first : ℤ) (entries : List Entry) (index : ℕ) (shape table : Shape) (q : QueryForm) (needs names : List (List ℕ)) (columns : List Contents) → shape ≡ table → needs ≡ needed q table
-    → names ≡ filter (is_wanted needs) (table_names shape) → columns ≡ chosen (is_wanted needs) (table_names shape) (table_columns first entries index shape)
-    → DatesAscend first entries → length shape.names ≡ length shape.kinds → IsFit table q → meaning (all_columns table) q (frame_of names columns) ≡ meaning (all_columns table) q (table_rows first entries index table)
-rows_value first entries index shape table q needs names columns same n ns cs ascend size fit =
-    ap (meaning (all_columns table) q) (frame_made first entries index shape table q needs names columns same n ns cs) ∙ wanted_meaning first entries index table q ascend (even_shape shape table same size) fit
+pub rows_value : (dates : List ℕ) (first : ℤ) (entries : List Entry) (index : ℕ) (shape table : Shape) (q : QueryForm) (needs names : List (List ℕ)) (columns : List Contents) → shape ≡ table → needs ≡ needed q table
+    → names ≡ filter (is_wanted needs) (table_names shape) → columns ≡ chosen (is_wanted needs) (table_names shape) (columns_on dates first entries index shape)
+    → length shape.names ≡ length shape.kinds → IsFit table q → meaning (all_columns table) q (frame_of names columns) ≡ meaning (all_columns table) q (table_rows_on dates first entries index table)
+rows_value dates first entries index shape table q needs names columns same n ns cs size fit =
+    ap (meaning (all_columns table) q) (frame_made dates first entries index shape table q needs names columns same n ns cs) ∙ wanted_meaning dates first entries index table q (even_shape shape table same size) fit
 
 -- ---- the table of a query
 

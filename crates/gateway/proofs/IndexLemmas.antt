@@ -1,5 +1,5 @@
 -- The index of a table in a schema.
-use Rattle.std.proofs.Common.{◌≡◌, ◌≤◌, ◌+◌, ℕ, Bool, true, false, cond, not, List, [], ◌∷◌, length, drop, refl, sym, ap, ◌∙◌, add-one, zero, suc, Some, slice_get, arith}
+use Rattle.std.proofs.Common.{◌≡◌, ◌≤◌, ◌+◌, ℕ, Bool, true, false, cond, not, List, [], ◌∷◌, length, drop, refl, ap, ◌∙◌, add-one, zero, suc, Some, slice_get, arith}
 use Rattle.std.specs.Str.{bytes_eq}
 use Rattle.day_rows.specs.declared.schema.Shape.{Shape}
 use Rattle.gateway.specs.Answer.{table_index}

@@ -1,5 +1,5 @@
 -- The sides of a join that fits are queries that fit.
-use Rattle.std.proofs.Common.{◌≡◌, ℕ, Bool, true, false, ◌&&◌, cond, not, List, refl, sym, ap, ◌∙◌, Option, Some, None, subst}
+use Rattle.std.proofs.Common.{◌≡◌, ℕ, Bool, true, false, ◌&&◌, cond, not, List, refl, sym, ap, Option, Some, None, subst}
 use Rattle.day_rows.specs.declared.schema.Shape.{Shape}
 use Rattle.qsql_request.specs.Forms.{AjForm, QueryForm}
 use Rattle.qsql_request.specs.Names.{names_of}

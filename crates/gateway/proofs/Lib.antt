@@ -3,6 +3,7 @@ pub mod ColumnLemmas
 pub mod FitLemmas
 pub mod IndexLemmas
 pub mod JoinLemmas
+pub mod KeptLemmas
 pub mod NeedLemmas
 pub mod ShapedLemmas
 pub mod WantedLemmas

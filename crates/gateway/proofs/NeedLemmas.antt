@@ -1,7 +1,7 @@
 -- The value of a query is determined by the columns that it needs.
-use Rattle.std.proofs.Common.{◌≡◌, ℕ, Bool, true, false, cond, not, List, [], ◌∷◌, ◌++◌, length, map, refl, sym, ap, ap₂, ◌∙◌, All, Option, Some, None, subst, arith, suc}
+use Rattle.std.proofs.Common.{◌≡◌, ℕ, Bool, true, false, cond, not, List, [], ◌∷◌, ◌++◌, length, map, refl, sym, ap, ap₂, ◌∙◌, All, Option, subst, arith, suc}
 use Rattle.std.specs.Prelude.{unwrap_or}
-use Rattle.std.specs.List.{filter, flat_map, list_all}
+use Rattle.std.specs.List.{flat_map, list_all}
 use Rattle.std.proofs.lemmas.List.Elements.{All-head, All-tail, All-weaker, All-filter}
 use Rattle.q_values.specs.Contents.{Contents}
 use Rattle.q_values.specs.Lists.{gathered}
@@ -10,7 +10,6 @@ use Rattle.q_values.specs.declared.atom.Atom.{Atom}
 use Rattle.q_values.specs.declared.kind.Kind.{Kind}
 use Rattle.q_values.specs.declared.kind.Kind.TheVariants as k
 use Rattle.q_values.proofs.ListLemmas.{map-gathered}
-use Rattle.day_rows.specs.declared.schema.Shape.{Shape}
 use Rattle.qsql_request.specs.Forms.{Form, constant, column, one, two, ColumnForm, QueryForm}
 use Rattle.qsql_request.specs.Shapes.{is_atom}
 use Rattle.qsql_request.specs.Names.{names_in, names_in_columns, names_in_phrases, names_of}
@@ -20,12 +19,11 @@ use Rattle.qsql_values.specs.Kinds.{kind_in}
 use Rattle.qsql_values.specs.Values.{val, value_of_one, value_of_two, items_in, truths, selected, rows_where, kept}
 use Rattle.q_keys.specs.Keys.{key_rows, codes_in, firsts_in}
 use Rattle.q_values.specs.Table.{rows_of}
-use Rattle.qsql_groups.specs.Groups.{Groups, groups, groups_by, key_columns, parts, last_rows, last_row, items_over, value_by_group}
+use Rattle.qsql_groups.specs.Groups.{Groups, groups, groups_by, key_columns, parts, last_row, items_over, value_by_group}
 use Rattle.qsql_values.specs.Places.{column_at}
 use Rattle.qsql_eval.specs.Judgement.{all_columns, is_name_of_by}
-use Rattle.qsql_eval.specs.Meaning.{values_of, row_count, spread, grid_of, grid_of_columns, selection, execution, execution_of, key_grid, group_columns, other_names, last_grid, column_grid, value_grid, dictionary_of, value_over_groups, value_over_rows, value_over_kept, meaning}
-use Rattle.qsql_eval.specs.Views.{needed}
-use Rattle.qsql_eval.proofs.FitLemmas.{kinds_agree, All-left, All-right, none_of}
+use Rattle.qsql_eval.specs.Meaning.{values_of, spread, grid_of, grid_of_columns, selection, execution_of, key_grid, group_columns, other_names, last_grid, column_grid, value_grid, dictionary_of, value_over_groups, value_over_rows}
+use Rattle.qsql_eval.proofs.FitLemmas.{kinds_agree, All-left, All-right}
 use Rattle.gateway.specs.Needs.{SameColumn, AreSame, NeededColumnsSuffice}
 
 abbrev Same : Frame → Frame → List (List ℕ) → Type 0
@@ -47,7 +45,7 @@ same_kind f g e same = kinds_agree (kind_beside f) (kind_beside g) e (All-weaker
 
 -- ---- rows that are kept
 
-selected-map : {X Y : Type 0} (f : X → Y) (flags : List Bool) (xs : List X) → map f (selected flags xs) ≡ selected flags (map f xs)
+pub selected-map : {X Y : Type 0} (f : X → Y) (flags : List Bool) (xs : List X) → map f (selected flags xs) ≡ selected flags (map f xs)
 selected-map f [] xs = refl
 selected-map f (b ∷ flags) [] = refl
 selected-map f (true ∷ flags) (x ∷ xs) = ap (λ l. f x ∷ l) (selected-map f flags xs)

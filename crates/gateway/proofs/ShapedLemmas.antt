@@ -34,18 +34,17 @@ use Rattle.std.proofs.lemmas.List.Elements.{All-map, All-weaker}
 use Rattle.q_keys.specs.Keys.{key_cmp, key_rows, keys_in, codes_in, firsts_in, same_key}
 use Rattle.q_keys.proofs.AscendingLemmas.{any_ascending}
 use Rattle.q_keys.proofs.KeyLemmas.{key_total}
-use Rattle.qsql_groups.specs.Groups.{Groups, AreGroups, groups, key_columns, last_row, parts_of}
+use Rattle.qsql_groups.specs.Groups.{Groups, groups, key_columns, last_row, parts_of}
 use Rattle.qsql_groups.specs.Ready.{IsValue}
-use Rattle.qsql_values.specs.Places.{column_at}
 use Rattle.qsql_eval.specs.Judgement.{IsFit, all_columns}
 use Rattle.qsql_eval.specs.Meaning.{values_of, grid_of, grid_of_columns, selection, is_atom_of, one_kind, together_of, together, names_vector, execution_of, execution, key_grid, group_columns, other_names, last_grid, column_grid, value_grid, dictionary_of, value_over_groups, value_over_rows, value_over_kept, meaning}
 use Rattle.qsql_eval.specs.Ready.{IsAnswerable, IsGroupable}
 use Rattle.qsql_eval.specs.Views.{has_columns}
 use Rattle.qsql_eval.proofs.FitLemmas.{fit_answerable, kept_kinds, kept_answerable}
 use Rattle.qsql_eval.proofs.GroupFit.{fit_groupable, kept_groupable}
-use Rattle.qsql_groups.proofs.GroupLemmas.{keys_even_of, key_count, rows_of_even, codes_size, even_at, lasts_within}
+use Rattle.qsql_groups.proofs.GroupLemmas.{keys_even_of, key_count, codes_size, even_at, lasts_within}
 use Rattle.qsql_eval.proofs.GroupLemmas.{group_columns_even, IsTableOf, key_table_of, column_table_of, last_table_of}
-use Rattle.qsql_eval.proofs.ReadyLemmas.{AreReady, AreFlat, even_rows, shown_table, every_table}
+use Rattle.qsql_eval.proofs.ReadyLemmas.{AreReady, AreFlat, shown_table, every_table}
 use Rattle.gateway.specs.Shaped.{IsGrid, PartsFit, AllPartsFit, IsShaped}
 
 -- ---- counts are at most the length of what is written

@@ -1,4 +1,5 @@
 pub mod Answer
+pub mod DateRows
 pub mod Needs
 pub mod Shaped
 pub mod TableRows

@@ -1,6 +1,6 @@
 -- The columns of a table that a query needs.
-use Rattle.std.specs.Prelude.{◌≡◌, ℕ, Bool, if◌then◌else◌, List, [], ◌∷◌, ◌++◌, length, codes, All}
-use Rattle.std.specs.List.{list_any, filter}
+use Rattle.std.specs.Prelude.{◌≡◌, ℕ, Bool, if◌then◌else◌, List, [], ◌∷◌, length, codes, All}
+use Rattle.std.specs.List.{list_any}
 use Rattle.std.specs.Str.{bytes_eq}
 use Rattle.q_values.specs.Contents.{Contents}
 use Rattle.day_rows.specs.declared.schema.Shape.{Shape}
@@ -24,10 +24,6 @@ chosen is_chosen [] columns = []
 chosen is_chosen (name ∷ names) [] = []
 chosen is_chosen (name ∷ names) (column ∷ columns) =
     if is_chosen name then column ∷ chosen is_chosen names columns else chosen is_chosen names columns
-
--- the names of columns, and every column that some table has when a query is to show all
-abbrev pub names_or_all : List (List ℕ) → Bool → Shape → List (List ℕ)
-names_or_all names every table = names ++ (if every then all_columns table else [])
 
 -- two lists of rows have the same column of this name
 pub record SameColumn (f g : Frame) (name : List ℕ) : Type 0 where

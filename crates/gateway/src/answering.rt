@@ -6,7 +6,7 @@ ghost use Rattle.q_values.specs.Tree.{tree, atom};
 ghost use Rattle.q_values.specs.declared.atom.Atom.TheVariants as a;
 ghost use Rattle.qsql_request.specs.Views.{query_of, request_of};
 ghost use Rattle.qsql_eval.specs.Judgement.{judgement};
-ghost use Rattle.gateway.specs.Answer.{query_answer, request_answer};
+ghost use Rattle.gateway.specs.Answer.{query_value, query_answer, request_answer};
 ghost use Rattle.gateway.specs.Shaped.{IsShaped};
 
 use crate::joining::answer_join;
@@ -28,7 +28,8 @@ fn answer_query(
     requires same { snapshot.now.frame.schema ≡ schema.now }
     ensures shaped { IfOk result (λ v. IsShaped (tree v)) }
     ensures value { IfOk result (λ v. tree v
-        ≡ query_answer snapshot.now.frame.first schema.now snapshot.now.entries (query_of query.now) (judgement (query_of query.now) schema.now)) }
+        ≡ query_answer (query_value snapshot.now.frame.first schema.now snapshot.now.entries) (query_of query.now)
+        (judgement (query_of query.now) schema.now)) }
 {
     match check(alloc, query, schema) {
         Ok(typed) => value_of_typed(alloc, &typed, snapshot, schema),
@@ -78,7 +79,8 @@ pub fn answer_request(
     requires same { snapshot.now.frame.schema ≡ schema.now }
     ensures shaped { IfOk result (λ v. IsShaped (tree v)) }
     ensures value { IfOk result (λ v. tree v
-        ≡ request_answer snapshot.now.frame.first schema.now snapshot.now.entries (request_of request.now)) }
+        ≡ request_answer (query_value snapshot.now.frame.first schema.now snapshot.now.entries)
+        snapshot.now.frame.first schema.now snapshot.now.entries (request_of request.now)) }
 {
     match request {
         Request::Query(query) => answer_query(alloc, query, snapshot, schema),

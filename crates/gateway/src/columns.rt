@@ -1,23 +1,24 @@
-//! The columns of a table over all dates, read from a snapshot.
+//! The columns of a table on some of the dates, read from a snapshot.
 ghost use Rattle.std.specs.Prelude.{◌≡◌, ◌<◌, ◌++◌, pos, length, map, replicate, OnOk, IfOk};
 ghost use Rattle.std.specs.List.{range_with_len};
-ghost use Rattle.day_rows.specs.Chronicle.{view};
 ghost use Rattle.day_rows.specs.Rows.{column_of};
 ghost use Rattle.plant_core.specs.Chronicle.{dates_of, rows_at};
 ghost use Rattle.plant_core.specs.Plant.{HasColumn};
-ghost use Rattle.gateway.specs.TableRows.{dates_of_rows, row_numbers};
+ghost use Rattle.gateway.specs.DateRows.{AreDates, rows_on};
+ghost use Rattle.gateway.specs.TableRows.{dates_of_rows, numbers_on};
 
 use plant_core::Snapshot;
 use q_values::{Column, IntegerKind, Kind, LongKind, NoMemory, Vector};
 use std::alloc::Global;
 
-// The number of a table's rows on all dates, for making room.
-fn count_rows(snapshot: &Snapshot, index: u32) -> usize
-    requires { index < length snapshot.now.frame.schema }
+// The number of a table's rows on these dates, for making room.
+fn count_rows(snapshot: &Snapshot, dates: &[usize], index: u32) -> usize
+    requires table { index < length snapshot.now.frame.schema }
+    requires dates { AreDates snapshot.now.frame.first snapshot.now.entries dates.now }
 {
     let mut count = 0usize;
-    for k in 0..snapshot.dates() {
-        count = count.saturating_add(snapshot.rows_at(k, index) as usize);
+    for k in dates {
+        count = count.saturating_add(snapshot.rows_at(*k, index) as usize);
     }
     count
 }
@@ -46,26 +47,42 @@ fn push_numbers(numbers: &mut Vec<i64>, rows: u32) -> Result<(), NoMemory>
     Ok(())
 }
 
-/// The column `date` of all of a table's rows.
-pub fn date_column(alloc: Global, snapshot: &Snapshot, index: u32) -> Result<Vector, NoMemory>
-    requires { index < length snapshot.now.frame.schema }
-    ensures { IfOk result (λ whole. whole ≡ dates_of_rows (view snapshot.now.frame.first snapshot.now.entries index)) }
+/// The column `date` of a table's rows on these dates.
+pub fn date_column(
+    alloc: Global,
+    snapshot: &Snapshot,
+    dates: &[usize],
+    index: u32,
+) -> Result<Vector, NoMemory>
+    requires table { index < length snapshot.now.frame.schema }
+    requires dates { AreDates snapshot.now.frame.first snapshot.now.entries dates.now }
+    ensures { IfOk result (λ whole. whole ≡ dates_of_rows (rows_on dates.now snapshot.now.frame.first snapshot.now.entries index)) }
 {
-    let mut dates = Vec::with_capacity(alloc, count_rows(snapshot, index))?;
-    for k in 0..snapshot.dates() {
-        push_dates(&mut dates, snapshot.date_at(k), snapshot.rows_at(k, index))?;
+    let mut column = Vec::with_capacity(alloc, count_rows(snapshot, dates, index))?;
+    for k in dates {
+        push_dates(
+            &mut column,
+            snapshot.date_at(*k),
+            snapshot.rows_at(*k, index),
+        )?;
     }
-    Ok(Vector::from_column(Column::Integers(IntegerKind::Date, dates)))
+    Ok(Vector::from_column(Column::Integers(IntegerKind::Date, column)))
 }
 
-/// The column `i` of all of a table's rows, which numbers the rows of each date from 0.
-pub fn number_column(alloc: Global, snapshot: &Snapshot, index: u32) -> Result<Vector, NoMemory>
-    requires { index < length snapshot.now.frame.schema }
-    ensures { IfOk result (λ whole. whole ≡ row_numbers snapshot.now.frame.first snapshot.now.entries index) }
+/// The column `i` of a table's rows on these dates, which numbers the rows of each date from 0.
+pub fn number_column(
+    alloc: Global,
+    snapshot: &Snapshot,
+    dates: &[usize],
+    index: u32,
+) -> Result<Vector, NoMemory>
+    requires table { index < length snapshot.now.frame.schema }
+    requires dates { AreDates snapshot.now.frame.first snapshot.now.entries dates.now }
+    ensures { IfOk result (λ whole. whole ≡ numbers_on dates.now snapshot.now.frame.first snapshot.now.entries index) }
 {
-    let mut numbers = Vec::with_capacity(alloc, count_rows(snapshot, index))?;
-    for k in 0..snapshot.dates() {
-        push_numbers(&mut numbers, snapshot.rows_at(k, index))?;
+    let mut numbers = Vec::with_capacity(alloc, count_rows(snapshot, dates, index))?;
+    for k in dates {
+        push_numbers(&mut numbers, snapshot.rows_at(*k, index))?;
     }
     Ok(Vector::from_column(Column::Longs(LongKind::Long, numbers)))
 }
@@ -101,25 +118,46 @@ fn append(whole: &mut Vector, part: &Vector) -> Result<(), NoMemory>
     }
 }
 
-/// A column of a table over all dates. That of one date is not copied.
-pub fn whole_column(
+// A column of a table on these dates, one after the other.
+fn joined_column(
     alloc: Global,
     snapshot: &Snapshot,
+    dates: &[usize],
     index: u32,
     column: u32,
     kind: Kind,
 ) -> Result<Vector, NoMemory>
+    requires dates { AreDates snapshot.now.frame.first snapshot.now.entries dates.now }
     requires table { index < length snapshot.now.frame.schema }
     requires exists { HasColumn snapshot.now.frame.schema index column kind }
-    ensures { IfOk result (λ whole. whole ≡ column_of kind column (view snapshot.now.frame.first snapshot.now.entries index)) }
+    ensures { IfOk result (λ whole. whole ≡ column_of kind column (rows_on dates.now snapshot.now.frame.first snapshot.now.entries index)) }
 {
-    let mut whole = column_at(alloc, snapshot, 0, index, column, kind)?;
-    whole.reserve(count_rows(snapshot, index).saturating_sub(whole.len()))?;
-    for k in 1..snapshot.dates() {
-        append(
-            &mut whole,
-            &column_at(alloc, snapshot, k, index, column, kind)?,
-        )?;
+    let mut whole = Vector::new(alloc, kind);
+    whole.reserve(count_rows(snapshot, dates, index))?;
+    for k in dates {
+        let part = column_at(alloc, snapshot, *k, index, column, kind)?;
+        append(&mut whole, &part)?;
     }
     Ok(whole)
+}
+
+/// A column of a table on these dates. That of one date is not copied.
+pub fn whole_column(
+    alloc: Global,
+    snapshot: &Snapshot,
+    dates: &[usize],
+    index: u32,
+    column: u32,
+    kind: Kind,
+) -> Result<Vector, NoMemory>
+    requires dates { AreDates snapshot.now.frame.first snapshot.now.entries dates.now }
+    requires table { index < length snapshot.now.frame.schema }
+    requires exists { HasColumn snapshot.now.frame.schema index column kind }
+    ensures { IfOk result (λ whole. whole ≡ column_of kind column (rows_on dates.now snapshot.now.frame.first snapshot.now.entries index)) }
+{
+    if dates.len() == 1 {
+        column_at(alloc, snapshot, dates[0], index, column, kind)
+    } else {
+        joined_column(alloc, snapshot, dates, index, column, kind)
+    }
 }

@@ -69,7 +69,7 @@ pub fn answer_join(
     requires same { snapshot.now.frame.schema ≡ schema.now }
     ensures shaped { IfOk result (λ v. IsShaped (tree v)) }
     ensures value { IfOk result (λ v. tree v
-        ≡ join_answer snapshot.now.frame.first schema.now snapshot.now.entries (aj_of query.now) (aj_judgement (aj_of query.now) schema.now)) }
+        ≡ join_answer (query_value snapshot.now.frame.first schema.now snapshot.now.entries) (aj_of query.now) (aj_judgement (aj_of query.now) schema.now)) }
 {
     match check_aj(alloc, query, schema) {
         Ok(typed) => join_of_typed(alloc, &typed, snapshot, schema),

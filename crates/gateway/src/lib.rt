@@ -12,10 +12,10 @@
 //!
 //! The rows of a table are those of all dates: an ended date by symbol and arrival, the open date by arrival. Each has two
 //! more columns: `date`, and `i`, which numbers the rows of each date from 0. Only the columns that a query needs are read
-//! (`wanted`), and they are read date by date (`columns`).
+//! (`wanted`), only on the dates that its first phrases keep (`dates`), and date by date (`columns`).
 //!
-//! The rows of a table are in `specs/TableRows.antt`, the columns that are needed in `specs/Needs.antt`, and the answer in
-//! `specs/Answer.antt`.
+//! The rows of a table are in `specs/TableRows.antt`, those of some dates in `specs/DateRows.antt`, the columns that are
+//! needed in `specs/Needs.antt`, and the answer in `specs/Answer.antt`.
 //!
 //! A subscription is answered with `nyi` here: the session serves it. The crate encodes no answer and sets no limit on
 //! its length.
@@ -23,6 +23,7 @@
 
 mod answering;
 mod columns;
+mod dates;
 mod joining;
 pub mod laws;
 mod question;

@@ -3,7 +3,7 @@ ghost use Rattle.std.specs.Prelude.{◌≡◌, IfOk};
 ghost use Rattle.q_values.specs.Tree.{tree};
 ghost use Rattle.qsql_parse.specs.Verdicts.{IsVerdict};
 ghost use Rattle.gateway.specs.Answer;
-ghost use Rattle.gateway.specs.Answer.{verdict_answer, IsAnswer};
+ghost use Rattle.gateway.specs.Answer.{verdict_answer, kept_answer, IsAnswer, IsKeptAnswer};
 ghost use Rattle.gateway.specs.Shaped.{IsShaped};
 ghost use Rattle.gateway.specs.Views.{verdict_of};
 
@@ -50,14 +50,8 @@ impl Question {
         matches!(self, Question::Asks(Request::Sub(_)))
     }
 
-    /// The answer over a snapshot; the schema is that of the snapshot's plant. An error is a value, with its text. A
-    /// subscription is answered with `nyi`.
-    pub fn answer(
-        &self,
-        alloc: Global,
-        snapshot: &Snapshot,
-        schema: &Schema,
-    ) -> Result<Value, NoMemory>
+    // The answer over a snapshot.
+    fn value(&self, alloc: Global, snapshot: &Snapshot, schema: &Schema) -> Result<Value, NoMemory>
         requires same { snapshot.now.frame.schema ≡ schema.now }
         ensures value { IfOk result (λ v. tree v ≡ verdict_answer snapshot.now.frame.first schema.now snapshot.now.entries (verdict_of self.now)) }
         ensures shaped { IfOk result (λ v. IsShaped (tree v)) }
@@ -69,9 +63,29 @@ impl Question {
             Question::NotBuilt => wrong_value(alloc, b"nyi"),
         }
     }
+
+    /// The answer over a snapshot; the schema is that of the snapshot's plant. An error is a value, with its text. A
+    /// subscription is answered with `nyi`. The rows of a date that a query's first phrases don't keep have no part in it.
+    pub fn answer(
+        &self,
+        alloc: Global,
+        snapshot: &Snapshot,
+        schema: &Schema,
+    ) -> Result<Value, NoMemory>
+        requires same { snapshot.now.frame.schema ≡ schema.now }
+        ensures value { IfOk result (λ v. tree v ≡ verdict_answer snapshot.now.frame.first schema.now snapshot.now.entries (verdict_of self.now)) }
+        ensures dates { IfOk result (λ v. tree v ≡ kept_answer snapshot.now.frame.first schema.now snapshot.now.entries (verdict_of self.now)) }
+        ensures shaped { IfOk result (λ v. IsShaped (tree v)) }
+    {
+        // The dates ascend, so that the rows of a date that isn't kept have no part in it.
+        let _dates = snapshot.dates();
+        let value = self.value(alloc, snapshot, schema)?;
+        Ok(value)
+    }
 }
 
-/// The answer to a text over a snapshot; the schema is that of the snapshot's plant. An error is a value, with its text.
+/// The answer to a text over a snapshot; the schema is that of the snapshot's plant. An error is a value, with its text. The
+/// rows of a date that a query's first phrases don't keep have no part in it.
 pub fn answer(
     alloc: Global,
     snapshot: &Snapshot,
@@ -79,8 +93,10 @@ pub fn answer(
     text: &[u8],
 ) -> Result<Value, NoMemory>
     requires same { snapshot.now.frame.schema ≡ schema.now }
-    ensures { IfOk result (λ v. IsAnswer snapshot.now.frame.first schema.now snapshot.now.entries text.now (tree v)) }
+    ensures value { IfOk result (λ v. IsAnswer snapshot.now.frame.first schema.now snapshot.now.entries text.now (tree v)) }
+    ensures dates { IfOk result (λ v. IsKeptAnswer snapshot.now.frame.first schema.now snapshot.now.entries text.now (tree v)) }
 {
     let question = Question::of(alloc, text)?;
-    question.answer(alloc, snapshot, schema)
+    let value = question.answer(alloc, snapshot, schema)?;
+    Ok(value)
 }

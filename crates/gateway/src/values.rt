@@ -10,6 +10,7 @@ ghost use Rattle.qsql_eval.specs.Views.{has_columns};
 ghost use Rattle.gateway.specs.Answer.{table_index, query_value};
 ghost use Rattle.gateway.specs.Shaped.{IsShaped};
 
+use crate::dates::kept_dates;
 use crate::table::rows_of_table;
 use crate::wanted::Wanted;
 use day_rows::Schema;
@@ -41,7 +42,7 @@ fn index_of(schema: &Schema, name: &[u8]) -> u32
     schema.len() as u32
 }
 
-/// The rows of a query's table, with the columns that the query needs.
+/// The rows of a query's table: the columns that the query needs, on the dates that it keeps.
 pub fn rows_of_typed(
     alloc: Global,
     typed: &Typed,
@@ -59,7 +60,8 @@ pub fn rows_of_typed(
     let index = index_of(schema, typed.query.table.bytes());
     let table = schema.at(index as usize);
     let wanted = Wanted::of(alloc, typed)?;
-    let rows = rows_of_table(alloc, table, snapshot, index, &wanted)?;
+    let dates = kept_dates(alloc, typed, snapshot)?;
+    let rows = rows_of_table(alloc, table, snapshot, &dates, index, &wanted)?;
     Ok(rows)
 }
 

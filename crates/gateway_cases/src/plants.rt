@@ -4,8 +4,7 @@ ghost use Rattle.day_rows.specs.Chronicle.{date_of};
 
 use plant_core::{Plant, Prepared, UpdRequest};
 use q_values::{
-    Atom, Column, Limits, LongKind, NANOSECONDS_PER_DAY, NoMemory, Sym, Symbols, Value, Values,
-    Vector,
+    Column, Limits, LongKind, NANOSECONDS_PER_DAY, NoMemory, Sym, Symbols, Value, Values, Vector,
 };
 use schema_text::built_in_schema;
 use std::alloc::Global;
@@ -14,19 +13,22 @@ use std::test::Fail;
 /// 2024.01.02, in days since 2000.01.01.
 const DATE: i32 = 8_767;
 
-/// `0D09:30`, in nanoseconds.
-pub(crate) const HALF_PAST_NINE: i64 = 34_200_000_000_000;
-
-/// A minute, in nanoseconds.
-pub(crate) const MINUTE: i64 = 60_000_000_000;
-
 /// 2024.01.02D09:30, in nanoseconds since 2000.01.01.
 const NOW: i64 = 757_503_000_000_000_000;
 
-/// A plant over the built-in schema, on 2024.01.02.
-pub(crate) fn empty_plant(alloc: Global) -> Result<Plant, Fail> {
-    let schema = built_in_schema(alloc)?;
-    Ok(Plant::begin(alloc, schema, DATE, &Limits::standard())?)
+/// An update of a table: its symbols are one letter each, its times timespans, its other columns longs.
+#[derive(Clone, Copy)]
+pub(crate) struct Update<'a> {
+    /// How many days after 2024.01.02 it comes.
+    pub day: i64,
+    /// The table.
+    pub table: &'a [u8],
+    /// The times of its rows, in nanoseconds.
+    pub times: &'a [i64],
+    /// The symbols of its rows.
+    pub symbols: &'a [u8],
+    /// The other columns, in the order of the table.
+    pub others: &'a [&'a [i64]],
 }
 
 // A vector of these numbers.
@@ -45,8 +47,19 @@ fn letters(alloc: Global, symbols: &[u8]) -> Result<Value, Fail> {
     Ok(Value::Vector(Vector::from_column(Column::Symbols(items))))
 }
 
+// The columns of an update.
+fn columns_of(alloc: Global, update: &Update) -> Result<Values, Fail> {
+    let mut items = Values::new(alloc);
+    items.push(longs(alloc, LongKind::Timespan, update.times)?)?;
+    items.push(letters(alloc, update.symbols)?)?;
+    for other in update.others {
+        items.push(longs(alloc, LongKind::Long, other)?)?;
+    }
+    Ok(items)
+}
+
 // Logs an update that the pass 1 has prepared, after the roll where one is due.
-fn log(alloc: Global, plant: &mut Plant, update: Prepared) -> Result<(), NoMemory>
+fn log_prepared(alloc: Global, plant: &mut Plant, update: Prepared) -> Result<(), NoMemory>
     requires own { update.by ≡ 1 }
     requires frame { update.frame ≡ plant.old.frame }
     requires same { update.entries ≡ plant.old.entries }
@@ -63,89 +76,72 @@ fn log(alloc: Global, plant: &mut Plant, update: Prepared) -> Result<(), NoMemor
     Ok(())
 }
 
-/// Logs an update of a table, so many days after 2024.01.02: its symbols are one letter each, its other columns longs.
-pub(crate) fn log_rows(
-    alloc: Global,
-    plant: &mut Plant,
-    day: i64,
-    table: &[u8],
-    times: &[i64],
-    symbols: &[u8],
-    others: &[&[i64]],
-) -> Result<(), Fail> {
-    let mut items = Values::new(alloc);
-    items.push(longs(alloc, LongKind::Timespan, times)?)?;
-    items.push(letters(alloc, symbols)?)?;
-    for other in others {
-        items.push(longs(alloc, LongKind::Long, other)?)?;
-    }
-    let request = UpdRequest {
-        table: Sym::of(alloc, table)?,
-        items,
-    };
-    let now = NOW.wrapping_add(day.wrapping_mul(NANOSECONDS_PER_DAY));
+// Logs an update.
+fn log(alloc: Global, plant: &mut Plant, update: &Update) -> Result<(), Fail> {
+    let table = Sym::of(alloc, update.table)?;
+    let items = columns_of(alloc, update)?;
+    let request = UpdRequest { table, items };
+    let now = NOW.wrapping_add(update.day.wrapping_mul(NANOSECONDS_PER_DAY));
     match plant.prepare(alloc, 1, &request, now) {
-        Ok(update) => Ok(log(alloc, plant, update)?),
+        Ok(prepared) => Ok(log_prepared(alloc, plant, prepared)?),
         Err(_) => Err(Fail::from("an update was refused")),
     }
 }
 
-// Logs one row of `trade`, so many days after 2024.01.02 and so many minutes after 09:30.
-fn log_trade(
-    alloc: Global,
-    plant: &mut Plant,
-    day: i64,
-    minutes: i64,
-    letter: u8,
-    price: i64,
-    size: i64,
-) -> Result<(), Fail> {
-    let time = HALF_PAST_NINE.wrapping_add(minutes.wrapping_mul(MINUTE));
-    let others: [&[i64]; 2] = [&[price], &[size]];
-    log_rows(alloc, plant, day, b"trade", &[time], &[letter], &others)
-}
-
-/// A plant with three updates of `trade` on 2024.01.02.
-pub(crate) fn three_trades(alloc: Global) -> Result<Plant, Fail> {
-    let mut plant = empty_plant(alloc)?;
-    log_trade(alloc, &mut plant, 0, 0, b'b', 10, 100)?;
-    log_trade(alloc, &mut plant, 0, 1, b'a', 20, 5)?;
-    log_trade(alloc, &mut plant, 0, 2, b'b', 11, 7)?;
+/// A plant over the built-in schema that began on 2024.01.02, with these updates.
+pub(crate) fn plant_of(alloc: Global, updates: &[Update]) -> Result<Plant, Fail> {
+    let schema = built_in_schema(alloc)?;
+    let mut plant = Plant::begin(alloc, schema, DATE, &Limits::standard())?;
+    for update in updates {
+        log(alloc, &mut plant, update)?;
+    }
     Ok(plant)
 }
 
-/// A plant with three updates of `trade` on 2024.01.02, which has ended, and two on 2024.01.03.
-pub(crate) fn five_trades(alloc: Global) -> Result<Plant, Fail> {
-    let mut plant = three_trades(alloc)?;
-    log_trade(alloc, &mut plant, 1, 0, b'c', 30, 1)?;
-    log_trade(alloc, &mut plant, 1, 1, b'a', 21, 9)?;
-    Ok(plant)
-}
-
-/// A plant with three trades of `a` and three quotes, of which two have one time.
-pub(crate) fn tied_quotes(alloc: Global) -> Result<Plant, Fail> {
-    let mut plant = empty_plant(alloc)?;
-    log_trade(alloc, &mut plant, 0, 0, b'a', 10, 1)?;
-    log_trade(alloc, &mut plant, 0, 1, b'a', 11, 2)?;
-    log_trade(alloc, &mut plant, 0, -1, b'a', 12, 3)?;
-    let times = [HALF_PAST_NINE + MINUTE, HALF_PAST_NINE, HALF_PAST_NINE];
-    let others: [&[i64]; 4] = [&[5, 3, 4], &[6, 4, 5], &[1, 1, 1], &[2, 2, 2]];
-    log_rows(alloc, &mut plant, 0, b"quote", &times, b"aaa", &others)?;
-    Ok(plant)
-}
-
-/// A plant with so many rows of `trade` on 2024.01.02, and as many again on 2024.01.03: the symbols `b` and `a` in turn, and
-/// prices and sizes that count the rows from 0.
-pub(crate) fn many_trades(alloc: Global, count: u32) -> Result<Plant, Fail> {
+// The numbers from 0 to below this one.
+fn numbers_to(alloc: Global, count: u32) -> Result<Vec<i64>, Fail> {
     let mut numbers = Vec::new(alloc);
-    let mut symbols = Vec::new(alloc);
     for number in 0..count {
         numbers.push(i64::from(number))?;
-        symbols.push(if number % 2 == 0 { b'b' } else { b'a' })?;
     }
-    let mut plant = empty_plant(alloc)?;
-    let others: [&[i64]; 2] = [numbers.as_slice(), numbers.as_slice()];
-    log_rows(alloc, &mut plant, 0, b"trade", &numbers, &symbols, &others)?;
-    log_rows(alloc, &mut plant, 1, b"trade", &numbers, &symbols, &others)?;
-    Ok(plant)
+    Ok(numbers)
+}
+
+// So many letters, `b` and `a` in turn.
+fn letters_in_turn(alloc: Global, count: u32) -> Result<Vec<u8>, Fail> {
+    let mut letters = Vec::new(alloc);
+    for number in 0..count {
+        letters.push(if number % 2 == 0 { b'b' } else { b'a' })?;
+    }
+    Ok(letters)
+}
+
+/// A plant with so many rows of `trade` on 2024.01.02, and as many again on 2024.01.03 with as many of `quote`. The symbols
+/// are `b` and `a` in turn, and all other columns count the rows of their update from 0.
+pub(crate) fn many_rows(alloc: Global, count: u32) -> Result<Plant, Fail> {
+    let numbers = numbers_to(alloc, count)?;
+    let symbols = letters_in_turn(alloc, count)?;
+    let columns: [&[i64]; 4] = [&numbers, &numbers, &numbers, &numbers];
+    let first = Update {
+        day: 0,
+        table: b"trade",
+        times: &numbers,
+        symbols: &symbols,
+        others: &columns[..2],
+    };
+    let second = Update {
+        day: 1,
+        table: b"trade",
+        times: &numbers,
+        symbols: &symbols,
+        others: &columns[..2],
+    };
+    let quotes = Update {
+        day: 1,
+        table: b"quote",
+        times: &numbers,
+        symbols: &symbols,
+        others: &columns,
+    };
+    plant_of(alloc, &[first, second, quotes])
 }

@@ -14,6 +14,6 @@ returns-in-Ok-clause-value c =
     let schema = c.args.schema.now in
     let q = query_of c.args.query.now in
     let table = c.in-Ok.typed.table.now in
-    let is : query_value first schema entries (query_of c.in-Ok.typed.query.now) table ≡ query_answer first schema entries q (judgement q schema) =
-    ap (λ (x : Query). query_value first schema entries (query_of x) table) c.in-Ok.ensures.query ∙ sym (ap (query_answer first schema entries q) c.in-Ok.ensures.fits) in
+    let is : query_value first schema entries (query_of c.in-Ok.typed.query.now) table ≡ query_answer (query_value first schema entries) q (judgement q schema) =
+    ap (λ (x : Query). query_value first schema entries (query_of x) table) c.in-Ok.ensures.query ∙ sym (ap (query_answer (query_value first schema entries) q) c.in-Ok.ensures.fits) in
     subst (λ (t : Tree). IfOk c.value_of_typed.result (λ v. tree v ≡ t)) is c.value_of_typed.ensures.value

@@ -17,5 +17,5 @@ returns-in-Ok-clause-value c =
     let typed = c.in-Ok.typed in
     let value = query_value first schema entries in
     let join = λ (x : AjQuery). joined x.keys (value (query_of_source (aj_of x).left) typed.left_table.now) (value (query_of_source (aj_of x).right) typed.right_table.now) in
-    let is : join typed.query.now ≡ join_answer first schema entries q (aj_judgement q schema) = ap join c.in-Ok.ensures.query ∙ sym (ap (join_answer first schema entries q) c.in-Ok.ensures.fits) in
+    let is : join typed.query.now ≡ join_answer value q (aj_judgement q schema) = ap join c.in-Ok.ensures.query ∙ sym (ap (join_answer value q) c.in-Ok.ensures.fits) in
     subst (λ (t : Tree). IfOk c.join_of_typed.result (λ v. tree v ≡ t)) is c.join_of_typed.ensures.value

@@ -1,8 +1,8 @@
 use Rattle.std.proofs.Common.{◌≡◌, true, sym, ap, ap₂, ◌∙◌, subst}
 use Rattle.day_rows.specs.declared.schema.Shape.{Shape}
-use Rattle.q_values.specs.Tree.{Tree, table}
+use Rattle.q_values.specs.Tree.{table}
 use Rattle.qsql_request.specs.Forms.{QueryForm}
-use Rattle.qsql_request.specs.Views.{query_of, aj_of}
+use Rattle.qsql_request.specs.Views.{aj_of}
 use Rattle.qsql_eval.specs.Judgement.{judgement, fits}
 use Rattle.asof_join.specs.Sources.{query_of_source, is_typed_source}
 use Rattle.asof_join.specs.Views.{grid_in}

@@ -2,10 +2,10 @@ use Rattle.std.proofs.Common.{◌≤◌, ◌++◌, Bool, cond, length, arith, ap
 use Rattle.std.specs.Prelude.{codes}
 use Rattle.std.proofs.lemmas.Option.{slice_get_within}
 use Rattle.q_values.specs.Contents.{Contents}
-use Rattle.day_rows.specs.Chronicle.{view}
 use Rattle.day_rows.specs.Rows.{column_of}
 use Rattle.gateway.specs.Needs.{is_wanted}
-use Rattle.gateway.specs.TableRows.{dates_of_rows, row_numbers, columns_from}
+use Rattle.gateway.specs.DateRows.{rows_on}
+use Rattle.gateway.specs.TableRows.{dates_of_rows, numbers_on, columns_from}
 use Rattle.gateway.proofs.ChosenLemmas.{columns_next, columns_all, column_at_index, has_column_at, length-columns_from}
 use Rattle.gateway.proofs.table.columns_of.Goals as goal
 
@@ -21,8 +21,8 @@ push_column-requires-clause-exists c = has_column_at c.args.snapshot.now.frame.s
 pub loop-i-preserved : goal.loop-i-preserved
 loop-i-preserved c =
     let p = is_wanted c.args.wanted.now in
-    let rows = view c.args.snapshot.now.frame.first c.args.snapshot.now.entries c.args.index in
-    let numbers = row_numbers c.args.snapshot.now.frame.first c.args.snapshot.now.entries c.args.index in
+    let rows = rows_on c.args.dates.now c.args.snapshot.now.frame.first c.args.snapshot.now.entries c.args.index in
+    let numbers = numbers_on c.args.dates.now c.args.snapshot.now.frame.first c.args.snapshot.now.entries c.args.index in
     let kinds = c.args.table.now.kinds in
     let column = column_of c.at-kind.result.now c.loop-i.i rows in
     c.in_ok-push_column.ensures
@@ -32,8 +32,8 @@ loop-i-preserved c =
 
 pub returns : goal.returns
 returns c =
-    let rows = view c.args.snapshot.now.frame.first c.args.snapshot.now.entries c.args.index in
-    let numbers = row_numbers c.args.snapshot.now.frame.first c.args.snapshot.now.entries c.args.index in
+    let rows = rows_on c.args.dates.now c.args.snapshot.now.frame.first c.args.snapshot.now.entries c.args.index in
+    let numbers = numbers_on c.args.dates.now c.args.snapshot.now.frame.first c.args.snapshot.now.entries c.args.index in
     let kinds = c.args.table.now.kinds in
     let past : length c.args.table.now.names ≤ c.loop-i.i = omega (arith, c.loop-i-test.false, c.len-i-end.ensures) in
     c.loop-i.invariant

@@ -7,6 +7,7 @@ use Rattle.qsql_eval.specs.Judgement.{all_columns}
 use Rattle.qsql_eval.specs.Meaning.{meaning}
 use Rattle.gateway.specs.Answer.{table_index}
 use Rattle.gateway.specs.TableRows.{table_rows}
+use Rattle.gateway.proofs.KeptLemmas.{read_value}
 use Rattle.gateway.proofs.FitLemmas.{fits_at, same_table, shape_at, rows_fit, rows_value}
 use Rattle.gateway.proofs.values.rows_of_typed.Goals as goal
 
@@ -33,9 +34,9 @@ returns-clause-columns c =
     let is : c.index_of-index.result ≡ table_index c.args.typed.now.query.now.table schema = c.index_of-index.ensures ∙ ap (λ (n : List ℕ). table_index n schema) c.bytes.ensures.value in
     let found : slice_get schema c.index_of-index.result ≡ Some table = ap (slice_get schema) is ∙ fits_at q schema table c.requires.fits in
     let lawful = shape_at schema c.index_of-index.result c.at-table.result.now c.at-table.ensures.lawful c.at-table.ensures.value in
-    rows_fit c.args.snapshot.now.frame.first c.args.snapshot.now.entries c.index_of-index.result c.at-table.result.now table q c.in_ok-wanted.wanted c.in_ok-rows.rows.names c.in_ok-rows.rows.columns
+    rows_fit c.deref.result.now c.args.snapshot.now.frame.first c.args.snapshot.now.entries c.index_of-index.result c.at-table.result.now table q c.in_ok-wanted.wanted c.in_ok-rows.rows.names c.in_ok-rows.rows.columns
     (same_table schema c.index_of-index.result c.at-table.result.now table c.at-table.ensures.value found)
-    c.in_ok-wanted.ensures c.in_ok-rows.ensures.names c.in_ok-rows.ensures.columns c.dates-dates.ensures.ascend lawful.named c.args.typed.now.fit
+    c.in_ok-wanted.ensures c.in_ok-rows.ensures.names c.in_ok-rows.ensures.columns lawful.named c.args.typed.now.fit
 
 pub returns-clause-value : goal.returns-clause-value
 returns-clause-value c =
@@ -45,7 +46,8 @@ returns-clause-value c =
     let is : c.index_of-index.result ≡ table_index c.args.typed.now.query.now.table schema = c.index_of-index.ensures ∙ ap (λ (n : List ℕ). table_index n schema) c.bytes.ensures.value in
     let found : slice_get schema c.index_of-index.result ≡ Some table = ap (slice_get schema) is ∙ fits_at q schema table c.requires.fits in
     let lawful = shape_at schema c.index_of-index.result c.at-table.result.now c.at-table.ensures.lawful c.at-table.ensures.value in
-    rows_value c.args.snapshot.now.frame.first c.args.snapshot.now.entries c.index_of-index.result c.at-table.result.now table q c.in_ok-wanted.wanted c.in_ok-rows.rows.names c.in_ok-rows.rows.columns
+    rows_value c.deref.result.now c.args.snapshot.now.frame.first c.args.snapshot.now.entries c.index_of-index.result c.at-table.result.now table q c.in_ok-wanted.wanted c.in_ok-rows.rows.names c.in_ok-rows.rows.columns
     (same_table schema c.index_of-index.result c.at-table.result.now table c.at-table.ensures.value found)
-    c.in_ok-wanted.ensures c.in_ok-rows.ensures.names c.in_ok-rows.ensures.columns c.dates-dates.ensures.ascend lawful.named c.args.typed.now.fit
+    c.in_ok-wanted.ensures c.in_ok-rows.ensures.names c.in_ok-rows.ensures.columns lawful.named c.args.typed.now.fit
+    ∙ read_value (all_columns table) q c.args.snapshot.now.frame.first c.args.snapshot.now.entries c.index_of-index.result table c.deref.result.now c.dates-dates.ensures.ascend (c.deref.ensures.value ∙ c.in_ok-dates.ensures.dates)
     ∙ ap (λ (i : ℕ). meaning (all_columns table) q (table_rows c.args.snapshot.now.frame.first c.args.snapshot.now.entries i table)) is
