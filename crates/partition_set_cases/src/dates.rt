@@ -95,8 +95,8 @@ fn one_failing(alloc: Global, place: usize) -> Result<Callings, NoMemory> {
     Ok(callings)
 }
 
-// A manifest of which the call after `place` others fails as a date is opened: whether it is repaired then, and the date opened.
-fn is_repaired(alloc: Global, place: usize) -> Result<bool, ManifestRefusal> {
+// Opens a date while the call after `place` others fails: whether that is told, and a load then finds the tables, and at most this date.
+fn is_left_whole(alloc: Global, place: usize) -> Result<bool, ManifestRefusal> {
     let mut disk = started(alloc)?;
     let mut manifest = Manifest::load(alloc, &mut disk)?;
     disk.plan(one_failing(alloc, place)?, None);
@@ -106,16 +106,15 @@ fn is_repaired(alloc: Global, place: usize) -> Result<bool, ManifestRefusal> {
     }
     let failed = manifest.opened(&mut disk, 3, 5).is_err();
     let unclean = !manifest.is_clean();
-    manifest.mend(&mut disk)?;
-    let opened = open(&mut disk, &mut manifest, 5)?;
-    Ok(failed && unclean && opened && has_dates(alloc, &mut disk, 5, 1)?)
+    let found = Manifest::load(alloc, &mut disk)?.records().len();
+    Ok(failed && unclean && (found == 2 || found == 3))
 }
 
 #[test]
-fn failed_calls_are_repaired(rt: HostRuntime) -> Result<(), Fail> {
+fn failed_calls_leave_a_manifest(rt: HostRuntime) -> Result<(), Fail> {
     let alloc = rt.alloc();
     for place in 0..4 {
-        assert!(rt; is_repaired(alloc, place) == Ok(true));
+        assert!(rt; is_left_whole(alloc, place) == Ok(true));
     }
     Ok(())
 }

@@ -101,7 +101,8 @@ fn file_of(alloc: Global, payloads: &[&[u8]]) -> Result<(Vec<u8>, u64), NoMemory
     for payload in payloads {
         last = file.len() as u64;
         file.push(0xa5)?;
-        file.extend_from_slice(&(payload.len() as u32).to_le_bytes())?;
+        let size = (payload.len() as u64).to_le_bytes();
+        file.extend_from_slice(&size[..4])?;
         file.extend_from_slice(payload)?;
     }
     file.push(0)?;
