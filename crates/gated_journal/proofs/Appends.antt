@@ -1,15 +1,16 @@
 -- An append and a repair, seen at each moment and at their end.
-use Rattle.std.proofs.Common.{◌≡◌, inl, inr, ◌⊎◌, ℕ, ◌+◌, Bool, IsTrue, List, [], ◌∷◌, ◌++◌, length, refl, sym, ◌∙◌, subst, arith, Result, Ok, Err, Option, Some, None, OnErr}
+use Rattle.std.proofs.Common.{◌≡◌, inl, inr, ◌⊎◌, ℕ, ◌+◌, Bool, IsTrue, List, [], ◌∷◌, ◌++◌, length, take, refl, sym, ◌∙◌, subst, arith, Result, Ok, Err, Option, Some, None, OnErr}
 use Rattle.std.specs.List.{AllByRecursion}
-use Rattle.outside_api.specs.Disk.{FileState, DiskView, IsImage, Changes, Syncing, Passes, put, kept_file}
+use Rattle.outside_api.specs.Disk.{FileState, DiskView, IsImage, Changes, Syncing, Passes, put, written, cut_to, synced}
 use Rattle.outside_api.specs.declared.disk.DiskFault.{DiskFault}
 use Rattle.gated_journal.specs.Format.{open_gate, closed_gate, spelled, before_gate, IsPayload}
-use Rattle.gated_journal.specs.Journal.{IsShut, IsAjar, Stands, MayRead, Holds, Keeps, IsKept, body, JournalView, fresh_bytes}
+use Rattle.gated_journal.specs.Journal.{IsShut, IsAjar, Stands, MayRead, Holds, Keeps, body, JournalView, fresh_bytes}
 use Rattle.gated_journal.specs.Steps.{HasShut, HasAny, StaysShut, StaysAjar, KeepsShut, KeepsAjar}
 use Rattle.gated_journal.specs.declared.state.State.{State}
 use Rattle.gated_journal.specs.declared.state.State.TheVariants.{Clean, BodyFailed, GateFailed}
 use Rattle.gated_journal.proofs.Moments.{passes_on, passes_weaker}
-use Rattle.gated_journal.proofs.Images.{shut_images, shut_bytes, ajar_images, put_gate, staged, closed}
+use Rattle.gated_journal.proofs.Images.{shut_images, shut_bytes, ajar_images, put_gate, staged, gated, closed}
+use Rattle.gated_journal.proofs.Durable.{durable_new, synced_so}
 use Rattle.gated_journal.proofs.Halves.{shut_one_sync}
 use Rattle.gated_journal.proofs.Reading.{reads_shut, reads_any, sized_push, length-push, opened}
 
@@ -61,7 +62,7 @@ module _ (file end : ℕ) (records : List (List ℕ)) where
 
   module _ (payload : List ℕ) (one : IsPayload payload) where
     -- the second half, after a first one that succeeded
-    pub ajar : (state : State) (old mid new : DiskView) → mid.tells ≡ old.tells → mid.now file ≡ kept_file (put (old.now file).bytes (end + 1) (body payload)) → KeepsAjar mid new file end
+    pub ajar : (state : State) (old mid new : DiskView) → mid.tells ≡ old.tells → mid.now file ≡ synced (written (old.now file) (end + 1) (length (body payload)) (put (old.now file).bytes (end + 1) (body payload))) → KeepsAjar mid new file end
         → Keeps old (view_of file end state) records None → IsTrue old.tells → StaysAjar mid new file end (before_gate records) (body payload)
     ajar state old mid new same is keeps_ajar keeps tells =
         let h = keeps tells in
@@ -69,22 +70,22 @@ module _ (file end : ℕ) (records : List (List ℕ)) where
         (subst (λ (f : FileState). IsAjar f (before_gate records) end (body payload)) (sym is)
         (staged (before_gate records) end (sym h.end) (body payload) (old.now file) (shut_of state (old.now file) (before_gate records) end h.stands)))
 
-    pub gate_failed : (state : State) (old mid new : DiskView) → mid.tells ≡ old.tells → new.tells ≡ mid.tells → (IsTrue old.tells → mid.now file ≡ kept_file (put (old.now file).bytes (end + 1) (body payload))) → KeepsAjar mid new file end
+    pub gate_failed : (state : State) (old mid new : DiskView) → mid.tells ≡ old.tells → new.tells ≡ mid.tells → (IsTrue old.tells → mid.now file ≡ synced (written (old.now file) (end + 1) (length (body payload)) (put (old.now file).bytes (end + 1) (body payload)))) → KeepsAjar mid new file end
         → Keeps old (view_of file end state) records None → Keeps new (view_of file end GateFailed) records (Some payload)
     gate_failed state old mid new same same' is keeps_ajar keeps tells =
         let t = told old new (same' ∙ same) tells in
         let a = ajar state old mid new same (is t) keeps_ajar keeps t in
         held_ajar payload one (new.now file) (keeps t).end (keeps t).sized a.stands
 
-    pub gate_moments : (state : State) (old mid new : DiskView) → mid.tells ≡ old.tells → KeepsShut old mid file end → (IsTrue old.tells → mid.now file ≡ kept_file (put (old.now file).bytes (end + 1) (body payload))) → KeepsAjar mid new file end
+    pub gate_moments : (state : State) (old mid new : DiskView) → mid.tells ≡ old.tells → KeepsShut old mid file end → (IsTrue old.tells → mid.now file ≡ synced (written (old.now file) (end + 1) (length (body payload)) (put (old.now file).bytes (end + 1) (body payload)))) → KeepsAjar mid new file end
         → Keeps old (view_of file end state) records None → IsTrue old.tells → Passes old new file (MayRead records (Some payload))
     gate_moments state old mid new same shut is keeps_ajar keeps tells =
         passes_on old mid new file (MayRead records (Some payload)) (body_moments state old mid payload shut keeps tells)
         (passes_weaker mid new file (HasAny (before_gate records) (body payload)) (MayRead records (Some payload)) (λ image has. reads_any records payload image (keeps tells).sized one has)
         (ajar state old mid new same (is tells) keeps_ajar keeps tells).passes)
 
-    pub added : (state : State) (old mid new : DiskView) → mid.tells ≡ old.tells → new.tells ≡ mid.tells → (IsTrue old.tells → mid.now file ≡ kept_file (put (old.now file).bytes (end + 1) (body payload)))
-        → (IsTrue mid.tells → new.now file ≡ kept_file (put (mid.now file).bytes end (open_gate ∷ [])))
+    pub added : (state : State) (old mid new : DiskView) → mid.tells ≡ old.tells → new.tells ≡ mid.tells → (IsTrue old.tells → mid.now file ≡ synced (written (old.now file) (end + 1) (length (body payload)) (put (old.now file).bytes (end + 1) (body payload))))
+        → (IsTrue mid.tells → new.now file ≡ synced (written (mid.now file) end 1 (put (mid.now file).bytes end (open_gate ∷ []))))
         → Keeps old (view_of file end state) records None → Keeps new (view_of file (end + length (body payload)) Clean) (records ++ payload ∷ []) None
     added state old mid new same same' is opens keeps tells =
         let t = told old new (same' ∙ same) tells in
@@ -93,8 +94,9 @@ module _ (file end : ℕ) (records : List (List ℕ)) where
         let a : IsAjar (mid.now file) (before_gate records) end (body payload) =
         subst (λ (f : FileState). IsAjar f (before_gate records) end (body payload)) (sym (is t)) (staged (before_gate records) end (sym h.end) (body payload) (old.now file) s) in
         let split = put_gate (before_gate records) end (sym h.end) (body payload) (mid.now file).bytes a.gate open_gate a.rest a.bytes in
+        let g = gated (before_gate records) end (sym h.end) (body payload) (mid.now file) open_gate a in
         let shut = subst (λ (f : FileState). IsShut f (before_gate (records ++ payload ∷ [])) (end + length (body payload))) (sym (opens (told mid old (sym same) t)))
-        (opened records payload end (mid.now file).bytes a.gate a.rest h.end split) in
+        (opened records payload end _ a.rest h.end (g.0 ∙ split) g.1 g.2) in
         held_clean file (end + length (body payload)) (new.now file) (records ++ payload ∷ []) (length-push records payload end h.end) (sized_push records payload h.sized one) shut
 
   -- a sync of a file whose last gate is shut
@@ -133,7 +135,7 @@ module _ (file end : ℕ) (records : List (List ℕ)) where
         let a = (mending old new ajar_stays keeps t).stands in
         held_ajar payload (keeps t).stands.0 (new.now file) (keeps t).end (keeps t).sized a
 
-    pub mending_done : (old new : DiskView) → new.tells ≡ old.tells → (IsTrue old.tells → new.now file ≡ kept_file (put (old.now file).bytes end (closed_gate ∷ []))) → Keeps old (view_of file end GateFailed) records (Some payload) → Keeps new (view_of file end Clean) records None
+    pub mending_done : (old new : DiskView) → new.tells ≡ old.tells → (IsTrue old.tells → new.now file ≡ synced (written (old.now file) end 1 (put (old.now file).bytes end (closed_gate ∷ [])))) → Keeps old (view_of file end GateFailed) records (Some payload) → Keeps new (view_of file end Clean) records None
     mending_done old new same is keeps tells =
         let t = told old new same tells in
         let h = keeps t in
@@ -154,7 +156,7 @@ module _ (file end : ℕ) (records : List (List ℕ)) (old new : DiskView) where
   mend_gate_moments GateFailed None is ajar_stays keeps = λ tells. absurd (keeps tells).stands
   mend_gate_moments GateFailed (Some payload) is ajar_stays keeps = mending_moments file end records payload old new ajar_stays keeps
 
-  pub mend_gate_done : (state : State) (late : Option (List ℕ)) → state ≡ GateFailed → new.tells ≡ old.tells → (IsTrue old.tells → new.now file ≡ kept_file (put (old.now file).bytes end (closed_gate ∷ []))) → Keeps old (view_of file end state) records late → Keeps new (view_of file end Clean) records None
+  pub mend_gate_done : (state : State) (late : Option (List ℕ)) → state ≡ GateFailed → new.tells ≡ old.tells → (IsTrue old.tells → new.now file ≡ synced (written (old.now file) end 1 (put (old.now file).bytes end (closed_gate ∷ [])))) → Keeps old (view_of file end state) records late → Keeps new (view_of file end Clean) records None
   mend_gate_done Clean late is same kept keeps = absurd (cc)
   mend_gate_done BodyFailed late is same kept keeps = absurd (cc)
   mend_gate_done GateFailed None is same kept keeps = λ tells. absurd (keeps (told file end records old new same tells)).stands
@@ -182,40 +184,29 @@ module _ (file end : ℕ) (records : List (List ℕ)) (old new : DiskView) where
     mend_body_done GateFailed (Some payload) (inl is) same keeps = absurd (cc)
     mend_body_done GateFailed (Some payload) (inr is) same keeps = absurd (cc)
 
--- an empty journal
-pub fresh_shut : IsShut (kept_file fresh_bytes) (before_gate []) 8
+-- an empty journal, after whatever was there was truncated
+pub length-fresh_bytes : length fresh_bytes ≡ 9
 unfolding before_gate spelled
-fresh_shut = record { gate = closed_gate; shut = omega arith; bytes = refl; long = omega arith; unsynced = tt }
+length-fresh_bytes = refl
+
+take-fresh_bytes : take 9 fresh_bytes ≡ before_gate [] ++ closed_gate ∷ []
+unfolding before_gate spelled
+take-fresh_bytes = refl
+
+pub fresh_shut : (old : FileState) → IsShut (synced (written (cut_to 0 old) 0 9 fresh_bytes)) (before_gate []) 8
+fresh_shut old =
+    synced_so (λ (f : FileState). IsShut f (before_gate []) 8) (written (cut_to 0 old) 0 9 fresh_bytes)
+    (λ settled. record { gate = closed_gate; shut = omega arith; bytes = take-fresh_bytes; long = omega (arith, length-fresh_bytes); durable = λ k low high. tt })
+    (record { gate = closed_gate; shut = omega arith; bytes = take-fresh_bytes; long = omega (arith, length-fresh_bytes); durable = λ k low high. durable_new k 0 9 low high old.ranges })
 
 length-before_none : length (before_gate []) ≡ 8
 unfolding before_gate spelled
 length-before_none = refl
 
-pub held_fresh : (file : ℕ) (at : FileState) → at ≡ kept_file fresh_bytes → Holds (view_of file 8 Clean) at [] None
-held_fresh file at is = held_clean file 8 at [] (sym length-before_none) tt (subst (λ (f : FileState). IsShut f (before_gate []) 8) (sym is) fresh_shut)
+pub held_fresh : (file : ℕ) (old at : FileState) → at ≡ synced (written (cut_to 0 old) 0 9 fresh_bytes) → Holds (view_of file 8 Clean) at [] None
+held_fresh file old at is = held_clean file 8 at [] (sym length-before_none) tt (subst (λ (f : FileState). IsShut f (before_gate []) 8) (sym is) (fresh_shut old))
 
 -- the nine bytes over nothing
 pub put_fresh : put [] 0 (0x71 ∷ 0x74 ∷ 0x70 ∷ 0x6c ∷ 0x61 ∷ 0x6e ∷ 0x74 ∷ 0x31 ∷ 0 ∷ []) ≡ fresh_bytes
 unfolding before_gate spelled
 put_fresh = refl
-
--- with some records, where it has been so with some
-module _ (old new : DiskView) (was is : JournalView) (same : new.tells ≡ old.tells) where
-  none_of : (state : State) (file : FileState) (front : List ℕ) (end : ℕ) (late : Option (List ℕ)) → state ≡ Clean → Stands state file front end late → late ≡ None
-  none_of Clean file front end None clean s = refl
-  none_of Clean file front end (Some payload) clean s = absurd s
-  none_of BodyFailed file front end late clean s = absurd (cc)
-  none_of GateFailed file front end late clean s = absurd (cc)
-
-  pub kept_on : (grown : List (List ℕ) → List (List ℕ)) (late : Option (List ℕ)) → was.state ≡ Clean → ((records : List (List ℕ)) → Keeps old was records None → Keeps new is (grown records) late) → IsKept old was → IsKept new is
-  kept_on grown late clean step kept tells =
-      let k = kept (subst (λ (b : Bool). IsTrue b) same tells) in
-      let none = none_of was.state (old.now was.file) (before_gate k.0) was.end k.1 clean k.2.stands in
-      let h = subst (λ (l : Option (List ℕ)). Holds was (old.now was.file) k.0 l) none k.2 in
-      (grown k.0, late, step k.0 (λ t. h) tells)
-
-  pub kept_still : ((records : List (List ℕ)) (late : Option (List ℕ)) → Keeps old was records late → Keeps new is records late) → IsKept old was → IsKept new is
-  kept_still step kept tells = let k = kept (subst (λ (b : Bool). IsTrue b) same tells) in (k.0, k.1, step k.0 k.1 (λ t. k.2) tells)
-
-  pub kept_mended : ((records : List (List ℕ)) (late : Option (List ℕ)) → Keeps old was records late → Keeps new is records None) → IsKept old was → IsKept new is
-  kept_mended step kept tells = let k = kept (subst (λ (b : Bool). IsTrue b) same tells) in (k.0, None, step k.0 k.1 (λ t. k.2) tells)

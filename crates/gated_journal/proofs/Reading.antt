@@ -1,11 +1,11 @@
 -- Which records a file holds by its parts.
-use Rattle.std.proofs.Common.{◌≡◌, inl, inr, ℕ, ◌+◌, List, [], ◌∷◌, ◌++◌, length, take, sym, ◌∙◌, ap, arith, append_assoc, length-append, Some}
+use Rattle.std.proofs.Common.{◌≡◌, inl, inr, ℕ, ◌+◌, ◌≤◌, List, [], ◌∷◌, ◌++◌, length, take, sym, ◌∙◌, ap, arith, append_assoc, length-append, Some}
 use Rattle.std.proofs.lemmas.Bool.{cases_eq}
 use Rattle.std.proofs.lemmas.List.{take_at, append-nil}
 use Rattle.std.specs.List.{AllByRecursion}
-use Rattle.outside_api.specs.Disk.{put, kept_file}
+use Rattle.outside_api.specs.Disk.{FileState}
 use Rattle.gated_journal.specs.Format.{open_gate, closed_gate, magic, measured, spelled, before_gate, IsPayload, Reads}
-use Rattle.gated_journal.specs.Journal.{IsShut, MayRead, body}
+use Rattle.gated_journal.specs.Journal.{IsShut, IsDurableIn, MayRead, body}
 use Rattle.gated_journal.specs.Steps.{HasShut, HasAny}
 use Rattle.gated_journal.proofs.Moments.{All-append}
 
@@ -50,15 +50,16 @@ length-push records payload end is =
     omega (arith, is, ap length (before_gate-push records payload), length-append (before_gate records) (open_gate ∷ measured payload), length-append (measured payload) (closed_gate ∷ []))
 
 -- the gate of a whole record was opened and synced
-pub opened : (records : List (List ℕ)) (payload : List ℕ) (end : ℕ) (old : List ℕ) (gate : ℕ) (rest : List ℕ) → end ≡ length (before_gate records) → put old end (open_gate ∷ []) ≡ before_gate records ++ open_gate ∷ (body payload ++ rest) → IsShut (kept_file (put old end (open_gate ∷ []))) (before_gate (records ++ payload ∷ [])) (end + length (body payload))
-opened records payload end old gate rest is split =
+pub opened : (records : List (List ℕ)) (payload : List ℕ) (end : ℕ) (new : FileState) (rest : List ℕ) → end ≡ length (before_gate records) → new.bytes ≡ before_gate records ++ open_gate ∷ (body payload ++ rest)
+    → end + 1 + length (body payload) ≤ new.least → IsDurableIn new 0 (end + 1 + length (body payload)) → IsShut new (before_gate (records ++ payload ∷ [])) (end + length (body payload))
+opened records payload end new rest is split long durable =
     let front = before_gate (records ++ payload ∷ []) in
-    let whole : put old end (open_gate ∷ []) ≡ front ++ closed_gate ∷ rest = split ∙ one_more records payload rest in
+    let whole : new.bytes ≡ front ++ closed_gate ∷ rest = split ∙ one_more records payload rest in
     let size : length (front ++ closed_gate ∷ []) ≡ end + length (body payload) + 1 = omega (arith, length-push records payload end is, length-append front (closed_gate ∷ [])) in
     record {
       gate = closed_gate;
       shut = omega arith;
       bytes = ap (take (end + length (body payload) + 1)) (whole ∙ sym (append_assoc front (closed_gate ∷ []) rest)) ∙ take_at (front ++ closed_gate ∷ []) rest (end + length (body payload) + 1) size;
-      long = omega (arith, ap length whole, size, length-append front (closed_gate ∷ rest), length-append front (closed_gate ∷ []));
-      unsynced = tt;
+      long = omega (arith, long);
+      durable = λ k low high. durable k low (omega (arith, high));
     }

@@ -1,7 +1,7 @@
 -- What a journal and its file say of each other.
-use Rattle.std.specs.Prelude.{◌≡◌, ◌≢◌, ◌⊎◌, ◌≤◌, ℕ, ◌+◌, IsTrue, List, [], ◌∷◌, ◌++◌, length, take, Option, Some, None}
+use Rattle.std.specs.Prelude.{◌≡◌, ◌≢◌, ◌⊎◌, ◌<◌, ◌≤◌, ℕ, ◌+◌, IsTrue, List, [], ◌∷◌, ◌++◌, length, take, Option, Some, None}
 use Rattle.std.specs.List.{AllByRecursion}
-use Rattle.outside_api.specs.Disk.{FileState, IsImage, DiskView, put}
+use Rattle.outside_api.specs.Disk.{FileState, IsImage, IsDurableAt, IsWithin, DiskView, put}
 use Rattle.gated_journal.specs.Format.{Reads, IsPayload, before_gate, measured, open_gate, closed_gate}
 use Rattle.gated_journal.specs.declared.state.State.{State}
 use Rattle.gated_journal.specs.declared.state.State.TheVariants.{Clean, BodyFailed, GateFailed}
@@ -16,9 +16,9 @@ pub record JournalView : Type 0 where
 abbrev pub body : List ℕ → List ℕ
 body payload = measured payload ++ closed_gate ∷ []
 
--- each range begins at this offset or after it, so that each image has the bytes before it that reads give
-abbrev pub StartsFrom : ℕ → List (ℕ × ℕ) → Type 0
-StartsFrom place ranges = AllByRecursion (λ range. place ≤ range.0) ranges
+-- each offset from one to another is durable
+abbrev pub IsDurableIn : FileState → ℕ → ℕ → Type 0
+IsDurableIn file from to = (k : ℕ) → from ≤ k → k < to → IsDurableAt k file.ranges
 
 -- the last gate isn't open, in any image
 pub record IsShut (file : FileState) (front : List ℕ) (end : ℕ) : Type 0 where
@@ -26,7 +26,7 @@ pub record IsShut (file : FileState) (front : List ℕ) (end : ℕ) : Type 0 whe
   pub shut : gate ≢ open_gate
   pub bytes : take (end + 1) file.bytes ≡ front ++ gate ∷ []
   pub long : end + 1 ≤ file.least
-  pub unsynced : StartsFrom (end + 1) file.unsynced
+  pub durable : IsDurableIn file 0 (end + 1)
 
 -- the last gate may be open in an image, and in each image a whole record follows it
 pub record IsAjar (file : FileState) (front : List ℕ) (end : ℕ) (following : List ℕ) : Type 0 where
@@ -34,7 +34,8 @@ pub record IsAjar (file : FileState) (front : List ℕ) (end : ℕ) (following :
   pub rest : List ℕ
   pub bytes : file.bytes ≡ front ++ gate ∷ (following ++ rest)
   pub long : end + 1 + length following ≤ file.least
-  pub unsynced : AllByRecursion (λ range. ((end ≤ range.0) × (range.0 + range.1 ≤ end + 1)) ⊎ (end + 1 + length following ≤ range.0)) file.unsynced
+  pub before : IsDurableIn file 0 end
+  pub after : IsDurableIn file (end + 1) (end + 1 + length following)
 
 -- the state of the file, and which payload may count beside the records
 abbrev pub Stands : State → FileState → List ℕ → ℕ → Option (List ℕ) → Type 0
@@ -62,9 +63,9 @@ pub record Holds (journal : JournalView) (file : FileState) (records : List (Lis
 abbrev pub Keeps : DiskView → JournalView → List (List ℕ) → Option (List ℕ) → Type 0
 Keeps disk journal records late = IsTrue disk.tells → Holds journal (disk.now journal.file) records late
 
--- the same with some records
-abbrev pub IsKept : DiskView → JournalView → Type 0
-IsKept disk journal = IsTrue disk.tells → (records : List (List ℕ)) × (late : Option (List ℕ)) × Holds journal (disk.now journal.file) records late
+-- where the disk reports, the journal's file, as reads give it, reaches beyond the offset of the last gate
+abbrev pub HasLastGate : DiskView → JournalView → Type 0
+HasLastGate disk journal = IsWithin disk journal.file journal.end 1
 
 -- the payload that may count after an append that failed
 abbrev pub late_of : State → List ℕ → Option (List ℕ)

@@ -1,5 +1,5 @@
 -- What the two halves of an append leave, each a write and a sync.
-use Rattle.std.specs.Prelude.{◌≡◌, ◌≢◌, ℕ, IsTrue, List, ◌∷◌, ◌++◌, length}
+use Rattle.std.specs.Prelude.{◌≡◌, ◌≢◌, ◌≤◌, ℕ, IsTrue, List, ◌∷◌, ◌++◌, length}
 use Rattle.outside_api.specs.Disk.{DiskView, Passes}
 use Rattle.gated_journal.specs.Format.{open_gate}
 use Rattle.gated_journal.specs.Journal.{IsShut, IsAjar}
@@ -34,3 +34,11 @@ KeepsShut old new file end =
 abbrev pub KeepsAjar : DiskView → DiskView → ℕ → ℕ → Type 0
 KeepsAjar old new file end =
     IsTrue old.tells → (front following : List ℕ) → length front ≡ end → IsAjar (old.now file) front end following → StaysAjar old new file end front following
+
+-- a file, as reads give it, is no shorter than before
+abbrev pub IsNoShorter : DiskView → DiskView → ℕ → Type 0
+IsNoShorter old new file = length (old.now file).bytes ≤ length (new.now file).bytes
+
+-- where the disk reports, no file but this one has changed
+abbrev pub OthersStay : DiskView → DiskView → ℕ → Type 0
+OthersStay old new file = IsTrue old.tells → (k : ℕ) → k ≢ file → new.now k ≡ old.now k

@@ -1,13 +1,13 @@
 //! A journal: its records in a file, and how they are added.
 ghost use Rattle.std.specs.Prelude.{◌≡◌, ◌≢◌, ◌<◌, ◌≤◌, ◌+◌, ◌^◌, ◌↔◌, ◌++◌, [], ◌∷◌, List, Option, Some, None, ℕ};
 ghost use Rattle.std.specs.Prelude.{IsTrue, length, IfOk, IfSome, OnOk, OnErr};
-ghost use Rattle.outside_api.specs.Disk.{Counts, IsWithin, Passes, Stays, put, kept_file};
-ghost use Rattle.gated_journal.specs.Steps.{KeepsShut, KeepsAjar};
+ghost use Rattle.outside_api.specs.Disk.{Counts, IsSettled, IsWithin, Passes, Stays, put, kept_file, synced, written};
+ghost use Rattle.gated_journal.specs.Steps.{KeepsShut, KeepsAjar, IsNoShorter, OthersStay};
 ghost use Rattle.outside_api.specs.Calls.{Makes};
 ghost use Rattle.gated_journal.specs.Calls.{AppendMakes, ReadMakes, LoadMakes, record_calls, gate_calls, mend_calls, fresh_calls};
 ghost use Rattle.gated_journal.specs.Format.{Reads, IsCorrupt, IsPrefix};
 ghost use Rattle.gated_journal.specs.Load.{ReadCounts, LoadCounts, IfCorrupt, KeepsImages};
-ghost use Rattle.gated_journal.specs.Journal.{Keeps, IsKept, MayRead, late_of, appended, mended, fresh_bytes};
+ghost use Rattle.gated_journal.specs.Journal.{Keeps, HasLastGate, MayRead, late_of, appended, mended, fresh_bytes};
 
 use crate::layout::{CLOSED_GATE, FIRST_GATE, NO_RECORDS, OPEN_GATE};
 use crate::payload::Payload;
@@ -56,8 +56,10 @@ impl Journal {
     pub fn fresh<D: Disk>(disk: &mut D, file: u64) -> Result<Journal, DiskFault>
         ensures journal { IfOk result (λ j. j ≡ record { file = file; end = 8; state = State.Clean }) }
         ensures keeps { IfOk result (λ j. Keeps (D.shown disk.new) j [] None) }
-        ensures kept { IfOk result (λ j. IsKept (D.shown disk.new) j) }
-        ensures bytes { OnOk result (IsTrue (D.shown disk.old).tells → (D.shown disk.new).now file ≡ kept_file fresh_bytes) }
+        ensures has_gate { IfOk result (λ j. HasLastGate (D.shown disk.new) j) }
+        ensures bytes { OnOk result (IsTrue (D.shown disk.old).tells → ((D.shown disk.new).now file).bytes ≡ fresh_bytes) }
+        ensures durable { OnOk result (IsTrue (D.shown disk.old).tells → IsSettled ((D.shown disk.old).now file)
+            → (D.shown disk.new).now file ≡ kept_file fresh_bytes) }
         ensures calls { Makes (D.shown disk.old) (D.shown disk.new) file fresh_calls result }
         ensures any_moment { IsTrue (D.shown disk.old).tells → Passes (D.shown disk.old) (D.shown disk.new) file (λ _. Unit {0}) }
         ensures counts { Counts (D.shown disk.old) (D.shown disk.new) result }
@@ -75,6 +77,9 @@ impl Journal {
     /// Syncs the file, reads its records, and gives them with the journal, which is clean. The file reads as before. Time
     /// and memory are linear in the size of the file.
     ///
+    /// Where a sync of the file has failed since the machine went up, a crash may leave less than what is read: only of a
+    /// file that is settled is it known that the records are kept.
+    ///
     /// The answer is `Corrupt` where the file doesn't begin as a journal does or has fewer than nine bytes, with both
     /// numbers 0, and where a gate is open and no whole record with a further gate follows it, with the number of records
     /// before that gate and its offset.
@@ -84,20 +89,20 @@ impl Journal {
         file: u64,
     ) -> Result<(Journal, Records), JournalRefusal>
         ensures records { IfOk result (λ x. IsTrue (D.shown disk.old).tells → Reads ((D.shown disk.old).now file).bytes x.1) }
-        ensures keeps { IfOk result (λ x. Keeps (D.shown disk.new) x.0 x.1 None) }
-        ensures kept { IfOk result (λ x. IsKept (D.shown disk.new) x.0) }
+        ensures keeps { IfOk result (λ x. IsSettled ((D.shown disk.old).now file) → Keeps (D.shown disk.new) x.0 x.1 None) }
+        ensures has_gate { IfOk result (λ x. HasLastGate (D.shown disk.new) x.0) }
         ensures file { IfOk result (λ x. x.0.file ≡ file) }
         ensures clean { IfOk result (λ x. x.0.state ≡ State.Clean) }
         ensures corrupt { IfCorrupt result (λ records bytes. IsTrue (D.shown disk.old).tells
             → IsCorrupt ((D.shown disk.old).now file).bytes records bytes) }
         ensures synced { OnOk result (IsTrue (D.shown disk.old).tells
-            → (D.shown disk.new).now file ≡ kept_file ((D.shown disk.old).now file).bytes) }
+            → (D.shown disk.new).now file ≡ synced ((D.shown disk.old).now file)) }
         ensures bytes { IsTrue (D.shown disk.old).tells → ((D.shown disk.new).now file).bytes ≡ ((D.shown disk.old).now file).bytes }
         ensures calls { LoadMakes (D.shown disk.old) (D.shown disk.new) file result }
         ensures any_moment { KeepsImages (D.shown disk.old) (D.shown disk.new) file }
         ensures counts { LoadCounts (D.shown disk.old) (D.shown disk.new) result }
     {
-        disk.sync(file)?; // from here on a crash leaves what is read
+        disk.sync(file)?; // what is read is to be durable
         let ValidPrefix { records, fault } = Journal::read_valid(alloc, disk, file)?;
         match fault {
             Some(bytes) => {
@@ -145,7 +150,7 @@ impl Journal {
     pub fn append<D: Disk>(&mut self, disk: &mut D, payload: &Payload) -> Result<(), DiskFault>
         requires clean { self.old.state ≡ State.Clean }
         requires some { 0 < length payload.now.bytes }
-        requires kept { IsKept (D.shown disk.old) self.old }
+        requires has_gate { HasLastGate (D.shown disk.old) self.old }
 
         ensures added { OnOk result ((records : List (List ℕ)) → Keeps (D.shown disk.old) self.old records None
             → Keeps (D.shown disk.new) self.new (records ++ payload.now.bytes ∷ []) None) }
@@ -158,9 +163,13 @@ impl Journal {
         ensures any_moment { (records : List (List ℕ)) → Keeps (D.shown disk.old) self.old records None → IsTrue (D.shown disk.old).tells
             → Passes (D.shown disk.old) (D.shown disk.new) self.old.file (MayRead records (Some payload.now.bytes)) }
 
-        ensures bytes { OnOk result (IsTrue (D.shown disk.old).tells → (D.shown disk.new).now self.old.file
+        ensures bytes { OnOk result (IsTrue (D.shown disk.old).tells → ((D.shown disk.new).now self.old.file).bytes
+            ≡ appended ((D.shown disk.old).now self.old.file).bytes self.old.end payload.now.bytes) }
+        ensures durable { OnOk result (IsTrue (D.shown disk.old).tells → IsSettled ((D.shown disk.old).now self.old.file)
+            → (D.shown disk.new).now self.old.file
             ≡ kept_file (appended ((D.shown disk.old).now self.old.file).bytes self.old.end payload.now.bytes)) }
-        ensures kept { IsKept (D.shown disk.new) self.new }
+        ensures has_gate { HasLastGate (D.shown disk.new) self.new }
+        ensures others { OthersStay (D.shown disk.old) (D.shown disk.new) self.old.file }
         ensures clean { OnOk result (self.new.state ≡ State.Clean) }
         ensures unclean { OnErr result (self.new.state ≢ State.Clean) }
         ensures file { self.new.file ≡ self.old.file }
@@ -181,7 +190,7 @@ impl Journal {
     ///
     /// After a fault the journal isn't clean.
     pub fn mend<D: Disk>(&mut self, disk: &mut D) -> Result<(), DiskFault>
-        requires { IsKept (D.shown disk.old) self.old }
+        requires { HasLastGate (D.shown disk.old) self.old }
 
         ensures mended { OnOk result ((records : List (List ℕ)) (late : Option (List ℕ)) → Keeps (D.shown disk.old) self.old records late
             → Keeps (D.shown disk.new) self.new records None) }
@@ -194,9 +203,13 @@ impl Journal {
         ensures any_moment { (records : List (List ℕ)) (late : Option (List ℕ)) → Keeps (D.shown disk.old) self.old records late
             → IsTrue (D.shown disk.old).tells → Passes (D.shown disk.old) (D.shown disk.new) self.old.file (MayRead records late) }
 
-        ensures bytes { OnOk result (IsTrue (D.shown disk.old).tells → (D.shown disk.new).now self.old.file
+        ensures bytes { OnOk result (IsTrue (D.shown disk.old).tells → ((D.shown disk.new).now self.old.file).bytes
+            ≡ mended self.old.state ((D.shown disk.old).now self.old.file).bytes self.old.end) }
+        ensures durable { OnOk result (IsTrue (D.shown disk.old).tells → IsSettled ((D.shown disk.old).now self.old.file)
+            → (D.shown disk.new).now self.old.file
             ≡ kept_file (mended self.old.state ((D.shown disk.old).now self.old.file).bytes self.old.end)) }
-        ensures kept { IsKept (D.shown disk.new) self.new }
+        ensures has_gate { HasLastGate (D.shown disk.new) self.new }
+        ensures others { OthersStay (D.shown disk.old) (D.shown disk.new) self.old.file }
         ensures clean { OnOk result (self.new.state ≡ State.Clean) }
         ensures unclean { OnErr result (self.new.state ≢ State.Clean) }
         ensures same { self.new ≡ record self.old { state = self.new.state } }
@@ -238,12 +251,14 @@ fn zeroes(alloc: Global, n: usize) -> Result<Vec<u8>, NoMemory>
 // Writes after the last gate, and syncs.
 fn write_record<D: Disk>(disk: &mut D, file: u64, end: u64, body: &[u8]) -> Result<(), DiskFault>
     requires small { end < 2 ^ 63 }
-    requires within { IsWithin (D.shown disk.old) file (end + 1) 0 }
+    requires within { IsWithin (D.shown disk.old) file end 1 }
     ensures small { OnOk result (end + 1 + length body.now < 2 ^ 63) }
     ensures calls { Makes (D.shown disk.old) (D.shown disk.new) file (record_calls end body.now) result }
     ensures shut { KeepsShut (D.shown disk.old) (D.shown disk.new) file end }
-    ensures kept { OnOk result (IsTrue (D.shown disk.old).tells →
-        (D.shown disk.new).now file ≡ kept_file (put ((D.shown disk.old).now file).bytes (end + 1) body.now)) }
+    ensures kept { OnOk result (IsTrue (D.shown disk.old).tells → (D.shown disk.new).now file
+        ≡ synced (written ((D.shown disk.old).now file) (end + 1) (length body.now)
+        (put ((D.shown disk.old).now file).bytes (end + 1) body.now))) }
+    ensures longer { IsTrue (D.shown disk.old).tells → IsNoShorter (D.shown disk.old) (D.shown disk.new) file }
     ensures counts { Counts (D.shown disk.old) (D.shown disk.new) result }
 {
     disk.write_at(file, end + 1, body)?;
@@ -252,11 +267,12 @@ fn write_record<D: Disk>(disk: &mut D, file: u64, end: u64, body: &[u8]) -> Resu
 
 // Writes the last gate, and syncs.
 fn write_gate<D: Disk>(disk: &mut D, file: u64, end: u64, gate: u8) -> Result<(), DiskFault>
-    requires within { IsWithin (D.shown disk.old) file end 0 }
+    requires within { IsWithin (D.shown disk.old) file end 1 }
     ensures calls { Makes (D.shown disk.old) (D.shown disk.new) file (gate_calls end gate) result }
     ensures ajar { KeepsAjar (D.shown disk.old) (D.shown disk.new) file end }
-    ensures kept { OnOk result (IsTrue (D.shown disk.old).tells →
-        (D.shown disk.new).now file ≡ kept_file (put ((D.shown disk.old).now file).bytes end (gate ∷ []))) }
+    ensures kept { OnOk result (IsTrue (D.shown disk.old).tells → (D.shown disk.new).now file
+        ≡ synced (written ((D.shown disk.old).now file) end 1 (put ((D.shown disk.old).now file).bytes end (gate ∷ [])))) }
+    ensures longer { IsTrue (D.shown disk.old).tells → IsNoShorter (D.shown disk.old) (D.shown disk.new) file }
     ensures counts { Counts (D.shown disk.old) (D.shown disk.new) result }
 {
     disk.write_at(file, end, &[gate])?;

@@ -13,7 +13,7 @@
 #![tactic(auto)]
 
 ghost use Rattle.std.specs.Prelude.{◌≡◌, ◌<◌, length, IfOk};
-ghost use Rattle.gated_journal.specs.Journal.{IsKept};
+ghost use Rattle.gated_journal.specs.Journal.{HasLastGate};
 ghost use Rattle.outside_mem.specs.MemDisk.{shown_by};
 
 use gated_journal::{Journal, Payload, State};
@@ -40,7 +40,7 @@ fn payload(alloc: Global) -> Result<Payload, NoMemory>
 fn append_all(disk: &mut MemDisk, journal: &mut Journal, payload: &Payload, count: u64) -> bool
     requires clean { journal.old.state ≡ State.Clean }
     requires some { 0 < length payload.now.bytes }
-    requires kept { IsKept (shown_by disk.old) journal.old }
+    requires has_gate { HasLastGate (shown_by disk.old) journal.old }
 {
     for _ in 0..count {
         if journal.append(disk, payload).is_err() {

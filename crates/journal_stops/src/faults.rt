@@ -1,6 +1,6 @@
 //! Each call of the disk failing in turn.
 ghost use Rattle.std.specs.Prelude.{◌≡◌, ◌<◌, length};
-ghost use Rattle.gated_journal.specs.Journal.{IsKept};
+ghost use Rattle.gated_journal.specs.Journal.{HasLastGate};
 ghost use Rattle.outside_mem.specs.MemDisk.{shown_by};
 
 use crate::steps::{FILE, finds, one_failing, payload, started};
@@ -10,8 +10,8 @@ use q_values::NoMemory;
 use std::alloc::Global;
 use std::test::Fail;
 
-// An append of which one call fails.
-fn fails_append(
+/// An append of which one call fails.
+pub fn fails_append(
     disk: &mut MemDisk,
     journal: &mut Journal,
     payload: &Payload,
@@ -19,17 +19,17 @@ fn fails_append(
 ) -> bool
     requires clean { journal.old.state ≡ State.Clean }
     requires some { 0 < length payload.now.bytes }
-    requires kept { IsKept (shown_by disk.old) journal.old }
-    ensures kept { IsKept (shown_by disk.new) journal.new }
+    requires has_gate { HasLastGate (shown_by disk.old) journal.old }
+    ensures has_gate { HasLastGate (shown_by disk.new) journal.new }
 {
     disk.plan(callings, None);
     journal.append(disk, payload).is_err()
 }
 
-// A repair of which one call fails.
-fn fails_mend(disk: &mut MemDisk, journal: &mut Journal, callings: Callings) -> bool
-    requires kept { IsKept (shown_by disk.old) journal.old }
-    ensures kept { IsKept (shown_by disk.new) journal.new }
+/// A repair of which one call fails.
+pub fn fails_mend(disk: &mut MemDisk, journal: &mut Journal, callings: Callings) -> bool
+    requires has_gate { HasLastGate (shown_by disk.old) journal.old }
+    ensures has_gate { HasLastGate (shown_by disk.new) journal.new }
 {
     disk.plan(callings, None);
     journal.mend(disk).is_err()
@@ -37,7 +37,7 @@ fn fails_mend(disk: &mut MemDisk, journal: &mut Journal, callings: Callings) -> 
 
 // A repair that succeeds.
 fn mends(alloc: Global, disk: &mut MemDisk, journal: &mut Journal) -> bool
-    requires kept { IsKept (shown_by disk.old) journal.old }
+    requires has_gate { HasLastGate (shown_by disk.old) journal.old }
 {
     disk.plan(Callings::new(alloc), None);
     !journal.is_clean() && journal.mend(disk).is_ok() && journal.is_clean()

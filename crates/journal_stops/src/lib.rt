@@ -2,7 +2,8 @@
 //!
 //! `bytes` compares the bytes of a journal with their written layout, and loads each kind of corrupt file. `prefix` reads
 //! files up to their first fault. `faults` lets one call of an append, a repair and a load fail, undone, torn at a byte or
-//! done, and looks which records are found afterwards. `stops` takes the disk down after each call of an append, also one
+//! done, and looks which records are found afterwards. `lost` lets a sync fail and drop what it should have written, and
+//! looks what a crash leaves after later calls that succeed. `stops` takes the disk down after each call of an append, also one
 //! that fails, and restarts it with images of what wasn't synced: kept, lost, torn at a byte, or as it was before:
 //!
 //! ```text
@@ -18,6 +19,8 @@
 mod bytes;
 #[cfg(test)]
 mod faults;
+#[cfg(test)]
+mod lost;
 #[cfg(test)]
 mod prefix;
 #[cfg(test)]

@@ -24,6 +24,7 @@ mod disk;
 mod gate;
 mod link;
 mod outside;
+mod range;
 mod recorder;
 
 pub use clock::Clock;
@@ -31,4 +32,5 @@ pub use disk::{Disk, DiskFault};
 pub use gate::{Gate, Point};
 pub use link::{Got, Link, LinkFault};
 pub use outside::{MakeFault, Outside};
+pub use range::{RangeState, WrittenRange};
 pub use recorder::Recorder;

@@ -1,3 +1,4 @@
 pub mod DiskLemmas
 pub mod FileLemmas
 pub mod PiecesLemmas
+pub mod PlaceLemmas

@@ -5,4 +5,6 @@ pub mod MemDisk
 pub mod MemFile
 pub mod Outside
 pub mod Pieces
+pub mod Places
+pub mod Ranges
 pub mod Recorder

@@ -1,6 +1,10 @@
 -- A file in memory, and the files of a disk in memory.
-use Rattle.std.specs.Prelude.{◌≡◌, ◌≢◌, ◌⊎◌, ◌<◌, ◌≤◌, ◌+◌, ◌-◌, ◌==◌, ℕ, List, [], ◌∷◌, length, take, slice_index, get_or, min, if◌then◌else◌}
-use Rattle.outside_api.specs.Disk.{FileState, IsOutside, IsImage, empty_file}
+use Rattle.std.specs.List.{AllByRecursion}
+use Rattle.std.specs.Prelude.{slice_get, drop, Some, ◌≡◌, ◌≢◌, ◌<◌, ◌≤◌, ◌+◌, ◌==◌, ℕ, List, [], ◌∷◌, length, take, slice_index, get_or, min, if◌then◌else◌}
+use Rattle.outside_api.specs.Disk.{FileState, IsDurableAt, IsImage, empty_file}
+use Rattle.outside_api.specs.declared.range.WrittenRange.{WrittenRange}
+use Rattle.outside_api.specs.declared.range.RangeState.TheVariants.{Kept}
+use Rattle.outside_mem.specs.Ranges.{IsNotKept, IsInDoubt}
 use Rattle.outside_mem.specs.declared.calling.Leaving.{Leaving}
 use Rattle.outside_mem.specs.declared.calling.Leaving.TheVariants.{Whole, Torn, Shortest, Range}
 use Rattle.outside_mem.specs.declared.calling.RangeLeft.{RangeLeft}
@@ -28,16 +32,11 @@ IsFirst entries number i = IsAbsentBefore entries number i × ((d : Numbered) �
 abbrev pub IsAbsent : List Numbered → ℕ → Type 0
 IsAbsent entries number = IsAbsentBefore entries number (length entries)
 
--- an offset lies in one of these ranges
-abbrev pub IsInside : ℕ → List (ℕ × ℕ) → Type 0
-IsInside k [] = ⊥
-IsInside k (range ∷ ranges) = ((range.0 ≤ k) × (k < range.0 + range.1)) ⊎ IsInside k ranges
-
--- these are the file's bytes, but for this one throughout the ranges that were written since its last sync
+-- these are the file's bytes, but for this one at each offset that isn't durable
 pub record IsTornBy (byte : ℕ) (file : FileState) (image : List ℕ) : Type 0 where
   pub size : length image ≡ length file.bytes
-  pub others : (k : ℕ) → IsOutside k file.unsynced → slice_index image k ≡ slice_index file.bytes k
-  pub torn : (k : ℕ) → k < length image → IsInside k file.unsynced → slice_index image k ≡ byte
+  pub others : (k : ℕ) → IsDurableAt k file.ranges → slice_index image k ≡ slice_index file.bytes k
+  pub torn : (k : ℕ) → k < length image → IsInDoubt k file.ranges → slice_index image k ≡ byte
 
 -- what a crash leaves of a range of n bytes from an offset on, where what was there before isn't known
 abbrev pub IsRangeLeft : RangeLeft → ℕ → ℕ → List ℕ → List ℕ → Type 0
@@ -46,12 +45,15 @@ IsRangeLeft (range.Lost byte) at n bytes image = (k : ℕ) → k < length image 
 IsRangeLeft (range.Torn count) at n bytes image = (k : ℕ) → k < at + min count n → slice_index image k ≡ slice_index bytes k
 IsRangeLeft range.Old at n bytes image = Unit {0}
 
--- these are the file's bytes, but in the range of this index, which is left so; all of them where there is no such range
+-- these are the file's bytes, but in the range of this index, which is left so where it isn't durable; what was written to it
+-- later and is durable stays
 pub record IsLeftSo (index : ℕ) (left : RangeLeft) (file : FileState) (image : List ℕ) : Type 0 where
   pub size : length image ≡ length file.bytes
-  pub others : (k : ℕ) → IsOutside k file.unsynced → slice_index image k ≡ slice_index file.bytes k
-  pub so : index < length file.unsynced → let range = get_or file.unsynced index (0, 0) in IsRangeLeft left range.0 range.1 file.bytes image
-  pub none : length file.unsynced ≤ index → image ≡ file.bytes
+  pub others : (k : ℕ) → IsDurableAt k file.ranges → slice_index image k ≡ slice_index file.bytes k
+  pub so : (range : WrittenRange) → slice_get file.ranges index ≡ Some range → IsNotKept range → AllByRecursion IsNotKept (drop (index + 1) file.ranges)
+      → IsRangeLeft left range.at range.size file.bytes image
+  pub kept : (range : WrittenRange) → slice_get file.ranges index ≡ Some range → range.state ≡ Kept → image ≡ file.bytes
+  pub none : length file.ranges ≤ index → image ≡ file.bytes
 
 -- what a crash leaves of a file, as it was chosen
 abbrev pub IsChosen : Leaving → FileState → List ℕ → Type 0

@@ -1,12 +1,14 @@
 //! The files of a disk in memory, by their numbers.
-ghost use Rattle.std.specs.Prelude.{◌≡◌, ◌≢◌, ◌<◌, ◌≤◌, ◌+◌, ◌^◌, ℕ, length, take, drop, slice_get, Some, IfOk, IfSome, IfNone, OnOk, OnErr, List};
-ghost use Rattle.outside_api.specs.Disk.{FileState, put, written, cut_to, kept_file, empty_file};
+ghost use Rattle.std.specs.Prelude.{◌≡◌, ◌≢◌, ◌⊎◌, ◌<◌, ◌≤◌, ◌+◌, ◌^◌, ℕ, length, take, drop, map, slice_get, Some, IfOk, IfSome, IfNone, OnOk, OnErr, List};
+ghost use Rattle.outside_api.specs.Disk.{FileState, put, written, spoiled, cut_to, synced, unsettled, empty_file};
+ghost use Rattle.outside_mem.specs.Places.{Finds};
 ghost use Rattle.outside_mem.specs.MemFile.{file_in, ChangesFile, IsFirst, IsAbsent};
 
 use crate::calling::Leaving;
 use crate::mem_file::MemFile;
 use q_values::NoMemory;
 use std::alloc::Global;
+use std::collections::BTreeMap;
 use std::marker::Model;
 
 /// A file and its number.
@@ -18,11 +20,13 @@ pub struct Numbered {
     pub file: MemFile,
 }
 
-/// Numbered files. Each call searches the list of those that were written, which is meant for a few files.
+/// Numbered files, each found by an index, however many there are.
 #[derive(Drop)]
 pub struct Files {
-    // The files that were written, in no order; of two with one number the first counts.
+    // The files that were written, in the order of their first writes.
     entries: Vec<Numbered>,
+    // The place of each number among them.
+    places: BTreeMap<u64, usize>,
 }
 
 impl Model for Files {
@@ -32,20 +36,25 @@ impl Model for Files {
     ghost Value = { List Numbered };
 
     ghost view = { λ f. f.entries.items };
+
+    ghost use Rattle.std.specs.Prelude.{map};
+    ghost use Rattle.outside_mem.specs.Places.{Finds};
+
+    ghost invariant = { λ f. Finds f.places (map (λ e. e.number) f.entries.items) };
 }
 
 // The index of the file of this number.
-fn place_of(entries: &[Numbered], number: u64) -> Option<usize>
+fn place_of(places: &BTreeMap<u64, usize>, entries: &[Numbered], number: u64) -> Option<usize>
+    requires { Finds places.now (map (λ e. e.number) entries.now) }
     ensures within { IfSome result (λ i. i < length entries.now) }
     ensures found { IfSome result (λ i. IsFirst entries.now number i) }
     ensures none { IfNone result (IsAbsent entries.now number) }
 {
-    for (i, entry) in entries.iter().enumerate() {
-        if entry.number == number {
-            return Some(i);
-        }
+    let _entries = entries;
+    match places.get(&number) {
+        Some(place) => Some(*place),
+        None => None,
     }
-    None
 }
 
 impl Files {
@@ -58,6 +67,7 @@ impl Files {
     {
         Files {
             entries: Vec::new(alloc),
+            places: BTreeMap::new(alloc),
         }
     }
 
@@ -66,14 +76,32 @@ impl Files {
         ensures bytes { result.now ≡ (file_in self.now number).bytes }
         ensures small { length result.now < 2 ^ 63 }
     {
-        match place_of(self.entries.as_slice(), number) {
+        match place_of(&self.places, self.entries.as_slice(), number) {
             Some(i) => self.entries[i].file.bytes(),
             None => &[],
         }
     }
 
-    /// Writes the bytes from the offset `at` on, of a write of `size` bytes. A refused call changes no file.
+    /// Writes the bytes from the offset `at` on. A refused call changes no file.
     pub fn write(
+        &mut self,
+        alloc: Global,
+        number: u64,
+        at: u64,
+        bytes: &[u8],
+    ) -> Result<(), NoMemory>
+        requires within { at ≤ length (file_in self.old number).bytes }
+        requires small { at + length bytes.now < 2 ^ 63 }
+        ensures ok { OnOk result (ChangesFile (file_in self.old) (file_in self.new) number
+            (written (file_in self.old number) at (length bytes.now) (put (file_in self.old number).bytes at bytes.now))) }
+        ensures err { OnErr result ((k : ℕ) → file_in self.new k ≡ file_in self.old k) }
+    {
+        let i = self.entry(alloc, number)?;
+        self.entries[i].file.write(alloc, at, bytes)
+    }
+
+    /// Writes bytes from the offset `at` on, of a write of `size` bytes that fails. A refused call changes no file.
+    pub fn spoil(
         &mut self,
         alloc: Global,
         number: u64,
@@ -85,11 +113,11 @@ impl Files {
         requires part { length bytes.now ≤ size }
         requires small { at + size < 2 ^ 63 }
         ensures ok { OnOk result (ChangesFile (file_in self.old) (file_in self.new) number
-            (written (file_in self.old number) at size (put (file_in self.old number).bytes at bytes.now))) }
+            (spoiled (file_in self.old number) at size (put (file_in self.old number).bytes at bytes.now))) }
         ensures err { OnErr result ((k : ℕ) → file_in self.new k ≡ file_in self.old k) }
     {
         let i = self.entry(alloc, number)?;
-        self.entries[i].file.write(alloc, at, bytes, size)
+        self.entries[i].file.spoil(alloc, at, bytes, size)
     }
 
     // The index of the file of this number, which is made where it is missing.
@@ -98,14 +126,14 @@ impl Files {
         ensures within { IfOk result (λ i. i < length self.new) }
         ensures first { IfOk result (λ i. IsFirst self.new number i) }
     {
-        if let Some(i) = place_of(self.entries.as_slice(), number) {
+        if let Some(i) = place_of(&self.places, self.entries.as_slice(), number) {
             return Ok(i);
         }
         let i = self.entries.as_slice().len();
-        self.entries.push(Numbered {
-            number,
-            file: MemFile::new(alloc),
-        })?;
+        self.entries.reserve(1)?;
+        self.places.insert(number, i)?;
+        let file = MemFile::new(alloc);
+        self.entries.push_reserved(Numbered { number, file });
         Ok(i)
     }
 
@@ -114,17 +142,27 @@ impl Files {
         requires { size ≤ length (file_in self.old number).bytes }
         ensures { ChangesFile (file_in self.old) (file_in self.new) number (cut_to size (file_in self.old number)) }
     {
-        if let Some(i) = place_of(self.entries.as_slice(), number) {
+        if let Some(i) = place_of(&self.places, self.entries.as_slice(), number) {
             self.entries[i].file.cut(size);
         }
     }
 
-    /// Makes a file durable.
+    /// Syncs a file.
     pub fn sync(&mut self, number: u64)
-        ensures { ChangesFile (file_in self.old) (file_in self.new) number (kept_file (file_in self.old number).bytes) }
+        ensures { ChangesFile (file_in self.old) (file_in self.new) number (synced (file_in self.old number)) }
     {
-        if let Some(i) = place_of(self.entries.as_slice(), number) {
+        if let Some(i) = place_of(&self.places, self.entries.as_slice(), number) {
             self.entries[i].file.sync();
+        }
+    }
+
+    /// A sync of a file that fails: what isn't durable may be lost. A file that was never written stays as it is.
+    pub fn lose(&mut self, number: u64)
+        ensures { ((k : ℕ) → file_in self.new k ≡ file_in self.old k)
+            ⊎ ChangesFile (file_in self.old) (file_in self.new) number (unsettled (file_in self.old number)) }
+    {
+        if let Some(i) = place_of(&self.places, self.entries.as_slice(), number) {
+            self.entries[i].file.lose();
         }
     }
 
@@ -132,6 +170,7 @@ impl Files {
     pub fn images(&self, alloc: Global, leaving: Leaving) -> Result<Files, NoMemory>
         ensures { IfOk result (λ f. AreLeft leaving (file_in self.now) (file_in f)) }
     {
+        let places = self.places.clone()?;
         let mut entries = Vec::with_capacity(alloc, self.entries.as_slice().len())?;
         for entry in &self.entries {
             let image = entry.file.image(alloc, leaving)?;
@@ -140,6 +179,6 @@ impl Files {
                 file: MemFile::from_vec(alloc, image),
             })?;
         }
-        Ok(Files { entries })
+        Ok(Files { entries, places })
     }
 }

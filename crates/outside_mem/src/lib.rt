@@ -14,8 +14,7 @@
 //! ```
 //!
 //! A device keeps no history as data: its past is a ghost that only contracts see. A call that is out of memory is a
-//! fault like others, and is counted apart as `short`. The files of a disk are found by a search through a list, which is
-//! meant for a few files.
+//! fault like others, and is counted apart as `short`. A file of a disk is found by an index, however many there are.
 #![tactic(auto)]
 
 mod calling;

@@ -204,15 +204,18 @@ impl Disk for MemDisk {
         if at >= SIZE_LIMIT || bytes.len() as u64 >= SIZE_LIMIT - at {
             return Err(self.short_fault());
         }
+        if calling == Calling::Succeeds {
+            if self.files.write(self.alloc, file, at, bytes).is_err() {
+                return Err(self.short_fault());
+            }
+            return Ok(());
+        }
         let size = bytes.len() as u64;
         let part = part_of(calling, bytes);
-        if self.files.write(self.alloc, file, at, part, size).is_err() {
+        if self.files.spoil(self.alloc, file, at, part, size).is_err() {
             return Err(self.short_fault());
         }
-        if calling != Calling::Succeeds {
-            return Err(self.fault());
-        }
-        Ok(())
+        Err(self.fault())
     }
 
     fn cut(&mut self, file: u64, size: u64) -> Result<(), DiskFault>
@@ -242,18 +245,21 @@ impl Disk for MemDisk {
     {
         let calling = self.next();
         self.past.push(&self.files);
-        if calling != Calling::Succeeds {
-            return Err(self.fault());
+        match calling {
+            Calling::Succeeds => self.files.sync(file),
+            Calling::FailsUndone => return Err(self.fault()),
+            Calling::FailsDone | Calling::FailsTorn(_) => {
+                self.files.lose(file);
+                return Err(self.fault());
+            }
         }
-        self.files.sync(file);
         Ok(())
     }
 }
 
-// What a write of these bytes writes.
+// What a write of these bytes that fails writes.
 fn part_of(calling: Calling, bytes: &[u8]) -> &[u8]
-    ensures within { length result.now ≤ length bytes.now }
-    ensures whole { calling ≡ Calling.Succeeds → result.now ≡ bytes.now }
+    ensures { length result.now ≤ length bytes.now }
 {
     match calling {
         Calling::FailsTorn(count) => &bytes[..bytes.len().min(count as usize)],

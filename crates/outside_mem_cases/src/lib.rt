@@ -9,10 +9,13 @@
 //! a recorder   one with room, and one that is full
 //! a clock      the last reading repeated, and a clock that always reads one time
 //! an outside   the lines printed, and what was handed back
+//! a disk       10,000 files, each found by its number, before a crash and after it
 //! ```
 //!
-//! A disk in memory is tested with a journal on it, in `journal_stops`.
+//! A disk in memory is tested with a journal on it too, in `journal_stops`.
 #![tactic(auto)]
 
+#[cfg(test)]
+mod many_files;
 #[cfg(test)]
 mod tests;

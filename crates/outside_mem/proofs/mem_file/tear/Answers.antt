@@ -1,9 +1,10 @@
-use Rattle.std.proofs.Common.{◌∙◌, arith}
-use Rattle.outside_mem.proofs.FileLemmas.{outside_at, torn_on}
+use Rattle.std.proofs.Common.{ap, length, ◌∙◌}
+use Rattle.outside_mem.proofs.FileLemmas.{durable_on, doubt_on}
 use Rattle.outside_mem.proofs.mem_file.tear.Goals as goal
 
-pub loop-at-preserved : goal.loop-at-preserved
-loop-at-preserved c = (
-  λ j outside. c.tear_one.ensures.others j (outside_at j c.args.ranges.now c.loop-at.at-index _ c.loop-at-test.true outside) ∙ c.loop-at.invariant.0 j outside,
-  λ j less inside. torn_on j c.args.ranges.now c.loop-at.at-index _ _ _ _ c.args.byte (omega arith) c.loop-at-test.true c.tear_one.ensures.length c.tear_one.ensures.others c.tear_one.ensures.torn c.loop-at.invariant.1 less inside,
-)
+pub loop-range-preserved : goal.loop-range-preserved
+loop-range-preserved c =
+    let whole = c.loop-range.auto.bytes ∙ ap length c.requires.whole in (
+      λ j durable. durable_on j c.args.ranges.now c.loop-range.range-index _ c.loop-range.bytes c.tear_range.new.bytes c.args.kept.now c.args.byte c.loop-range-test.true c.tear_range.ensures.length whole (c.tear_range.ensures.others j) (λ itself. c.tear_range.ensures.kept itself j) (c.loop-range.invariant.0 j) durable,
+      λ j less doubt. doubt_on j c.args.ranges.now c.loop-range.range-index _ c.loop-range.bytes c.tear_range.new.bytes c.args.kept.now c.args.byte c.loop-range-test.true c.tear_range.ensures.length whole (c.tear_range.ensures.others j) (λ apart. c.tear_range.ensures.torn apart j) (c.loop-range.invariant.1 j) less doubt,
+    )

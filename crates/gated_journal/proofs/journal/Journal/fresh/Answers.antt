@@ -1,11 +1,12 @@
-use Rattle.std.proofs.Common.{◌≡◌, ◌∷◌, [], List, ℕ, Bool, IsTrue, subst, sym, ap, ◌∙◌, None, inl, inr, Result, Ok, Err}
-use Rattle.outside_api.specs.Disk.{FileState, DiskView, Changes, Writing, put, kept_file}
+use Rattle.std.proofs.Common.{◌≡◌, ◌∷◌, [], List, ℕ, Bool, IsTrue, length, arith, subst, sym, ap, ◌∙◌, inl, inr, Result, Ok, Err}
+use Rattle.outside_api.specs.Disk.{FileState, DiskView, Changes, Writing, Cutting, Syncing, put, written, cut_to, synced}
 use Rattle.outside_api.specs.declared.disk.DiskFault.{DiskFault}
 use Rattle.gated_journal.specs.Calls.{fresh_calls}
 use Rattle.gated_journal.specs.Journal.{fresh_bytes}
 use Rattle.gated_journal.proofs.Calls.{makes_failed, nine_bytes}
 use Rattle.gated_journal.proofs.Moments.{passes_one, passes_on}
-use Rattle.gated_journal.proofs.Appends.{held_fresh, put_fresh}
+use Rattle.gated_journal.proofs.Appends.{held_fresh, put_fresh, length-fresh_bytes}
+use Rattle.gated_journal.proofs.Durable.{wrote_bytes, wrote_settled}
 use Rattle.gated_journal.proofs.journal.Journal.fresh.Goals as goal
 
 pub returns-in_err-cut-clause-any_moment : goal.returns-in_err-cut-clause-any_moment
@@ -32,30 +33,6 @@ returns-clause-any_moment g c tells =
     let two = passes_on _ _ _ _ (λ (image : List ℕ). Unit {0}) one (passes_one _ _ _ _ (λ (image : List ℕ). Unit {0}) (c.write_at.ensures.changes tells') (λ image is. tt)) in
     let tells'' : IsTrue (g.D.Disk.shown c.write_at.new.self).tells = subst (λ (b : Bool). IsTrue b) (sym c.in_ok-write_at.ensures.counts.1) tells' in
     passes_on _ _ _ _ (λ (image : List ℕ). Unit {0}) two (passes_one _ _ _ _ (λ (image : List ℕ). Unit {0}) (c.sync.ensures.changes tells'') (λ image is. tt))
-
-pub returns-clause-bytes : goal.returns-clause-bytes
-returns-clause-bytes g c tells =
-    let tells' : IsTrue (g.D.Disk.shown c.cut.new.self).tells = subst (λ (b : Bool). IsTrue b) (sym c.in_ok-cut.ensures.counts.1) tells in
-    let tells'' : IsTrue (g.D.Disk.shown c.write_at.new.self).tells = subst (λ (b : Bool). IsTrue b) (sym c.in_ok-write_at.ensures.counts.1) tells' in
-    let cut = (c.in_ok-cut.ensures.changes tells).changed in
-    let wrote = (c.in_ok-write_at.ensures.changes tells').changed in
-    let bytes : ((g.D.Disk.shown c.write_at.new.self).now c.args.file).bytes ≡ fresh_bytes =
-    ap (λ (f : FileState). f.bytes) wrote ∙ ap (λ (f : FileState). put f.bytes 0 (0x71 ∷ 0x74 ∷ 0x70 ∷ 0x6c ∷ 0x61 ∷ 0x6e ∷ 0x74 ∷ 0x31 ∷ 0 ∷ [])) cut ∙ put_fresh in
-    (c.in_ok-sync.ensures.changes tells'').changed ∙ ap kept_file bytes
-
-pub returns-clause-keeps : goal.returns-clause-keeps
-returns-clause-keeps g c tells''' =
-    let tells'' : IsTrue (g.D.Disk.shown c.write_at.new.self).tells = subst (λ (b : Bool). IsTrue b) c.in_ok-sync.ensures.counts.1 tells''' in
-    let tells' : IsTrue (g.D.Disk.shown c.cut.new.self).tells = subst (λ (b : Bool). IsTrue b) c.in_ok-write_at.ensures.counts.1 tells'' in
-    let tells : IsTrue (g.D.Disk.shown c.args.disk.now).tells = subst (λ (b : Bool). IsTrue b) c.in_ok-cut.ensures.counts.1 tells' in
-    let cut = (c.in_ok-cut.ensures.changes tells).changed in
-    let wrote = (c.in_ok-write_at.ensures.changes tells').changed in
-    let bytes : ((g.D.Disk.shown c.write_at.new.self).now c.args.file).bytes ≡ fresh_bytes =
-    ap (λ (f : FileState). f.bytes) wrote ∙ ap (λ (f : FileState). put f.bytes 0 (0x71 ∷ 0x74 ∷ 0x70 ∷ 0x6c ∷ 0x61 ∷ 0x6e ∷ 0x74 ∷ 0x31 ∷ 0 ∷ [])) cut ∙ put_fresh in
-    held_fresh c.args.file _ ((c.in_ok-sync.ensures.changes tells'').changed ∙ ap kept_file bytes)
-
-pub returns-clause-kept : goal.returns-clause-kept
-returns-clause-kept g c tells = ([], None, returns-clause-keeps g c tells)
 
 wrote_fresh : (result : Result (Unit {0}) DiskFault) (file : ℕ) (old new : DiskView) → Changes old new file (Writing 0 (0x71 ∷ 0x74 ∷ 0x70 ∷ 0x6c ∷ 0x61 ∷ 0x6e ∷ 0x74 ∷ 0x31 ∷ 0 ∷ []) result) → Changes old new file (Writing 0 fresh_bytes result)
 wrote_fresh result file old new c = subst (λ (l : List ℕ). Changes old new file (Writing 0 l result)) nine_bytes c
@@ -104,3 +81,39 @@ returns-clause-calls g c tells =
         (new, c.in_ok-sync.ensures.changes tells'', (λ i. new.now, λ i. new.past)),
       ),
     )
+
+abbrev nine : List ℕ
+nine = 0x71 ∷ 0x74 ∷ 0x70 ∷ 0x6c ∷ 0x61 ∷ 0x6e ∷ 0x74 ∷ 0x31 ∷ 0 ∷ []
+
+-- the file after the three calls
+fresh_by : (old one two new : DiskView) (file : ℕ) → Changes old one file (Cutting {T = Unit {0}} 0 (Ok tt)) → Changes one two file (Writing {T = Unit {0}} 0 nine (Ok tt)) → Changes two new file (Syncing {T = Unit {0}} (Ok tt))
+    → new.now file ≡ synced (written (cut_to 0 (old.now file)) 0 9 fresh_bytes)
+fresh_by old one two new file cut wrote sync =
+    sync.changed ∙ ap synced (wrote.changed ∙ ap (λ (f : FileState). written f 0 9 (put f.bytes 0 nine)) cut.changed ∙ ap (written (cut_to 0 (old.now file)) 0 9) put_fresh)
+
+pub returns-clause-bytes : goal.returns-clause-bytes
+returns-clause-bytes g c tells =
+    let tells' : IsTrue (g.D.Disk.shown c.cut.new.self).tells = subst (λ (b : Bool). IsTrue b) (sym c.in_ok-cut.ensures.counts.1) tells in
+    let tells'' : IsTrue (g.D.Disk.shown c.write_at.new.self).tells = subst (λ (b : Bool). IsTrue b) (sym c.in_ok-write_at.ensures.counts.1) tells' in
+    let is = fresh_by _ _ _ _ c.args.file (c.in_ok-cut.ensures.changes tells) (c.in_ok-write_at.ensures.changes tells') (c.in_ok-sync.ensures.changes tells'') in
+    wrote_bytes (cut_to 0 ((g.D.Disk.shown c.args.disk.now).now c.args.file)) _ 0 9 fresh_bytes is
+
+pub returns-clause-durable : goal.returns-clause-durable
+returns-clause-durable g c tells settled =
+    let tells' : IsTrue (g.D.Disk.shown c.cut.new.self).tells = subst (λ (b : Bool). IsTrue b) (sym c.in_ok-cut.ensures.counts.1) tells in
+    let tells'' : IsTrue (g.D.Disk.shown c.write_at.new.self).tells = subst (λ (b : Bool). IsTrue b) (sym c.in_ok-write_at.ensures.counts.1) tells' in
+    let is = fresh_by _ _ _ _ c.args.file (c.in_ok-cut.ensures.changes tells) (c.in_ok-write_at.ensures.changes tells') (c.in_ok-sync.ensures.changes tells'') in
+    wrote_settled (cut_to 0 ((g.D.Disk.shown c.args.disk.now).now c.args.file)) _ 0 9 fresh_bytes is settled
+
+pub returns-clause-keeps : goal.returns-clause-keeps
+returns-clause-keeps g c tells''' =
+    let tells'' : IsTrue (g.D.Disk.shown c.write_at.new.self).tells = subst (λ (b : Bool). IsTrue b) c.in_ok-sync.ensures.counts.1 tells''' in
+    let tells' : IsTrue (g.D.Disk.shown c.cut.new.self).tells = subst (λ (b : Bool). IsTrue b) c.in_ok-write_at.ensures.counts.1 tells'' in
+    let tells : IsTrue (g.D.Disk.shown c.args.disk.now).tells = subst (λ (b : Bool). IsTrue b) c.in_ok-cut.ensures.counts.1 tells' in
+    held_fresh c.args.file ((g.D.Disk.shown c.args.disk.now).now c.args.file) _ (fresh_by _ _ _ _ c.args.file (c.in_ok-cut.ensures.changes tells) (c.in_ok-write_at.ensures.changes tells') (c.in_ok-sync.ensures.changes tells''))
+
+pub returns-clause-has_gate : goal.returns-clause-has_gate
+returns-clause-has_gate g c tells =
+    let old = g.D.Disk.shown c.args.disk.now in
+    let told : IsTrue old.tells = subst (λ (b : Bool). IsTrue b) (c.in_ok-sync.ensures.counts.1 ∙ c.in_ok-write_at.ensures.counts.1 ∙ c.in_ok-cut.ensures.counts.1) tells in
+    omega (arith, ap length (returns-clause-bytes g c told), length-fresh_bytes)

@@ -1,18 +1,10 @@
-use Rattle.std.proofs.Common.{◌≡◌, IsTrue, None, subst}
+use Rattle.std.proofs.Common.{IsTrue, None, subst}
 use Rattle.outside_api.specs.Disk.{Passes}
 use Rattle.gated_journal.specs.Journal.{Keeps, JournalView, MayRead}
 use Rattle.gated_journal.specs.declared.state.State.TheVariants.{Clean, BodyFailed}
-use Rattle.gated_journal.proofs.Appends.{on_err, view_of, mend_gate_failed, mend_gate_moments, mend_gate_done, mend_body_failed, mend_body_moments, mend_body_done, kept_still, kept_mended}
+use Rattle.gated_journal.proofs.Appends.{on_err, view_of, mend_gate_failed, mend_gate_moments, mend_gate_done, mend_body_failed, mend_body_moments, mend_body_done}
 use Rattle.gated_journal.proofs.journal.Journal.mend.Goals as goal
 use Rattle.gated_journal.proofs.journal.Journal.mend.Goals.{in-GateFailed+in_ok-write_gate-in-GateFailed, in-Clean+in_ok-sync-in-Clean}
-
-pub returns-in_err-write_gate-in-GateFailed-clause-kept : goal.returns-in_err-write_gate-in-GateFailed-clause-kept
-returns-in_err-write_gate-in-GateFailed-clause-kept g c =
-    kept_still (g.D.Disk.shown c.args.disk.now) (g.D.Disk.shown c.write_gate.new.disk) c.args.self.now c.args.self.now c.in_err-write_gate-in-GateFailed.ensures.counts.1 (λ records late.
-    let old = g.D.Disk.shown c.args.disk.now in
-    let new = g.D.Disk.shown c.write_gate.new.disk in
-    subst (λ (j : JournalView). Keeps old j records late → Keeps new j records late) c.self.view_is
-    (mend_gate_failed c.self.inside.file c.self.inside.end records old new c.self.inside.state late c.in-GateFailed.is c.write_gate.ensures.ajar c.in_err-write_gate-in-GateFailed.ensures.counts.1)) c.requires
 
 pub returns-in_err-write_gate-in-GateFailed-clause-failed : goal.returns-in_err-write_gate-in-GateFailed-clause-failed
 returns-in_err-write_gate-in-GateFailed-clause-failed g c =
@@ -45,16 +37,6 @@ returns-in_err-sync-in-Clean-clause-any_moment g c records late =
     let new = g.D.Disk.shown c.sync.new.self in
     subst (λ (j : JournalView). Keeps old j records late → IsTrue old.tells → Passes old new j.file (MayRead records late)) c.self.view_is
     (mend_body_moments c.self.inside.file c.self.inside.end records old new c.sync.result c.sync.ensures.changes c.self.inside.state late c.in-Clean.is)
-
-pub returns-in_err-sync-in-Clean-clause-kept : goal.returns-in_err-sync-in-Clean-clause-kept
-returns-in_err-sync-in-Clean-clause-kept g c =
-    let old = g.D.Disk.shown c.args.disk.now in
-    let new = g.D.Disk.shown c.sync.new.self in
-    let file = c.self.inside.file in
-    let end = c.self.inside.end in
-    kept_still old new c.args.self.now (view_of file end BodyFailed) c.in_err-sync-in-Clean.ensures.counts.1 (λ records late.
-    subst (λ (j : JournalView). Keeps old j records late → Keeps new (view_of file end BodyFailed) records late) c.self.view_is
-    (mend_body_failed file end records old new c.sync.result c.sync.ensures.changes c.self.inside.state late c.in-Clean.is c.in_err-sync-in-Clean.ensures.counts.1)) c.requires
 
 pub returns-in_err-sync-in-Clean-clause-unclean : goal.returns-in_err-sync-in-Clean-clause-unclean
 returns-in_err-sync-in-Clean-clause-unclean g c = on_err c.from_residual-in_err-sync-in-Clean.result _ (λ e. cc)
@@ -94,13 +76,3 @@ returns-clause-any_moment g c records late =
           (subst (λ (j : JournalView). Keeps old j records late → IsTrue old.tells → Passes old new j.file (MayRead records late)) c.self.view_is
           (mend_body_moments file end records old new w.sync.result w.sync.ensures.changes c.self.inside.state late w.in-Clean.is))
     ]
-
-pub returns-clause-kept : goal.returns-clause-kept
-returns-clause-kept g c =
-    let old = g.D.Disk.shown c.args.disk.now in
-    let new = g.D.Disk.shown c.match-self.disk in
-    let same : new.tells ≡ old.tells = elim c.match-self.branch [
-      | in-GateFailed+in_ok-write_gate-in-GateFailed w ↦ rw w.disk-is w.in_ok-write_gate-in-GateFailed.ensures.counts.1
-      | in-Clean+in_ok-sync-in-Clean w ↦ rw w.disk-is w.in_ok-sync-in-Clean.ensures.counts.1
-    ] in
-    kept_mended old new c.args.self.now (view_of c.match-self.self-inside.file c.match-self.self-inside.end Clean) same (returns-clause-mended g c) c.requires

@@ -2,6 +2,7 @@ use Rattle.std.proofs.Common.{◌≡◌, ◌≤◌, ◌<◌, ap, ◌∙◌, List
 use Rattle.outside_api.specs.Disk.{FileState, cut_to, empty_file}
 use Rattle.outside_mem.specs.MemFile.{IsFirst}
 use Rattle.outside_mem.specs.declared.files.Numbered.{Numbered}
+use Rattle.outside_mem.proofs.PlaceLemmas.{finds_set}
 use Rattle.outside_mem.proofs.FileLemmas.{file_at, changes_over, changes_absent, absent_bytes}
 use Rattle.outside_mem.proofs.files.Files.cut.Goals as goal
 
@@ -26,3 +27,7 @@ returns-in_default c =
     let none = absent_bytes _ _ c.args.number same c.in_default.ensures.none in
     let zero : c.args.size ≡ 0 = omega (arith, c.requires, ap length none) in
     changes_absent _ c.args.self.now c.args.number (cut_to c.args.size) same c.in_default.ensures.none (ap (λ (k : ℕ). cut_to k empty_file) zero)
+
+pub invariant_of-self : goal.invariant_of-self
+invariant_of-self c =
+    finds_set c.self.inside.places c.self.inside.entries.items c.in-Some.i (record { number = c.index_mut.result.now.number; file = c.cut.new.self }) c.index_mut.result.now c.self.invariant (ap (λ (e : Numbered). e.number) c.index_mut.ensures.value)

@@ -1,7 +1,8 @@
-use Rattle.std.proofs.Common.{◌<◌, ◌∙◌, List, length, refl, subst}
-use Rattle.outside_api.specs.Disk.{FileState, kept_file}
+use Rattle.std.proofs.Common.{ap, ◌<◌, ◌∙◌, List, length, refl, subst}
+use Rattle.outside_api.specs.Disk.{synced}
 use Rattle.outside_mem.specs.MemFile.{IsFirst}
 use Rattle.outside_mem.specs.declared.files.Numbered.{Numbered}
+use Rattle.outside_mem.proofs.PlaceLemmas.{finds_set}
 use Rattle.outside_mem.proofs.FileLemmas.{changes_over, changes_absent}
 use Rattle.outside_mem.proofs.files.Files.sync.Goals as goal
 
@@ -10,8 +11,12 @@ returns-in-Some c =
     let es = c.self.inside.entries.items in
     let less = subst (λ (l : List Numbered). c.in-Some.i < length l) c.as_slice.ensures.value c.in-Some.ensures.within in
     let first = subst (λ (l : List Numbered). IsFirst l c.args.number c.in-Some.i) c.as_slice.ensures.value c.in-Some.ensures.found in
-    changes_over c.args.self.now es c.args.self.now c.args.number c.in-Some.i c.index_mut.result.now c.sync.new.self (λ (f : FileState). kept_file f.bytes) (λ k. refl) c.self.view_is less first c.index_mut.ensures.value c.sync.ensures
+    changes_over c.args.self.now es c.args.self.now c.args.number c.in-Some.i c.index_mut.result.now c.sync.new.self synced (λ k. refl) c.self.view_is less first c.index_mut.ensures.value c.sync.ensures
 
 pub returns-in_default : goal.returns-in_default
 returns-in_default c =
-    changes_absent _ c.args.self.now c.args.number (λ (f : FileState). kept_file f.bytes) (c.as_slice.ensures.value ∙ c.self.view_is) c.in_default.ensures.none refl
+    changes_absent _ c.args.self.now c.args.number synced (c.as_slice.ensures.value ∙ c.self.view_is) c.in_default.ensures.none refl
+
+pub invariant_of-self : goal.invariant_of-self
+invariant_of-self c =
+    finds_set c.self.inside.places c.self.inside.entries.items c.in-Some.i (record { number = c.index_mut.result.now.number; file = c.sync.new.self }) c.index_mut.result.now c.self.invariant (ap (λ (e : Numbered). e.number) c.index_mut.ensures.value)

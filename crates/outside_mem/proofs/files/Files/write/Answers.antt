@@ -1,7 +1,8 @@
-use Rattle.std.proofs.Common.{◌≤◌, ◌<◌, ◌∙◌, List, length, subst, sym, OnOk, Result, Ok, Err}
+use Rattle.std.proofs.Common.{ap, ◌≤◌, ◌<◌, ◌∙◌, List, length, subst, sym, OnOk, Result, Ok, Err}
 use Rattle.outside_api.specs.Disk.{FileState, written, put}
 use Rattle.outside_mem.specs.MemFile.{IsFirst}
 use Rattle.outside_mem.specs.declared.files.Numbered.{Numbered}
+use Rattle.outside_mem.proofs.PlaceLemmas.{finds_set}
 use Rattle.outside_mem.proofs.FileLemmas.{file_at, changes_over}
 use Rattle.outside_mem.proofs.files.Files.write.Goals as goal
 
@@ -24,6 +25,10 @@ returns-clause-ok c =
     let first = subst (λ (l : List Numbered). IsFirst l c.args.number c.in_ok-i.i) (sym c.self.view_is) c.in_ok-i.ensures.first in
     on_ok c.write.result _ _
     (changes_over c.args.self.now es c.entry.new.self c.args.number c.in_ok-i.i c.index_mut.result.now c.write.new.self
-    (λ (f : FileState). written f c.args.at c.args.size (put f.bytes c.args.at c.args.bytes.now))
+    (λ (f : FileState). written f c.args.at (length c.args.bytes.now) (put f.bytes c.args.at c.args.bytes.now))
     c.in_ok-i.ensures.same c.self.view_is less first c.index_mut.ensures.value)
     c.write.ensures.ok
+
+pub invariant_of-self : goal.invariant_of-self
+invariant_of-self c =
+    finds_set c.self.inside.places c.self.inside.entries.items c.in_ok-i.i (record { number = c.index_mut.result.now.number; file = c.write.new.self }) c.index_mut.result.now c.self.invariant (ap (λ (e : Numbered). e.number) c.index_mut.ensures.value)
