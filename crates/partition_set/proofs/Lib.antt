@@ -1,4 +1,4 @@
-mod EncodingLemmas
-mod LawLemmas
+pub mod EncodingLemmas
+pub mod LawLemmas
 mod OrderLemmas
 mod TableLemmas

@@ -1,9 +1,10 @@
 //! The manifest: its records, in a journal of their own.
 ghost use Rattle.std.specs.Prelude.{◌≡◌, true, ◌≢◌, ◌<◌, ◌↔◌, ◌++◌, [], ◌∷◌, List, Option, Some, None, ℕ, map, IsTrue, IfOk, OnOk, OnErr};
 ghost use Rattle.outside_api.specs.Disk as outside;
-ghost use Rattle.outside_api.specs.Disk.{Passes};
-ghost use Rattle.gated_journal.specs.Journal.{MayRead, late_of};
+ghost use Rattle.outside_api.specs.Disk.{IsSettled, Passes};
+ghost use Rattle.gated_journal.specs.Journal.{HasLastGate, MayRead, late_of};
 ghost use Rattle.gated_journal.specs.Format.{Reads};
+ghost use Rattle.gated_journal.specs.Steps.{OthersStay};
 ghost use Rattle.gated_journal.specs.Load.{KeepsImages};
 ghost use Rattle.partition_set.specs.Records.{payload_of, payloads_of, IsManifest};
 ghost use Rattle.partition_set.specs.Manifest.{Keeps, IfBad, IsDamaged, Counts};
@@ -65,6 +66,7 @@ impl Manifest {
     ) -> Result<Manifest, ManifestRefusal>
         ensures records { IfOk result (λ x. x.records ≡ map m.Shape schema.now) }
         ensures keeps { IfOk result (λ x. Keeps (D.shown disk.new) x None) }
+        ensures has_gate { IfOk result (λ x. HasLastGate (D.shown disk.new) x.journal) }
         ensures file { IfOk result (λ x. x.journal.file ≡ 0) }
         ensures clean { IfOk result (λ x. x.journal.state ≡ s.Clean) }
         ensures not_bad { IfBad result (λ _. ⊥) }
@@ -85,13 +87,17 @@ impl Manifest {
 
     /// Syncs the manifest's file and reads its records. The file reads as before. Time and memory are linear in its size.
     ///
+    /// Only of a file that is settled is it known that the records are kept: where a sync of it has failed, a crash may
+    /// leave less than what is read.
+    ///
     /// The answer is `BadManifest` where the file is no whole journal, or where a payload isn't that of a record that may
     /// stand there, with the offset of the gate before it.
     pub fn load<D: Disk>(alloc: Global, disk: &mut D) -> Result<Manifest, ManifestRefusal>
         ensures records { IfOk result (λ x. IsTrue (D.shown disk.old).tells
             → Reads ((D.shown disk.old).now 0).bytes (payloads_of x.records)) }
         ensures lawful { IfOk result (λ x. IsManifest x.records) }
-        ensures keeps { IfOk result (λ x. Keeps (D.shown disk.new) x None) }
+        ensures keeps { IfOk result (λ x. IsSettled ((D.shown disk.old).now 0) → Keeps (D.shown disk.new) x None) }
+        ensures has_gate { IfOk result (λ x. HasLastGate (D.shown disk.new) x.journal) }
         ensures file { IfOk result (λ x. x.journal.file ≡ 0) }
         ensures clean { IfOk result (λ x. x.journal.state ≡ s.Clean) }
         ensures bad { IfBad result (λ at. IsTrue (D.shown disk.old).tells → IsDamaged ((D.shown disk.old).now 0).bytes at) }
@@ -167,16 +173,21 @@ impl Manifest {
         requires clean { self.old.journal.state ≡ s.Clean }
         requires room { 0 < self.old.room }
         requires allowed { IsManifest (self.old.records ++ m.Opened by date ∷ []) }
-        requires kept { Keeps (D.shown disk.old) self.old None }
+        requires has_gate { HasLastGate (D.shown disk.old) self.old.journal }
 
         ensures added { OnOk result (self.new.records ≡ self.old.records ++ m.Opened by date ∷ []) }
         ensures same { OnErr result (self.new.records ≡ self.old.records) }
-        ensures kept { OnOk result (Keeps (D.shown disk.new) self.new None) }
-        ensures failed { OnErr result (Keeps (D.shown disk.new) self.new (late_of self.new.journal.state (payload_of (m.Opened by date)))) }
+        ensures room { OnErr result (self.new.room ≡ self.old.room) }
+        ensures kept { OnOk result (Keeps (D.shown disk.old) self.old None → Keeps (D.shown disk.new) self.new None) }
+        ensures failed { OnErr result (Keeps (D.shown disk.old) self.old None
+            → Keeps (D.shown disk.new) self.new (late_of self.new.journal.state (payload_of (m.Opened by date)))) }
 
         // At each moment of the call each image has the records from before it, or these and the new one.
-        ensures any_moment { IsTrue (D.shown disk.old).tells → Passes (D.shown disk.old) (D.shown disk.new) self.old.journal.file
+        ensures any_moment { Keeps (D.shown disk.old) self.old None → IsTrue (D.shown disk.old).tells
+            → Passes (D.shown disk.old) (D.shown disk.new) self.old.journal.file
             (MayRead (payloads_of self.old.records) (Some (payload_of (m.Opened by date)))) }
+        ensures has_gate { HasLastGate (D.shown disk.new) self.new.journal }
+        ensures others { OthersStay (D.shown disk.old) (D.shown disk.new) self.old.journal.file }
         ensures clean { OnOk result (self.new.journal.state ≡ s.Clean) }
         ensures unclean { OnErr result (self.new.journal.state ≢ s.Clean) }
         ensures file { self.new.journal.file ≡ self.old.journal.file }
@@ -197,7 +208,7 @@ impl Manifest {
     ///
     /// After a fault the manifest isn't clean.
     pub fn mend<D: Disk>(&mut self, disk: &mut D) -> Result<(), DiskFault>
-        requires { (late : Option (List ℕ)) × Keeps (D.shown disk.old) self.old late }
+        requires { HasLastGate (D.shown disk.old) self.old.journal }
 
         ensures mended { OnOk result ((late : Option (List ℕ)) → Keeps (D.shown disk.old) self.old late → Keeps (D.shown disk.new) self.new None) }
         ensures failed { OnErr result ((late : Option (List ℕ)) → Keeps (D.shown disk.old) self.old late → Keeps (D.shown disk.new) self.new late) }
@@ -206,6 +217,9 @@ impl Manifest {
         ensures any_moment { (late : Option (List ℕ)) → Keeps (D.shown disk.old) self.old late → IsTrue (D.shown disk.old).tells
             → Passes (D.shown disk.old) (D.shown disk.new) self.old.journal.file (MayRead (payloads_of self.old.records) late) }
         ensures records { self.new.records ≡ self.old.records }
+        ensures room { self.new.room ≡ self.old.room }
+        ensures has_gate { HasLastGate (D.shown disk.new) self.new.journal }
+        ensures others { OthersStay (D.shown disk.old) (D.shown disk.new) self.old.journal.file }
         ensures clean { OnOk result (self.new.journal.state ≡ s.Clean) }
         ensures unclean { OnErr result (self.new.journal.state ≢ s.Clean) }
         ensures file { self.new.journal.file ≡ self.old.journal.file }
@@ -224,8 +238,10 @@ impl Manifest {
         requires clean { self.old.journal.state ≡ s.Clean }
         requires allowed { IsManifest (self.old.records ++ m.Shape shape.now ∷ []) }
         requires kept { Keeps (D.shown disk.old) self.old None }
+        requires has_gate { HasLastGate (D.shown disk.old) self.old.journal }
         ensures added { OnOk result (self.new.records ≡ self.old.records ++ m.Shape shape.now ∷ []) }
         ensures kept { OnOk result (Keeps (D.shown disk.new) self.new None) }
+        ensures has_gate { OnOk result (HasLastGate (D.shown disk.new) self.new.journal) }
         ensures clean { OnOk result (self.new.journal.state ≡ s.Clean) }
         ensures file { self.new.journal.file ≡ self.old.journal.file }
         ensures not_bad { IfBad result (λ _. ⊥) }

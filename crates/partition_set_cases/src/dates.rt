@@ -1,7 +1,7 @@
 //! Many dates, and a call of the disk that fails.
-ghost use Rattle.std.specs.Prelude.{◌≡◌, None, IfOk};
+ghost use Rattle.std.specs.Prelude.{◌≡◌, IfOk};
 ghost use Rattle.outside_mem.specs.MemDisk.{shown_by};
-ghost use Rattle.partition_set.specs.Manifest.{Keeps};
+ghost use Rattle.gated_journal.specs.Journal.{HasLastGate};
 
 use outside_mem::{Calling, Callings, MemDisk};
 use partition_set::{Manifest, ManifestRecord, ManifestRefusal};
@@ -21,8 +21,8 @@ fn started(alloc: Global) -> Result<MemDisk, ManifestRefusal> {
 
 // Opens this date by the pass 3, where it may be opened.
 fn open(disk: &mut MemDisk, manifest: &mut Manifest, date: i32) -> Result<bool, ManifestRefusal>
-    requires { Keeps (shown_by disk.old) manifest.old None }
-    ensures { IfOk result (λ _. Keeps (shown_by disk.new) manifest.new None) }
+    requires { HasLastGate (shown_by disk.old) manifest.old.journal }
+    ensures { IfOk result (λ _. HasLastGate (shown_by disk.new) manifest.new.journal) }
 {
     if !manifest.is_clean() || !manifest.may_open(3, date) {
         return Ok(false);

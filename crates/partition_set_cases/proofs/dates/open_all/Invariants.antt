@@ -1,7 +1,6 @@
-use Rattle.std.proofs.Common.{None}
 use Rattle.outside_mem.specs.MemDisk.{shown_by}
-use Rattle.partition_set.specs.Manifest.{Keeps}
+use Rattle.gated_journal.specs.Journal.{HasLastGate}
 use Rattle.partition_set_cases.proofs.dates.open_all.Given as goal
 
 abbrev pub invariant-loop-i : goal.invariant-loop-i
-invariant-loop-i l = Keeps (shown_by l.disk) l.manifest None
+invariant-loop-i l = HasLastGate (shown_by l.disk) l.manifest.journal

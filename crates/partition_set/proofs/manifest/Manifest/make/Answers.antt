@@ -19,4 +19,5 @@ loop-i-preserved g c =
       done.counts.0 ∙ before.4,
       done.counts.1 ∙ before.5,
       λ tells k apart. done.others (subst IsTrue (sym before.5) tells) k (subst (λ f. k ≢ f) (sym before.3) apart) ∙ before.6 tells k apart,
+      done.has_gate,
     )

@@ -1,4 +1,5 @@
 use Rattle.std.proofs.Common.{◌≡◌, ◌≢◌, ℕ, None, map, take, IsTrue}
+use Rattle.gated_journal.specs.Journal.{HasLastGate}
 use Rattle.partition_set.specs.Manifest.{Keeps}
 use Rattle.partition_set.specs.declared.record.ManifestRecord.TheVariants as m
 use Rattle.gated_journal.specs.declared.state.State.TheVariants as s
@@ -13,3 +14,4 @@ invariant-loop-i g l =
     × ((g.D.Disk.shown l.disk).faults ≡ (g.D.Disk.shown l.fn.disk).faults)
     × ((g.D.Disk.shown l.disk).tells ≡ (g.D.Disk.shown l.fn.disk).tells)
     × (IsTrue (g.D.Disk.shown l.fn.disk).tells → (k : ℕ) → k ≢ 0 → (g.D.Disk.shown l.disk).now k ≡ (g.D.Disk.shown l.fn.disk).now k)
+    × HasLastGate (g.D.Disk.shown l.disk) l.manifest.journal
