@@ -12,16 +12,20 @@
 //! ROWS replay NANOSECONDS UPDATES
 //! ```
 //!
-//! With `load` as a third argument it doesn't replay, so that the caller can compare the most memory that was taken.
+//! A third argument says what else to do, so that the caller can compare the most memory that was taken: with `load` it doesn't
+//! replay; with `day` it replays into a day, which it times in place of the replay; with `made` it makes that day of the
+//! updates, without a log, and nothing else.
 #![tactic(auto)]
 
 ghost use Rattle.std.specs.Prelude.{◌≡◌};
-ghost use Rattle.gated_journal.specs.Journal.{IsKept};
+ghost use Rattle.gated_journal.specs.Journal.{HasLastGate};
 ghost use Rattle.outside_mem.specs.MemDisk.{shown_by};
 ghost use Rattle.tick_log.specs.Chunk.{IsLoggable};
 
+mod day;
 mod updates;
 
+use crate::day::{day_timed, made_timed};
 use crate::updates::trades;
 use anyhow::{Result, bail};
 use day_rows::{Entry, Schema};
@@ -38,7 +42,7 @@ use tick_log::{chunk_into, chunk_of, is_loggable, replay};
 /// The file of the log.
 const FILE: u64 = 1_008_767;
 
-// Logs the entry so many times.
+// Logs the entry `count` times.
 fn log_all(
     alloc: Global,
     disk: &mut MemDisk,
@@ -48,7 +52,7 @@ fn log_all(
     count: u32,
 ) -> Result<bool, NoMemory>
     requires clean { journal.old.state ≡ State.Clean }
-    requires kept { IsKept (shown_by disk.old) journal.old }
+    requires has_gate { HasLastGate (shown_by disk.old) journal.old }
     requires loggable { IsLoggable schema.now entry.now }
 {
     let mut chunk = chunk_of(alloc, schema, entry)?;
@@ -123,6 +127,24 @@ fn replay_timed<R: Clock + Print>(
     Ok(())
 }
 
+// Logs the updates and loads their journal, and then replays it as the word says.
+fn log_and_read<R: Clock + Print>(
+    rt: &R,
+    alloc: Global,
+    count: u32,
+    rows: u32,
+    word: Option<&str>,
+) -> Result<()> {
+    let schema = built_in_schema(alloc)?;
+    let mut disk = log_timed(rt, alloc, &schema, count, rows)?;
+    let records = load_timed(rt, alloc, &mut disk, rows)?;
+    match word {
+        None => replay_timed(rt, alloc, &schema, &records, rows),
+        Some("day") => day_timed(rt, alloc, &schema, &records, rows),
+        Some(_) => Ok(()),
+    }
+}
+
 fn main(rt: HostRuntime) -> Result<()> {
     let mut arguments = env::args(&rt)?;
     let _program = arguments.next();
@@ -133,12 +155,10 @@ fn main(rt: HostRuntime) -> Result<()> {
         count.as_str().parse::<u32>()?,
         rows.as_str().parse::<u32>()?,
     );
-    let alloc = rt.alloc();
-    let schema = built_in_schema(alloc)?;
-    let mut disk = log_timed(&rt, alloc, &schema, count, rows)?;
-    let records = load_timed(&rt, alloc, &mut disk, rows)?;
-    if arguments.next().is_none() {
-        replay_timed(&rt, alloc, &schema, &records, rows)?;
+    let word = arguments.next();
+    let word = word.as_ref().map(|word| word.as_str());
+    if word == Some("made") {
+        return made_timed(&rt, rt.alloc(), count, rows);
     }
-    Ok(())
+    log_and_read(&rt, rt.alloc(), count, rows, word)
 }

@@ -2,10 +2,10 @@
 ghost use Rattle.std.specs.Prelude.{◌≡◌, IfOk, IsTrue};
 ghost use Rattle.outside_api.specs.Disk.{Stays};
 ghost use Rattle.gated_journal.specs.Load.{ReadCounts};
-ghost use Rattle.tick_log.specs.Count.{CountsRecords, CountsFile};
+ghost use Rattle.tick_log.specs.Count.{CountsChunks, CountsRecords, CountsFile};
 
-use crate::records::replay;
-use crate::refusal::ReplayRefusal;
+use crate::reading::entry_of;
+use crate::refusal::ChunkFault;
 use day_rows::Schema;
 use gated_journal::{Journal, Records, ValidPrefix};
 use outside_api::Disk;
@@ -26,6 +26,21 @@ pub struct Valid {
     pub damaged: bool,
 }
 
+// The number of records before the first that is no chunk. Each is decoded and given up.
+fn count_chunks(alloc: Global, schema: &Schema, records: &Records) -> Result<usize, NoMemory>
+    ensures { IfOk result (CountsChunks schema.now records.now) }
+{
+    let mut rows = 0;
+    for i in 0..records.len() {
+        match entry_of(alloc, schema, rows, records.at(i)) {
+            Ok((_entry, after)) => rows = after,
+            Err(ChunkFault::NoChunk) => return Ok(i),
+            Err(ChunkFault::NoMemory) => return Err(NoMemory),
+        }
+    }
+    Ok(records.len())
+}
+
 // The good chunks of records, after which the journal ends, or has its first fault at an offset.
 fn count_records(
     alloc: Global,
@@ -35,19 +50,19 @@ fn count_records(
 ) -> Result<Valid, NoMemory>
     ensures { IfOk result (CountsRecords schema.now records.now fault) }
 {
-    match replay(alloc, schema, records) {
-        Ok(_) => Ok(Valid {
-            chunks: records.len() as u64,
-            bytes: fault.unwrap_or(records.end()),
-            damaged: fault.is_some(),
-        }),
-        Err(ReplayRefusal::Corrupt { chunks, bytes }) => Ok(Valid {
-            chunks,
-            bytes,
+    let chunks = count_chunks(alloc, schema, records)?;
+    if chunks < records.len() {
+        return Ok(Valid {
+            chunks: chunks as u64,
+            bytes: records.gate_of(chunks),
             damaged: true,
-        }),
-        Err(ReplayRefusal::NoMemory) => Err(NoMemory),
+        });
     }
+    Ok(Valid {
+        chunks: chunks as u64,
+        bytes: fault.unwrap_or(records.end()),
+        damaged: fault.is_some(),
+    })
 }
 
 /// The number of good chunks of a log's file, up to the first fault or the end, and the offset of the gate after them. The

@@ -1,6 +1,6 @@
 //! Logs of a real size, written and replayed a second time.
 ghost use Rattle.std.specs.Prelude.{◌≡◌};
-ghost use Rattle.gated_journal.specs.Journal.{IsKept};
+ghost use Rattle.gated_journal.specs.Journal.{HasLastGate};
 ghost use Rattle.outside_mem.specs.MemDisk.{shown_by};
 ghost use Rattle.tick_log.specs.Chunk.{IsLoggable};
 
@@ -14,7 +14,7 @@ use std::alloc::Global;
 use std::test::Fail;
 use tick_log::{chunk_into, chunk_of, is_loggable};
 
-// Logs the entry so many times, each chunk in the memory of the one before.
+// Logs the entry this many times, each chunk in the memory of the one before.
 fn log_all(
     alloc: Global,
     disk: &mut MemDisk,
@@ -24,7 +24,7 @@ fn log_all(
     count: usize,
 ) -> Result<bool, NoMemory>
     requires clean { journal.old.state ≡ State.Clean }
-    requires kept { IsKept (shown_by disk.old) journal.old }
+    requires has_gate { HasLastGate (shown_by disk.old) journal.old }
     requires loggable { IsLoggable schema.now entry.now }
 {
     let mut chunk = chunk_of(alloc, schema, entry)?;
@@ -37,7 +37,7 @@ fn log_all(
     Ok(true)
 }
 
-// A disk with a log of so many updates of so many rows each.
+// A disk with a log of `count` updates of `rows` rows each.
 fn logged(
     alloc: Global,
     schema: &Schema,

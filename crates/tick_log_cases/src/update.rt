@@ -1,13 +1,13 @@
 //! One update, its chunk, and journals of chunks.
 
-use day_rows::{Entry, Schema};
-use gated_journal::Journal;
+use day_rows::{Entry, OpenDay, Schema};
+use gated_journal::{Journal, Records};
 use outside_api::Disk;
 use outside_mem::MemDisk;
 use q_values::{Column, Columns, LongKind, NoMemory, Symbols, Vector};
 use schema_text::built_in_schema;
 use std::alloc::Global;
-use tick_log::{ReplayRefusal, Valid, count_valid, replay};
+use tick_log::{ReplayRefusal, Valid, count_valid, replay, replay_into};
 
 /// The file of the log.
 pub const FILE: u64 = 1_008_767;
@@ -84,7 +84,7 @@ fn disk_of(alloc: Global, bytes: &[u8]) -> Option<MemDisk> {
     Some(disk)
 }
 
-/// Whether a file counts so many chunks, up to this offset, and is damaged or not.
+/// Whether a file counts this many chunks, up to this offset, and is damaged or not.
 pub fn counts(
     alloc: Global,
     file: &[u8],
@@ -112,23 +112,45 @@ pub fn counts(
 /// What is found when the journal of a file is loaded and replayed.
 #[derive(Clone, Copy, Debug, PartialEq, Eq)]
 pub enum Found {
-    /// So many entries.
+    /// This many entries.
     Entries(usize),
-    /// A record that is no chunk, after so many, at this offset.
+    /// A record that is no chunk, after this many, at this offset.
     NoChunk(u64, u64),
     /// No journal.
     NoJournal,
+    /// Other entries in a day than in a list.
+    Differs,
 }
 
-/// Loads the journal of a disk, and replays it.
+// What is found when records are replayed into a day.
+fn found_in_a_day(alloc: Global, schema: &Schema, records: &Records) -> Result<Found, NoMemory> {
+    let mut day = OpenDay::new(alloc, schema, 8_767)?;
+    match replay_into(alloc, schema, records, &mut day) {
+        Ok(()) => Ok(Found::Entries(day.updates(alloc)?.len())),
+        Err(ReplayRefusal::Corrupt { chunks, bytes }) => Ok(Found::NoChunk(chunks, bytes)),
+        Err(ReplayRefusal::NoMemory) => Err(NoMemory),
+    }
+}
+
+// What is found when records are replayed as a list.
+fn found_in_a_list(alloc: Global, schema: &Schema, records: &Records) -> Result<Found, NoMemory> {
+    match replay(alloc, schema, records) {
+        Ok(entries) => Ok(Found::Entries(entries.len())),
+        Err(ReplayRefusal::Corrupt { chunks, bytes }) => Ok(Found::NoChunk(chunks, bytes)),
+        Err(ReplayRefusal::NoMemory) => Err(NoMemory),
+    }
+}
+
+/// Loads the journal of a disk, and replays it as a list and into a day.
 pub fn found_on(alloc: Global, disk: &mut MemDisk, schema: &Schema) -> Result<Found, NoMemory> {
     let Ok((_journal, records)) = Journal::load(alloc, disk, FILE) else {
         return Ok(Found::NoJournal);
     };
-    match replay(alloc, schema, &records) {
-        Ok(entries) => Ok(Found::Entries(entries.len())),
-        Err(ReplayRefusal::Corrupt { chunks, bytes }) => Ok(Found::NoChunk(chunks, bytes)),
-        Err(ReplayRefusal::NoMemory) => Err(NoMemory),
+    let in_a_list = found_in_a_list(alloc, schema, &records)?;
+    if found_in_a_day(alloc, schema, &records)? == in_a_list {
+        Ok(in_a_list)
+    } else {
+        Ok(Found::Differs)
     }
 }
 
