@@ -1,0 +1,9 @@
+pub mod Files
+pub mod Dates
+pub mod Moments
+pub mod Restarting
+pub mod Storing
+pub mod Once
+pub mod Mending
+pub mod Adding
+pub mod Beginning
