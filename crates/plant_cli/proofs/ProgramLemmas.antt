@@ -1,5 +1,5 @@
 use Rattle.std.specs.Prelude.{◌≡◌, ◌++◌, refl, ℤ, List, [], ◌∷◌, All, Option, Some}
-use Rattle.std.proofs.Common.{rules, sym, ap, subst, ◌∙◌}
+use Rattle.std.proofs.Common.{rules, sym, ap, subst, ◌∙◌, true}
 use Rattle.std.specs.Prelude.{Result, Ok, Err, IfOk}
 use Rattle.day_rows.specs.declared.schema.Shape.{Shape}
 use Rattle.q_values.specs.declared.refusal.NoMemory.{NoMemory}
@@ -34,7 +34,7 @@ sits m k limits plant l l' first all more n n' a a' end new y z session grows st
     in record { plant = plant; new = new; access = a'; readings = all; steady = steady_first m k all more (subst (λ f. all ≡ f ++ more) y grows) steady; session = s2 }
 
 -- a plant that was begun with the built-in tables
-pub new_is : (r : Result PlantView NoMemory) (schema : List Shape) (limits : Limits) (date : ℤ) → schema ≡ built_in_tables → IfOk r (λ plant. plant ≡ record { frame = record { schema = schema; first = date; limits = limits }; entries = []; room = [] }) → IfOk r (λ plant. IsNewPlant limits date plant)
+pub new_is : (r : Result PlantView NoMemory) (schema : List Shape) (limits : Limits) (date : ℤ) → schema ≡ built_in_tables → IfOk r (λ plant. plant ≡ record { frame = record { schema = schema; first = date; limits = limits }; entries = []; room = []; spare = true }) → IfOk r (λ plant. IsNewPlant limits date plant)
 new_is (Ok plant) schema limits date tables is = record {
   tables = ap (λ (v : PlantView). v.frame.schema) is ∙ tables;
   first = ap (λ (v : PlantView). v.frame.first) is;

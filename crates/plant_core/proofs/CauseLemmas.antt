@@ -1,18 +1,16 @@
 -- The verdict on an update is its first cause.
-use Rattle.std.specs.Prelude.{ℤ, not, ◌||◌, Option, Some, None}
-use Rattle.std.proofs.Common.{◌≡◌, ℕ, ◌+◌, Bool, true, false, cond, List, [], ◌∷◌, ◌++◌, length, refl, sym, ap, ◌∙◌}
+use Rattle.std.specs.Prelude.{ℤ, not, ◌||◌, Some}
+use Rattle.std.proofs.Common.{◌≡◌, ℕ, ◌+◌, Bool, true, false, cond, List, [], ◌∷◌, ◌++◌, length, refl}
 use Rattle.std.specs.Str.{bytes_eq}
 use Rattle.q_values.specs.Tree.{Tree}
 use Rattle.q_values.specs.declared.kind.Kind.{Kind}
 use Rattle.q_values.specs.declared.limits.Limits.{Limits}
 use Rattle.day_rows.specs.Chronicle.{date_of}
 use Rattle.day_rows.specs.Day.{total_rows}
-use Rattle.day_rows.specs.declared.entry.Entry.{Entry}
 use Rattle.day_rows.specs.declared.entry.Entry.TheVariants as e
 use Rattle.day_rows.specs.declared.schema.Shape.{Shape}
-use Rattle.plant_core.specs.Causes.{is_table, kinds_of, wrong_types, rows_before, causes_of, first_cause, refusal_of}
+use Rattle.plant_core.specs.Causes.{is_table, kinds_of, wrong_types, first_cause, refusal_of}
 use Rattle.plant_core.specs.Chronicle.{time_of_day, today}
-use Rattle.plant_core.specs.Frame.{Frame}
 use Rattle.plant_core.specs.Items.{timed, have_matching_lengths, is_of_kind, wrong_from, columns_of}
 use Rattle.plant_core.specs.Laws.{FirstCauseRefuses}
 use Rattle.plant_core.specs.Limit.{is_beyond}
@@ -21,13 +19,13 @@ use Rattle.plant_core.specs.declared.refusal.UpdRefusal.{UpdRefusal}
 use Rattle.plant_core.specs.declared.refusal.UpdRefusal.TheVariants as r
 
 -- the causes of the date and the limits
-abbrev last_causes : Limits → ℤ → ℕ → ℤ → List Tree → List (UpdRefusal × Bool)
-last_causes limits date rows now items =
-    (r.MoreThanOneDay, is_past_next_day date now) ∷ (r.Limit, is_beyond limits (cond (is_next_day date now) 0 rows) items) ∷ []
+abbrev last_causes : Limits → ℤ → ℕ → ℤ → List ℕ → List Tree → List (UpdRefusal × Bool)
+last_causes limits date rows now name items =
+    (r.MoreThanOneDay, is_past_next_day date now) ∷ (r.Limit, is_beyond limits (cond (is_next_day date now) 0 rows) name items) ∷ []
 
-dated-causes : (limits : Limits) (by : ℕ) (date : ℤ) (rows : ℕ) (now : ℤ) (table : ℕ) (items : List Tree)
-    → refusal_of (dated limits by date rows now table items) ≡ first_cause (last_causes limits date rows now items)
-dated-causes limits by date rows now table items = go (is_past_next_day date now) (is_beyond limits (cond (is_next_day date now) 0 rows) items)
+dated-causes : (limits : Limits) (by : ℕ) (date : ℤ) (rows : ℕ) (now : ℤ) (name : List ℕ) (table : ℕ) (items : List Tree)
+    → refusal_of (dated limits by date rows now name table items) ≡ first_cause (last_causes limits date rows now name items)
+dated-causes limits by date rows now name table items = go (is_past_next_day date now) (is_beyond limits (cond (is_next_day date now) 0 rows) name items)
   where
     go : (past beyond : Bool)
         → refusal_of (cond past (refuses r.MoreThanOneDay) (cond beyond (refuses r.Limit) (accepts (roll_due (is_next_day date now) by date ++ e.Upd by table (columns_of items) ∷ []))))
@@ -47,17 +45,17 @@ kinds-causes i (kind ∷ kinds) (item ∷ items) rest more h = go (is_of_kind ki
     go true h = h
     go false h = refl
 
-items-causes : (limits : Limits) (by : ℕ) (date : ℤ) (rows : ℕ) (now : ℤ) (table : ℕ) (kinds : List Kind) (items : List Tree)
-    → refusal_of (items_judged limits by date rows now (table, kinds) items)
-    ≡ first_cause ((r.Length, not (have_matching_lengths (length kinds) items)) ∷ wrong_types 0 kinds items ++ last_causes limits date rows now items)
-items-causes limits by date rows now table kinds items =
+items-causes : (limits : Limits) (by : ℕ) (date : ℤ) (rows : ℕ) (now : ℤ) (name : List ℕ) (table : ℕ) (kinds : List Kind) (items : List Tree)
+    → refusal_of (items_judged limits by date rows now name (table, kinds) items)
+    ≡ first_cause ((r.Length, not (have_matching_lengths (length kinds) items)) ∷ wrong_types 0 kinds items ++ last_causes limits date rows now name items)
+items-causes limits by date rows now name table kinds items =
     go (have_matching_lengths (length kinds) items)
-    (kinds-causes 0 kinds items (dated limits by date rows now table items) (last_causes limits date rows now items) (dated-causes limits by date rows now table items))
+    (kinds-causes 0 kinds items (dated limits by date rows now name table items) (last_causes limits date rows now name items) (dated-causes limits by date rows now name table items))
   where
     go : (t : Bool)
-        → refusal_of (kinds_judged (wrong_from 0 kinds items) (dated limits by date rows now table items)) ≡ first_cause (wrong_types 0 kinds items ++ last_causes limits date rows now items)
-        → refusal_of (cond t (kinds_judged (wrong_from 0 kinds items) (dated limits by date rows now table items)) (refuses r.Length))
-        ≡ first_cause ((r.Length, not t) ∷ wrong_types 0 kinds items ++ last_causes limits date rows now items)
+        → refusal_of (kinds_judged (wrong_from 0 kinds items) (dated limits by date rows now name table items)) ≡ first_cause (wrong_types 0 kinds items ++ last_causes limits date rows now name items)
+        → refusal_of (cond t (kinds_judged (wrong_from 0 kinds items) (dated limits by date rows now name table items)) (refuses r.Length))
+        ≡ first_cause ((r.Length, not t) ∷ wrong_types 0 kinds items ++ last_causes limits date rows now name items)
     go true h = h
     go false h = refl
 
@@ -76,7 +74,7 @@ table-causes i name (shape ∷ shapes) judged more h = go (bytes_eq shape.table 
 
 pub first_cause-refuses : FirstCauseRefuses
 first_cause-refuses frame by chronicle name items now =
-    table-causes 0 name frame.schema (λ table. items_judged frame.limits by (date_of frame.first chronicle) (total_rows (today chronicle)) now table (timed (time_of_day now) items))
+    table-causes 0 name frame.schema (λ table. items_judged frame.limits by (date_of frame.first chronicle) (total_rows (today chronicle)) now name table (timed (time_of_day now) items))
     (λ kinds. (r.Length, not (have_matching_lengths (length kinds) (timed (time_of_day now) items))) ∷ wrong_types 0 kinds (timed (time_of_day now) items)
-    ++ last_causes frame.limits (date_of frame.first chronicle) (total_rows (today chronicle)) now (timed (time_of_day now) items))
-    (λ table kinds. items-causes frame.limits by (date_of frame.first chronicle) (total_rows (today chronicle)) now table kinds (timed (time_of_day now) items))
+    ++ last_causes frame.limits (date_of frame.first chronicle) (total_rows (today chronicle)) now name (timed (time_of_day now) items))
+    (λ table kinds. items-causes frame.limits by (date_of frame.first chronicle) (total_rows (today chronicle)) now name table kinds (timed (time_of_day now) items))

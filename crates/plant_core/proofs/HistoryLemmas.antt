@@ -16,7 +16,10 @@ use Rattle.std.proofs.lemmas.Int.{ints}
 use Rattle.std.specs.Cmp.{int_cmp_is}
 use Rattle.std.proofs.lemmas.List.Sums.{sum_by-append}
 use Rattle.day_rows.specs.Day.{entry_rows, total_rows}
+use Rattle.plant_core.specs.Faults.{woven, covered}
 use Rattle.plant_core.specs.History.{Past, chronicle_of, Follow, IsHistory}
+use Rattle.plant_core.specs.declared.faults.Mark.{Mark}
+use Rattle.plant_core.proofs.FaultLemmas.{woven-keeps, length-woven, update_count-woven, woven-update, woven-fault, covered-fault}
 
 -- updates keep the date
 keeps : (tables : List (List Kind)) (es : List Entry) → AllByRecursion (IsUpdate tables) es → AllByRecursion KeepsDate es
@@ -25,8 +28,8 @@ keeps tables (e.Upd by table columns ∷ es) all = (tt, keeps tables es all.1)
 keeps tables (e.Roll by date ∷ es) all = absurd all.0
 keeps tables (e.Fault by ∷ es) all = absurd all.0
 
-pub day_keeps : (day : Day) → IsDay day → AllByRecursion KeepsDate day.updates
-day_keeps day is = keeps day.kinds day.updates is.updates
+pub day_keeps : (day : Day) (marks : List Mark) → IsDay day → AllByRecursion KeepsDate (woven marks day.updates)
+day_keeps day marks is = woven-keeps marks day.updates (keeps day.kinds day.updates is.updates)
 
 pub counted_updates : (tables : List (List Kind)) (es : List Entry) → AllByRecursion (IsUpdate tables) es → update_count es ≡ length es
 counted_updates tables [] all = refl
@@ -89,7 +92,7 @@ after_roll-roll place found next by (e.Fault own ∷ es) later all =
 -- the entries of the ended dates
 abbrev pub ended_length : List Past → ℕ
 ended_length [] = 0
-ended_length (past ∷ pasts) = length past.day.updates + 1 + ended_length pasts
+ended_length (past ∷ pasts) = length (woven past.marks past.day.updates) + 1 + ended_length pasts
 
 drop-front : {X : Type 0} (xs ys : List X) (n : ℕ) → drop (length xs + n) (xs ++ ys) ≡ drop n ys
 drop-front [] ys n = let same : 0 + n ≡ n = omega arith in rw same refl
@@ -102,49 +105,49 @@ last_day kinds first (past ∷ pasts) current h = last_day kinds past.next pasts
 pub chronicle-push : (pasts : List Past) (current : List Entry) (entry : Entry) → chronicle_of pasts (current ++ entry ∷ []) ≡ chronicle_of pasts current ++ entry ∷ []
 chronicle-push [] current entry = refl
 chronicle-push (past ∷ pasts) current entry =
-    ap (λ l. past.day.updates ++ e.Roll past.by past.next ∷ l) (chronicle-push pasts current entry) ∙ sym (append_assoc past.day.updates (e.Roll past.by past.next ∷ chronicle_of pasts current) (entry ∷ []))
+    ap (λ l. woven past.marks past.day.updates ++ e.Roll past.by past.next ∷ l) (chronicle-push pasts current entry) ∙ sym (append_assoc (woven past.marks past.day.updates) (e.Roll past.by past.next ∷ chronicle_of pasts current) (entry ∷ []))
 
-pub chronicle-roll : (pasts : List Past) (past : Past) → chronicle_of (pasts ++ past ∷ []) [] ≡ chronicle_of pasts past.day.updates ++ e.Roll past.by past.next ∷ []
+pub chronicle-roll : (pasts : List Past) (past : Past) → chronicle_of (pasts ++ past ∷ []) [] ≡ chronicle_of pasts (woven past.marks past.day.updates) ++ e.Roll past.by past.next ∷ []
 chronicle-roll [] past = refl
 chronicle-roll (other ∷ pasts) past =
-    ap (λ l. other.day.updates ++ e.Roll other.by other.next ∷ l) (chronicle-roll pasts past) ∙ sym (append_assoc other.day.updates (e.Roll other.by other.next ∷ chronicle_of pasts past.day.updates) (e.Roll past.by past.next ∷ []))
+    ap (λ l. woven other.marks other.day.updates ++ e.Roll other.by other.next ∷ l) (chronicle-roll pasts past) ∙ sym (append_assoc (woven other.marks other.day.updates) (e.Roll other.by other.next ∷ chronicle_of pasts (woven past.marks past.day.updates)) (e.Roll past.by past.next ∷ []))
 
-pub date_of-chronicle : (kinds : List (List Kind)) (first : ℤ) (pasts : List Past) (current : Day) → Follow kinds first pasts current → date_of first (chronicle_of pasts current.updates) ≡ current.date
-date_of-chronicle kinds first [] current h = date_of-kept first current.updates (day_keeps current h.2) ∙ sym h.0
-date_of-chronicle kinds first (past ∷ pasts) current h = date_of-roll first past.next past.by past.day.updates (chronicle_of pasts current.updates) (day_keeps past.day h.2) ∙ date_of-chronicle kinds past.next pasts current h.4
+pub date_of-chronicle : (kinds : List (List Kind)) (first : ℤ) (pasts : List Past) (current : Day) (marks : List Mark) → Follow kinds first pasts current → date_of first (chronicle_of pasts (woven marks current.updates)) ≡ current.date
+date_of-chronicle kinds first [] current marks h = date_of-kept first (woven marks current.updates) (day_keeps current marks h.2) ∙ sym h.0
+date_of-chronicle kinds first (past ∷ pasts) current marks h = date_of-roll first past.next past.by (woven past.marks past.day.updates) (chronicle_of pasts (woven marks current.updates)) (day_keeps past.day past.marks h.2) ∙ date_of-chronicle kinds past.next pasts current marks h.4
 
-pub dates_of-chronicle : (kinds : List (List Kind)) (first : ℤ) (pasts : List Past) (current : Day) → Follow kinds first pasts current → dates_of first (chronicle_of pasts current.updates) ≡ first ∷ map (λ past. past.next) pasts
-dates_of-chronicle kinds first [] current h = dates_of-kept first current.updates (day_keeps current h.2)
-dates_of-chronicle kinds first (past ∷ pasts) current h =
-    dates_of-roll first past.next past.by past.day.updates (chronicle_of pasts current.updates) (day_keeps past.day h.2) ∙ ap (λ l. first ∷ l) (dates_of-chronicle kinds past.next pasts current h.4)
+pub dates_of-chronicle : (kinds : List (List Kind)) (first : ℤ) (pasts : List Past) (current : Day) (marks : List Mark) → Follow kinds first pasts current → dates_of first (chronicle_of pasts (woven marks current.updates)) ≡ first ∷ map (λ past. past.next) pasts
+dates_of-chronicle kinds first [] current marks h = dates_of-kept first (woven marks current.updates) (day_keeps current marks h.2)
+dates_of-chronicle kinds first (past ∷ pasts) current marks h =
+    dates_of-roll first past.next past.by (woven past.marks past.day.updates) (chronicle_of pasts (woven marks current.updates)) (day_keeps past.day past.marks h.2) ∙ ap (λ l. first ∷ l) (dates_of-chronicle kinds past.next pasts current marks h.4)
 
-pub ascend-chronicle : (kinds : List (List Kind)) (first : ℤ) (pasts : List Past) (current : Day) → Follow kinds first pasts current → DatesAscend first (chronicle_of pasts current.updates)
-ascend-chronicle kinds first [] current h = ascend-kept first current.updates (day_keeps current h.2)
-ascend-chronicle kinds first (past ∷ pasts) current h = ascend-roll first past.next past.by past.day.updates (chronicle_of pasts current.updates) (day_keeps past.day h.2) h.3 (ascend-chronicle kinds past.next pasts current h.4)
+pub ascend-chronicle : (kinds : List (List Kind)) (first : ℤ) (pasts : List Past) (current : Day) (marks : List Mark) → Follow kinds first pasts current → DatesAscend first (chronicle_of pasts (woven marks current.updates))
+ascend-chronicle kinds first [] current marks h = ascend-kept first (woven marks current.updates) (day_keeps current marks h.2)
+ascend-chronicle kinds first (past ∷ pasts) current marks h = ascend-roll first past.next past.by (woven past.marks past.day.updates) (chronicle_of pasts (woven marks current.updates)) (day_keeps past.day past.marks h.2) h.3 (ascend-chronicle kinds past.next pasts current marks h.4)
 
-after_roll-chronicle_from : (place : ℕ) (kinds : List (List Kind)) (first : ℤ) (pasts : List Past) (current : Day) → Follow kinds first pasts current → after_roll_from place place (chronicle_of pasts current.updates) ≡ place + ended_length pasts
-after_roll-chronicle_from place kinds first [] current h = after_roll-kept place place current.updates (day_keeps current h.2) ∙ (let same : place ≡ place + 0 = omega arith in same)
-after_roll-chronicle_from place kinds first (past ∷ pasts) current h =
-    let same : (place + length past.day.updates + 1) + ended_length pasts ≡ place + (length past.day.updates + 1 + ended_length pasts) = omega arith in
-    after_roll-roll place place past.next past.by past.day.updates (chronicle_of pasts current.updates) (day_keeps past.day h.2) ∙ after_roll-chronicle_from (place + length past.day.updates + 1) kinds past.next pasts current h.4 ∙ same
+after_roll-chronicle_from : (place : ℕ) (kinds : List (List Kind)) (first : ℤ) (pasts : List Past) (current : Day) (marks : List Mark) → Follow kinds first pasts current → after_roll_from place place (chronicle_of pasts (woven marks current.updates)) ≡ place + ended_length pasts
+after_roll-chronicle_from place kinds first [] current marks h = after_roll-kept place place (woven marks current.updates) (day_keeps current marks h.2) ∙ (let same : place ≡ place + 0 = omega arith in same)
+after_roll-chronicle_from place kinds first (past ∷ pasts) current marks h =
+    let same : (place + length (woven past.marks past.day.updates) + 1) + ended_length pasts ≡ place + (length (woven past.marks past.day.updates) + 1 + ended_length pasts) = omega arith in
+    after_roll-roll place place past.next past.by (woven past.marks past.day.updates) (chronicle_of pasts (woven marks current.updates)) (day_keeps past.day past.marks h.2) ∙ after_roll-chronicle_from (place + length (woven past.marks past.day.updates) + 1) kinds past.next pasts current marks h.4 ∙ same
 
-pub after_roll-chronicle : (kinds : List (List Kind)) (first : ℤ) (pasts : List Past) (current : Day) → Follow kinds first pasts current → index_after_roll (chronicle_of pasts current.updates) ≡ ended_length pasts
-after_roll-chronicle kinds first pasts current h = after_roll-chronicle_from 0 kinds first pasts current h ∙ (let same : 0 + ended_length pasts ≡ ended_length pasts = omega arith in same)
+pub after_roll-chronicle : (kinds : List (List Kind)) (first : ℤ) (pasts : List Past) (current : Day) (marks : List Mark) → Follow kinds first pasts current → index_after_roll (chronicle_of pasts (woven marks current.updates)) ≡ ended_length pasts
+after_roll-chronicle kinds first pasts current marks h = after_roll-chronicle_from 0 kinds first pasts current marks h ∙ (let same : 0 + ended_length pasts ≡ ended_length pasts = omega arith in same)
 
 drop-chronicle : (pasts : List Past) (current : List Entry) → drop (ended_length pasts) (chronicle_of pasts current) ≡ current
 drop-chronicle [] current = refl
 drop-chronicle (past ∷ pasts) current =
-    let same : length past.day.updates + 1 + ended_length pasts ≡ length past.day.updates + suc (ended_length pasts) = omega arith in
-    rw same (drop-front past.day.updates (e.Roll past.by past.next ∷ chronicle_of pasts current) (suc (ended_length pasts)) ∙ drop-chronicle pasts current)
+    let same : length (woven past.marks past.day.updates) + 1 + ended_length pasts ≡ length (woven past.marks past.day.updates) + suc (ended_length pasts) = omega arith in
+    rw same (drop-front (woven past.marks past.day.updates) (e.Roll past.by past.next ∷ chronicle_of pasts current) (suc (ended_length pasts)) ∙ drop-chronicle pasts current)
 
-pub today-chronicle : (kinds : List (List Kind)) (first : ℤ) (pasts : List Past) (current : Day) → Follow kinds first pasts current → today (chronicle_of pasts current.updates) ≡ current.updates
-today-chronicle kinds first pasts current h = ap (λ n. drop n (chronicle_of pasts current.updates)) (after_roll-chronicle kinds first pasts current h) ∙ drop-chronicle pasts current.updates
+pub today-chronicle : (kinds : List (List Kind)) (first : ℤ) (pasts : List Past) (current : Day) (marks : List Mark) → Follow kinds first pasts current → today (chronicle_of pasts (woven marks current.updates)) ≡ woven marks current.updates
+today-chronicle kinds first pasts current marks h = ap (λ n. drop n (chronicle_of pasts (woven marks current.updates))) (after_roll-chronicle kinds first pasts current marks h) ∙ drop-chronicle pasts (woven marks current.updates)
 
 pub length-chronicle : (pasts : List Past) (current : List Entry) → length (chronicle_of pasts current) ≡ ended_length pasts + length current
 length-chronicle [] current = omega arith
 length-chronicle (past ∷ pasts) current =
     let h = length-chronicle pasts current in
-    rw (length-append past.day.updates (e.Roll past.by past.next ∷ chronicle_of pasts current)) (omega arith)
+    rw (length-append (woven past.marks past.day.updates) (e.Roll past.by past.next ∷ chronicle_of pasts current)) (omega arith)
 
 pub top_by-push : (es : List Entry) (entry : Entry) → top_by (es ++ entry ∷ []) ≡ max (top_by es) (by_of entry)
 top_by-push [] entry = omega arith
@@ -160,20 +163,50 @@ pub follow-ended : (kinds : List (List Kind)) (first : ℤ) (pasts : List Past) 
 follow-ended kinds first [] past current h date same is less = (h.0, h.1, h.2, subst (λ d. int_cmp d past.next ≡ Less) h.0 less, (date, same, is))
 follow-ended kinds first (other ∷ pasts) past current h date same is less = (h.0, h.1, h.2, h.3, follow-ended kinds other.next pasts past current h.4 date same is less)
 
+-- the updates after the last fault are among the entries
+pub since_within : (first : ℤ) (pasts : List Past) (current : Day) (marks : List Mark) (since count at rows top : ℕ) → IsHistory first pasts current marks since count at rows top → since ≤ length (chronicle_of pasts (woven marks current.updates))
+since_within first pasts current marks since count at rows top h = omega (arith, h.since_is, length-chronicle pasts (woven marks current.updates), length-woven marks current.updates)
+
 -- one more update
-pub history-pushed : (first : ℤ) (pasts : List Past) (current other : Day) (entry : Entry) (count at rows top after more : ℕ) → IsHistory first pasts current count at rows top → other ≡ record current { updates = current.updates ++ entry ∷ [] } → IsDay other
-    → after ≡ max top (by_of entry) → more ≡ entry_rows entry → by_of entry + 1 < 2 ^ 64 → IsHistory first pasts other (count + 1) at (rows + more) after
-history-pushed first pasts current other entry count at rows top after more h grown is after_is more_is few =
+pub history-pushed : (first : ℤ) (pasts : List Past) (current other : Day) (marks : List Mark) (entry : Entry) (since count at rows top after more : ℕ) → IsHistory first pasts current marks since count at rows top → other ≡ record current { updates = current.updates ++ entry ∷ [] } → IsDay other
+    → after ≡ max top (by_of entry) → more ≡ entry_rows entry → by_of entry + 1 < 2 ^ 64 → IsHistory first pasts other marks (since + 1) (count + 1) at (rows + more) after
+history-pushed first pasts current other marks entry since count at rows top after more h grown is after_is more_is few =
     let updates : other.updates ≡ current.updates ++ entry ∷ [] = ap (λ (d : Day). d.updates) grown in
     let kinds : other.kinds ≡ current.kinds = ap (λ (d : Day). d.kinds) grown in
     let follow = follow-current current.kinds first pasts current other (ap (λ (d : Day). d.date) grown) kinds is h.follow in
-    let whole : chronicle_of pasts other.updates ≡ chronicle_of pasts current.updates ++ entry ∷ [] = ap (chronicle_of pasts) updates ∙ chronicle-push pasts current.updates entry in
+    let within : covered marks ≤ length current.updates = omega (arith, h.since_is) in
+    let today_is : woven marks other.updates ≡ woven marks current.updates ++ entry ∷ [] = ap (woven marks) updates ∙ woven-update marks current.updates entry within in
+    let whole : chronicle_of pasts (woven marks other.updates) ≡ chronicle_of pasts (woven marks current.updates) ++ entry ∷ [] = ap (chronicle_of pasts) today_is ∙ chronicle-push pasts (woven marks current.updates) entry in
     record {
       follow = subst (λ ks. Follow ks first pasts other) (sym kinds) follow;
-      count_is = omega (arith, h.count_is, ap length whole, length-append (chronicle_of pasts current.updates) (entry ∷ []));
-      opened_is = h.opened_is ∙ after_roll-chronicle current.kinds first pasts current h.follow ∙ sym (after_roll-chronicle current.kinds first pasts other follow);
+      since_is = omega (arith, h.since_is, ap length updates, length-append current.updates (entry ∷ []));
+      count_is = omega (arith, h.count_is, ap length whole, length-append (chronicle_of pasts (woven marks current.updates)) (entry ∷ []));
+      opened_is = h.opened_is ∙ after_roll-chronicle current.kinds first pasts current marks h.follow ∙ sym (after_roll-chronicle current.kinds first pasts other marks follow);
       rows_is = let joined = sum_by-append entry_rows current.updates (entry ∷ []) in omega (arith, h.rows_is, ap total_rows updates, joined, more_is);
-      top_is = after_is ∙ ap (λ n. max n (by_of entry)) h.top_is ∙ sym (ap top_by whole ∙ top_by-push (chronicle_of pasts current.updates) entry);
+      top_is = after_is ∙ ap (λ n. max n (by_of entry)) h.top_is ∙ sym (ap top_by whole ∙ top_by-push (chronicle_of pasts (woven marks current.updates)) entry);
+      few = omega (arith, after_is, h.few, few);
+    }
+
+-- the chronicle with one more update
+pub entries-pushed : (pasts : List Past) (marks : List Mark) (us : List Entry) (entry : Entry) (since : ℕ) → covered marks + since ≡ length us → chronicle_of pasts (woven marks (us ++ entry ∷ [])) ≡ chronicle_of pasts (woven marks us) ++ entry ∷ []
+entries-pushed pasts marks us entry since all = let within : covered marks ≤ length us = omega (arith, all) in ap (chronicle_of pasts) (woven-update marks us entry within) ∙ chronicle-push pasts (woven marks us) entry
+
+-- the chronicle with one more fault
+pub entries-failed : (pasts : List Past) (marks after : List Mark) (us : List Entry) (by since : ℕ) → after ≡ marks ++ record { by = by; gap = since } ∷ [] → covered marks + since ≡ length us → chronicle_of pasts (woven after us) ≡ chronicle_of pasts (woven marks us) ++ e.Fault by ∷ []
+entries-failed pasts marks after us by since is all = ap (λ ms. chronicle_of pasts (woven ms us)) is ∙ ap (chronicle_of pasts) (woven-fault marks us by since all) ∙ chronicle-push pasts (woven marks us) (e.Fault by)
+
+-- one more fault
+pub history-failed : (first : ℤ) (pasts : List Past) (current : Day) (marks more : List Mark) (by since later count at rows top after : ℕ) → IsHistory first pasts current marks since count at rows top → more ≡ marks ++ record { by = by; gap = since } ∷ [] → later ≡ 0
+    → after ≡ max top by → by + 1 < 2 ^ 64 → IsHistory first pasts current more later (count + 1) at rows after
+history-failed first pasts current marks more by since later count at rows top after h is none after_is few =
+    let whole : chronicle_of pasts (woven more current.updates) ≡ chronicle_of pasts (woven marks current.updates) ++ e.Fault by ∷ [] = entries-failed pasts marks more current.updates by since is h.since_is in
+    record {
+      follow = h.follow;
+      since_is = let all = ap covered is ∙ covered-fault marks (record { by = by; gap = since }) in omega (arith, h.since_is, all, none);
+      count_is = omega (arith, h.count_is, ap length whole, length-append (chronicle_of pasts (woven marks current.updates)) (e.Fault by ∷ []));
+      opened_is = h.opened_is ∙ after_roll-chronicle current.kinds first pasts current marks h.follow ∙ sym (after_roll-chronicle current.kinds first pasts current more h.follow);
+      rows_is = h.rows_is;
+      top_is = after_is ∙ ap (λ n. max n by) h.top_is ∙ sym (ap top_by whole ∙ top_by-push (chronicle_of pasts (woven marks current.updates)) (e.Fault by));
       few = omega (arith, after_is, h.few, few);
     }
 
@@ -190,21 +223,22 @@ begun_day day other is kinds none = record {
 }
 
 -- the open date has ended, and the next is open
-pub history-rolled : (first : ℤ) (pasts : List Past) (past : Past) (other : Day) (count at rows top after : ℕ) → IsHistory first pasts past.day count at rows top → other.date ≡ past.next → other.kinds ≡ past.day.kinds → other.updates ≡ [] → past.next ≡ past.day.date +ℤ pos 1
-    → after ≡ max top past.by → past.by + 1 < 2 ^ 64 → IsHistory first (pasts ++ past ∷ []) other (count + 1) (count + 1) 0 after
-history-rolled first pasts past other count at rows top after h date kinds none next after_is few =
+pub history-rolled : (first : ℤ) (pasts : List Past) (past : Past) (other : Day) (since count at rows top after : ℕ) → IsHistory first pasts past.day past.marks since count at rows top → other.date ≡ past.next → other.kinds ≡ past.day.kinds → other.updates ≡ [] → past.next ≡ past.day.date +ℤ pos 1
+    → after ≡ max top past.by → past.by + 1 < 2 ^ 64 → IsHistory first (pasts ++ past ∷ []) other [] 0 (count + 1) (count + 1) 0 after
+history-rolled first pasts past other since count at rows top after h date kinds none next after_is few =
     let own = last_day past.day.kinds first pasts past.day h.follow in
     let less : int_cmp past.day.date past.next ≡ Less = rw next (next_later past.day.date) in
     let follow = follow-ended past.day.kinds first pasts past other h.follow date kinds (begun_day past.day other own kinds none) less in
-    let whole : chronicle_of (pasts ++ past ∷ []) other.updates ≡ chronicle_of pasts past.day.updates ++ e.Roll past.by past.next ∷ [] = ap (chronicle_of (pasts ++ past ∷ [])) none ∙ chronicle-roll pasts past in
-    let size : count + 1 ≡ length (chronicle_of (pasts ++ past ∷ []) other.updates) = omega (arith, h.count_is, ap length whole, length-append (chronicle_of pasts past.day.updates) (e.Roll past.by past.next ∷ [])) in
+    let whole : chronicle_of (pasts ++ past ∷ []) other.updates ≡ chronicle_of pasts (woven past.marks past.day.updates) ++ e.Roll past.by past.next ∷ [] = ap (chronicle_of (pasts ++ past ∷ [])) none ∙ chronicle-roll pasts past in
+    let size : count + 1 ≡ length (chronicle_of (pasts ++ past ∷ []) other.updates) = omega (arith, h.count_is, ap length whole, length-append (chronicle_of pasts (woven past.marks past.day.updates)) (e.Roll past.by past.next ∷ [])) in
     let empty : length other.updates ≡ 0 = ap length none in
     record {
       follow = subst (λ ks. Follow ks first (pasts ++ past ∷ []) other) (sym kinds) follow;
+      since_is = omega (arith, empty);
       count_is = size;
-      opened_is = let after = after_roll-chronicle past.day.kinds first (pasts ++ past ∷ []) other follow in omega (arith, size, after, length-chronicle (pasts ++ past ∷ []) other.updates, empty);
+      opened_is = let after = after_roll-chronicle past.day.kinds first (pasts ++ past ∷ []) other [] follow in omega (arith, size, after, length-chronicle (pasts ++ past ∷ []) other.updates, empty);
       rows_is = sym (ap total_rows none);
-      top_is = after_is ∙ ap (λ n. max n past.by) h.top_is ∙ sym (ap top_by whole ∙ top_by-push (chronicle_of pasts past.day.updates) (e.Roll past.by past.next));
+      top_is = after_is ∙ ap (λ n. max n past.by) h.top_is ∙ sym (ap top_by whole ∙ top_by-push (chronicle_of pasts (woven past.marks past.day.updates)) (e.Roll past.by past.next));
       few = omega (arith, after_is, h.few, few);
     }
 
@@ -212,23 +246,26 @@ history-rolled first pasts past other count at rows top after h date kinds none 
 pub same_day : (some other : Day) → some.date ≡ other.date → some.kinds ≡ other.kinds → some.updates ≡ other.updates → some ≡ other
 same_day some other date kinds updates = λ i. record { date = date i; kinds = kinds i; updates = updates i }
 
--- the updates of the open date are the entries after the last roll
-pub record IsToday (entries : List Entry) (count at : ℕ) : Type 0 where
+-- the updates of the open date are the entries after the last roll, without the faults
+pub record IsToday (entries : List Entry) (count at faults : ℕ) : Type 0 where
   pub below : at ≤ count
-  pub updates : count - at ≡ update_count (today entries)
+  pub few : faults ≤ count - at
+  pub updates : (count - at) - faults ≡ update_count (today entries)
 
-pub today_counted : (first : ℤ) (pasts : List Past) (current : Day) (count at rows top : ℕ) → IsHistory first pasts current count at rows top → IsToday (chronicle_of pasts current.updates) count at
-today_counted first pasts current count at rows top h =
-    let after = after_roll-chronicle current.kinds first pasts current h.follow in
-    let size = length-chronicle pasts current.updates in
+pub today_counted : (first : ℤ) (pasts : List Past) (current : Day) (marks : List Mark) (since count at rows top : ℕ) → IsHistory first pasts current marks since count at rows top → IsToday (chronicle_of pasts (woven marks current.updates)) count at (length marks)
+today_counted first pasts current marks since count at rows top h =
+    let after = after_roll-chronicle current.kinds first pasts current marks h.follow in
+    let size = length-chronicle pasts (woven marks current.updates) in
+    let own = length-woven marks current.updates in
     let all = counted_updates current.kinds current.updates (last_day current.kinds first pasts current h.follow).updates in
-    let same = ap update_count (today-chronicle current.kinds first pasts current h.follow) in
+    let same = ap update_count (today-chronicle current.kinds first pasts current marks h.follow) ∙ update_count-woven marks current.updates in
     record {
       below = omega (arith, h.count_is, h.opened_is, after, size);
-      updates = omega (arith, h.count_is, h.opened_is, after, size, all, same);
+      few = omega (arith, h.count_is, h.opened_is, after, size, own);
+      updates = omega (arith, h.count_is, h.opened_is, after, size, own, all, same);
     }
 
-pub entries-rolled : (pasts after : List Past) (past : Past) (updates whole : List Entry) (date : ℤ) → after ≡ pasts ++ past ∷ [] → updates ≡ [] → chronicle_of pasts past.day.updates ≡ whole → past.next ≡ date
+pub entries-rolled : (pasts after : List Past) (past : Past) (updates whole : List Entry) (date : ℤ) → after ≡ pasts ++ past ∷ [] → updates ≡ [] → chronicle_of pasts (woven past.marks past.day.updates) ≡ whole → past.next ≡ date
     → chronicle_of after updates ≡ whole ++ e.Roll past.by date ∷ []
 entries-rolled pasts after past updates whole date after_is none was next =
     (λ i. chronicle_of (after_is i) (none i)) ∙ chronicle-roll pasts past ∙ (λ i. was i ++ e.Roll past.by (next i) ∷ [])

@@ -19,9 +19,18 @@ use Rattle.q_values.specs.Atom.{kind_of}
 use Rattle.q_values.specs.declared.kind.Kind.{Kind}
 use Rattle.q_values.specs.declared.kind.Kind.TheVariants as k
 use Rattle.day_rows.specs.declared.schema.Shape.{Shape}
-use Rattle.plant_core.specs.Items.{timed, is_of_kind, vector_length, fits_beside, wrong_from, have_matching_lengths, row_count, spread, columns_of, atoms_of}
+use Rattle.plant_core.specs.Items.{timed, is_of_kind, is_long_symbol, vector_length, fits_beside, wrong_from, have_matching_lengths, row_count, spread, columns_of, atoms_of}
 use Rattle.plant_core.specs.Items.{has_long_symbol}
-use Rattle.plant_core.specs.Limit.{is_beyond}
+use Rattle.plant_core.specs.Limit.{HasLogRecord, holds_too_much, is_beyond, is_long_record}
+use Rattle.std.specs.List.{AllByRecursion, list_any}
+use Rattle.std.proofs.lemmas.Slice.Eq.{bytes_eq-Decides}
+use Rattle.q_values.specs.Limits.{AreLimits}
+use Rattle.q_values.specs.declared.atom.Atom.{Atom}
+use Rattle.q_values.specs.declared.atom.Atom.TheVariants as a
+use Rattle.std.specs.Prelude.{IfOk}
+use Rattle.ipc_codec.specs.Lengths.{saturated}
+use Rattle.tick_log.specs.Chunk.{HasShortSymbols, IsLoggable, chunk_bytes, is_long, no_pass}
+use Rattle.tick_log.proofs.Made.{length-chunk}
 use Rattle.plant_core.specs.Chronicle.{time_of_day}
 use Rattle.plant_core.specs.Turns.{Passes, Rules, RulesItems, IsRefusal, FindsTable}
 use Rattle.plant_core.specs.declared.judge.Judged.{Judged}
@@ -35,8 +44,8 @@ table_step : (schema : List Shape) (i : ℕ) (shape : Shape) (name : List ℕ) �
 table_step schema i shape name i_in is = let one : i + 1 ≡ suc i = omega arith in rw (drop_more schema i shape i_in, get_or_from_slice_get schema i shape shape is, ← one) refl
 
 pub table_found : (schema : List Shape) (i : ℕ) (shape : Shape) (name : List ℕ) → i < length schema → slice_get schema i ≡ Some shape → bytes_eq shape.table name ≡ true → table_from 0 name schema ≡ table_from i name (drop i schema)
-    → (x : Shape) × (slice_get schema i ≡ Some x) × (table_from 0 name schema ≡ Some (i, x.kinds))
-table_found schema i shape name i_in is same before = (shape, is, before ∙ table_step schema i shape name i_in is ∙ rw same refl)
+    → (x : Shape) × (slice_get schema i ≡ Some x) × (x.table ≡ name) × (table_from 0 name schema ≡ Some (i, x.kinds))
+table_found schema i shape name i_in is same before = (shape, is, (bytes_eq-Decides shape.table name).0 same, before ∙ table_step schema i shape name i_in is ∙ rw same refl)
 
 pub table_more : (schema : List Shape) (i : ℕ) (shape : Shape) (name : List ℕ) → i < length schema → slice_get schema i ≡ Some shape → bytes_eq shape.table name ≡ false → table_from 0 name schema ≡ table_from i name (drop i schema)
     → table_from 0 name schema ≡ table_from (i + 1) name (drop (i + 1) schema)
@@ -149,7 +158,7 @@ spread_items (kind ∷ kinds) first others even right =
       rows = own;
     }
 
-under : (limits : Limits) (rows : ℕ) (items : List Tree) → is_beyond limits rows items ≡ false → rows + row_count items ≤ limits.day_rows
+under : (limits : Limits) (rows : ℕ) (items : List Tree) → holds_too_much limits rows items ≡ false → rows + row_count items ≤ limits.day_rows
 under limits rows items h = go (has_long_symbol limits.symbol items) h
   where
     go : (b : Bool) → (b || nat_lt limits.day_rows (rows + row_count items)) ≡ false → rows + row_count items ≤ limits.day_rows
@@ -160,17 +169,91 @@ under limits rows items h = go (has_long_symbol limits.symbol items) h
 all_well : (a b c : Bool) (w : Option ℕ) (x y z v : Verdict) → a ≡ true → b ≡ false → c ≡ false → w ≡ None → cond a (kinds_judged w (cond b y (cond c z v))) x ≡ v
 all_well a b c w x y z v ea eb ec ew = rw (ea, ew, eb, ec) refl
 
-pub passes_items : (limits : Limits) (by : ℕ) (date : ℤ) (rows : ℕ) (now : ℤ) (at : ℕ) (kinds : List Kind) (first : Tree) (others : List Tree) (rolls : Bool) (left : ℕ) (columns : List Contents)
-    → have_matching_lengths (length kinds) (first ∷ others) ≡ true → wrong_from 0 kinds (first ∷ others) ≡ None → is_past_next_day date now ≡ false → rolls ≡ is_next_day date now → left ≡ cond rolls 0 rows → is_beyond limits left (first ∷ others) ≡ false → columns ≡ columns_of (first ∷ others)
+or_both : (x y : Bool) → (x || y) ≡ false → (x ≡ false) × (y ≡ false)
+or_both true y h = absurd cc
+or_both false y h = (refl, h)
+
+-- what is within the limit of symbols is within that of the log
+short_symbol : (limit : ℕ) (x : Atom) → limit ≤ 256 → is_long_symbol limit x ≡ false → is_long x ≡ false
+short_symbol limit (a.Symbol text) le h = grind (arith, nat_tests)
+short_symbol limit x le h = refl
+
+any_short : (limit : ℕ) (xs : List Atom) → limit ≤ 256 → list_any (is_long_symbol limit) xs ≡ false → list_any is_long xs ≡ false
+any_short limit [] le h = refl
+any_short limit (x ∷ xs) le h =
+    let both = or_both (is_long_symbol limit x) (list_any (is_long_symbol limit) xs) h in
+    rw (short_symbol limit x le both.0, any_short limit xs le both.1) refl
+
+replicate_short : (n : ℕ) (x : Atom) → is_long x ≡ false → list_any is_long (replicate n x) ≡ false
+replicate_short zero x h = refl
+replicate_short (suc n) x h = rw (h, replicate_short n x h) refl
+
+spread_short : (limit n : ℕ) (item : Tree) → limit ≤ 256 → list_any (is_long_symbol limit) (atoms_of item) ≡ false → list_any is_long (spread n item).atoms ≡ false
+spread_short limit n (atom x) le h = replicate_short n x (short_symbol limit x le (or_both (is_long_symbol limit x) false h).0)
+spread_short limit n (vector v) le h = any_short limit v.atoms le h
+spread_short limit n (list x) le h = refl
+spread_short limit n (dict x y) le h = refl
+spread_short limit n (table x) le h = refl
+spread_short limit n (keyed x y) le h = refl
+spread_short limit n identity le h = refl
+spread_short limit n (wrong x) le h = refl
+
+items_short : (limit n : ℕ) (items : List Tree) → limit ≤ 256 → has_long_symbol limit items ≡ false → AllByRecursion HasShortSymbols (map (spread n) items)
+items_short limit n [] le h = tt
+items_short limit n (item ∷ items) le h =
+    let both = or_both (list_any (is_long_symbol limit) (atoms_of item)) (has_long_symbol limit items) h in
+    (spread_short limit n item le both.0, items_short limit n items le both.1)
+
+-- an update within the limits has a log record
+pub fits_items : (limits : Limits) (by : ℕ) (name : List ℕ) (at : ℕ) (kinds : List Kind) (first : Tree) (others : List Tree) (rolls : Bool) (left : ℕ) (columns : List Contents)
+    → AreLimits limits → have_matching_lengths (length kinds) (first ∷ others) ≡ true → wrong_from 0 kinds (first ∷ others) ≡ None → holds_too_much limits left (first ∷ others) ≡ false → nat_lt limits.chunk (length (chunk_bytes 0 name columns)) ≡ false → columns ≡ columns_of (first ∷ others)
+    → HasLogRecord by name at kinds (record { rolls = rolls; update = e.Upd by at columns })
+fits_items limits by name at kinds first others rolls left columns are even right free short made = λ schema shape known named own pass.
+    let fitting : AreColumns shape.kinds columns = rw (own, made) (spread_items kinds first others even right).columns in
+    let symbols : AllByRecursion HasShortSymbols columns = rw made (items_short limits.symbol (row_count (first ∷ others)) (first ∷ others) are.symbol (or_both (has_long_symbol limits.symbol (first ∷ others)) (nat_lt limits.day_rows (left + row_count (first ∷ others))) free).0) in
+    let within : length (chunk_bytes 0 name columns) ≤ limits.chunk = grind (arith, nat_tests) in
+    let same : length shape.table ≡ length name = ap length named in (
+      shape,
+      known,
+      record {
+        pass = pass;
+        loggable = record { fitting = fitting; symbols = symbols };
+        short = omega (arith, within, are.chunk, same, length-chunk 0 name columns, length-chunk by shape.table columns);
+      },
+    )
+
+-- a length that saturates is longer than the limit where the length itself is
+pub over_limit : (limit n size : ℕ) → limit ≤ 67108864 → n ≡ saturated size → nat_lt limit n ≡ nat_lt limit size
+over_limit limit n size le is = elim (nat_lt limit size) as (λ b. nat_lt limit size ≡ b → nat_lt limit n ≡ b) [ true ↦ λ h. grind (arith, nat_tests) | false ↦ λ h. grind (arith, nat_tests) ] refl
+
+-- where only the last test refuses
+last_refuses : (a b c : Bool) (w : Option ℕ) (x y z v : Verdict) → a ≡ true → b ≡ false → c ≡ true → w ≡ None → cond a (kinds_judged w (cond b y (cond c z v))) x ≡ z
+last_refuses a b c w x y z v ea eb ec ew = rw (ea, ew, eb, ec) refl
+
+-- an update whose log record is too long
+pub long_items : (limits : Limits) (by : ℕ) (date : ℤ) (rows : ℕ) (now : ℤ) (name : List ℕ) (at : ℕ) (kinds : List Kind) (first : Tree) (others : List Tree) (rolls : Bool) (left : ℕ) (columns : List Contents)
+    → have_matching_lengths (length kinds) (first ∷ others) ≡ true → wrong_from 0 kinds (first ∷ others) ≡ None → is_past_next_day date now ≡ false → rolls ≡ is_next_day date now → left ≡ cond rolls 0 rows → holds_too_much limits left (first ∷ others) ≡ false → nat_lt limits.chunk (length (chunk_bytes 0 name columns)) ≡ true → columns ≡ columns_of (first ∷ others)
+    → items_judged limits by date rows now name (at, kinds) (first ∷ others) ≡ refuses r.Limit
+long_items limits by date rows now name at kinds first others rolls left columns even right near is left_is free long made =
+    let own : holds_too_much limits (cond (is_next_day date now) 0 rows) (first ∷ others) ≡ false = rw (left_is, is) at free in
+    let brief : is_long_record limits name (first ∷ others) ≡ true = rw made at long in
+    let beyond : is_beyond limits (cond (is_next_day date now) 0 rows) name (first ∷ others) ≡ true = ap₂ ◌||◌ own brief in
+    last_refuses (have_matching_lengths (length kinds) (first ∷ others)) (is_past_next_day date now) (is_beyond limits (cond (is_next_day date now) 0 rows) name (first ∷ others)) (wrong_from 0 kinds (first ∷ others)) (refuses r.Length) (refuses r.MoreThanOneDay) (refuses r.Limit)
+    (accepts (roll_due (is_next_day date now) by date ++ e.Upd by at (columns_of (first ∷ others)) ∷ [])) even near beyond right
+
+pub passes_items : (limits : Limits) (by : ℕ) (date : ℤ) (rows : ℕ) (now : ℤ) (name : List ℕ) (at : ℕ) (kinds : List Kind) (first : Tree) (others : List Tree) (rolls : Bool) (left : ℕ) (columns : List Contents)
+    → have_matching_lengths (length kinds) (first ∷ others) ≡ true → wrong_from 0 kinds (first ∷ others) ≡ None → is_past_next_day date now ≡ false → rolls ≡ is_next_day date now → left ≡ cond rolls 0 rows → holds_too_much limits left (first ∷ others) ≡ false → nat_lt limits.chunk (length (chunk_bytes 0 name columns)) ≡ false → columns ≡ columns_of (first ∷ others)
     → (tables : List (List Kind)) → slice_get tables at ≡ Some kinds
-    → Passes limits by date rows now tables (items_judged limits by date rows now (at, kinds) (first ∷ others)) (record { rolls = rolls; update = e.Upd by at columns })
-passes_items limits by date rows now at kinds first others rolls left columns even right near is left_is free made tables known =
+    → Passes limits by date rows now tables (items_judged limits by date rows now name (at, kinds) (first ∷ others)) (record { rolls = rolls; update = e.Upd by at columns })
+passes_items limits by date rows now name at kinds first others rolls left columns even right near is left_is free short made tables known =
     let are = spread_items kinds first others even right in
-    let free' : is_beyond limits (cond (is_next_day date now) 0 rows) (first ∷ others) ≡ false = rw (left_is, is) at free in
+    let own : holds_too_much limits (cond (is_next_day date now) 0 rows) (first ∷ others) ≡ false = rw (left_is, is) at free in
+    let brief : is_long_record limits name (first ∷ others) ≡ false = rw made at short in
+    let free' : is_beyond limits (cond (is_next_day date now) 0 rows) name (first ∷ others) ≡ false = ap₂ ◌||◌ own brief in
     let few = under limits left (first ∷ others) free in
     record {
       accepted =
-          all_well (have_matching_lengths (length kinds) (first ∷ others)) (is_past_next_day date now) (is_beyond limits (cond (is_next_day date now) 0 rows) (first ∷ others)) (wrong_from 0 kinds (first ∷ others)) (refuses r.Length) (refuses r.MoreThanOneDay) (refuses r.Limit)
+          all_well (have_matching_lengths (length kinds) (first ∷ others)) (is_past_next_day date now) (is_beyond limits (cond (is_next_day date now) 0 rows) name (first ∷ others)) (wrong_from 0 kinds (first ∷ others)) (refuses r.Length) (refuses r.MoreThanOneDay) (refuses r.Limit)
           (accepts (roll_due (is_next_day date now) by date ++ e.Upd by at (columns_of (first ∷ others)) ∷ [])) even near free' right
           ∙ ap₂ (λ b cs. accepts (roll_due b by date ++ e.Upd by at cs ∷ [])) (sym is) (sym made);
       rolls_then = is;
@@ -181,17 +264,25 @@ passes_items limits by date rows now at kinds first others rolls left columns ev
 
 -- what becomes of the items of a table that is found
 pub rules_found : (schema : List Shape) (limits : Limits) (by : ℕ) (date : ℤ) (rows : ℕ) (name : List ℕ) (items given : List Tree) (now : ℤ) (at : ℕ) (kinds : List Kind) (shape : Shape) (result : Result Judged UpdRefusal)
-    → slice_get schema at ≡ Some shape → FindsTable schema name (Some at) → kinds ≡ shape.kinds → given ≡ items → RulesItems limits by date rows now at kinds (timed (time_of_day now) given) result → Rules schema limits by date rows name items now result
+    → slice_get schema at ≡ Some shape → FindsTable schema name (Some at) → kinds ≡ shape.kinds → given ≡ items → RulesItems limits by date rows now name at kinds (timed (time_of_day now) given) result → Rules schema limits by date rows name items now result
 rules_found schema limits by date rows name items given now at kinds shape result known found own same_items = go result
   where
     one : found.0 ≡ shape
     one = cc (found.1, known)
 
-    same : ruling schema limits by date rows name items now ≡ items_judged limits by date rows now (at, kinds) (timed (time_of_day now) given)
-    same = ap (λ o. table_judged name o (λ t. items_judged limits by date rows now t (timed (time_of_day now) items))) (found.2 ∙ ap (λ (x : Shape). Some (at, x.kinds)) one ∙ ap (λ ks. Some (at, ks)) (sym own)) ∙ ap (λ ts. items_judged limits by date rows now (at, kinds) (timed (time_of_day now) ts)) (sym same_items)
+    same : ruling schema limits by date rows name items now ≡ items_judged limits by date rows now name (at, kinds) (timed (time_of_day now) given)
+    same = ap (λ o. table_judged name o (λ t. items_judged limits by date rows now name t (timed (time_of_day now) items))) (found.3 ∙ ap (λ (x : Shape). Some (at, x.kinds)) one ∙ ap (λ ks. Some (at, ks)) (sym own)) ∙ ap (λ ts. items_judged limits by date rows now name (at, kinds) (timed (time_of_day now) ts)) (sym same_items)
 
-    go : (x : Result Judged UpdRefusal) → RulesItems limits by date rows now at kinds (timed (time_of_day now) given) x → Rules schema limits by date rows name items now x
+    go : (x : Result Judged UpdRefusal) → RulesItems limits by date rows now name at kinds (timed (time_of_day now) given) x → Rules schema limits by date rows name items now x
     go (Ok judged) h =
         let there : slice_get (map (λ (s : Shape). s.kinds) schema) at ≡ Some kinds = slice_get-map (λ (s : Shape). s.kinds) schema at ∙ rw (known, own) refl in
         subst (λ v. Passes limits by date rows now (map (λ (s : Shape). s.kinds) schema) v judged) (sym same) (h (map (λ (s : Shape). s.kinds) schema) there)
     go (Err why) h = subst (λ v. IsRefusal v why) (sym same) h
+
+-- the update that may be logged has a log record, where the items of a table that is found have one
+pub loggable_found : (schema : List Shape) (name : List ℕ) (at by : ℕ) (kinds : List Kind) (shape : Shape) (result : Result Judged UpdRefusal)
+    → slice_get schema at ≡ Some shape → FindsTable schema name (Some at) → kinds ≡ shape.kinds → by < no_pass → IfOk result (HasLogRecord by name at kinds) → IfOk result (λ (judged : Judged). IsLoggable schema judged.update)
+loggable_found schema name at by kinds shape (Ok judged) known found own pass h =
+    let one : found.0 ≡ shape = cc (found.1, known) in
+    h schema shape known (ap (λ (x : Shape). x.table) (sym one) ∙ found.2) (sym own) pass
+loggable_found schema name at by kinds shape (Err why) known found own pass h = h

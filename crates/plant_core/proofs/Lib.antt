@@ -1,8 +1,10 @@
 pub mod CauseLemmas
+pub mod FaultLemmas
 pub mod HistoryLemmas
 pub mod ItemsLemmas
 pub mod JudgeLemmas
 pub mod LawLemmas
+pub mod MadeLemmas
 pub mod PlantLemmas
 pub mod ShownLemmas
 pub mod SoloLemmas

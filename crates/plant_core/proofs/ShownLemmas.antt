@@ -25,6 +25,9 @@ use Rattle.q_values.specs.declared.refusal.NoMemory.{NoMemory}
 use Rattle.day_rows.specs.Day.{HasColumn}
 use Rattle.day_rows.specs.Rows.{column_of}
 use Rattle.plant_core.specs.History.{Past, chronicle_of, Follow, IsColumn}
+use Rattle.plant_core.specs.Faults.{woven}
+use Rattle.plant_core.specs.declared.faults.Mark.{Mark}
+use Rattle.plant_core.proofs.FaultLemmas.{rows-woven}
 use Rattle.plant_core.proofs.HistoryLemmas.{day_keeps, dates_of-chronicle, ascend-chronicle}
 
 pub weaker : {X : Type 0} (P Q : X → Type 0) → ((x : X) → P x → Q x) → (xs : List X) → AllByRecursion P xs → AllByRecursion Q xs
@@ -81,23 +84,24 @@ block [] current k t = arrived current t
 block (past ∷ pasts) current zero t = settled past.day t
 block (past ∷ pasts) current (suc k) t = block pasts current k t
 
-view-first : (kinds : List (List Kind)) (first : ℤ) (past : Past) (pasts : List Past) (current : Day) (t : ℕ) → Follow kinds first (past ∷ pasts) current
-    → view first (chronicle_of (past ∷ pasts) current.updates) t ≡ settled past.day t ++ view past.next (chronicle_of pasts current.updates) t
-view-first kinds first past pasts current t h =
-    view-ended first past.next past.by t past.day.updates (chronicle_of pasts current.updates) (day_keeps past.day h.2) h.3 (ascend-chronicle kinds past.next pasts current h.4)
-    ∙ ap (λ d. settled (record past.day { date = d }) t ++ view past.next (chronicle_of pasts current.updates) t) (sym h.0)
+view-first : (kinds : List (List Kind)) (first : ℤ) (past : Past) (pasts : List Past) (current : Day) (marks : List Mark) (t : ℕ) → Follow kinds first (past ∷ pasts) current
+    → view first (chronicle_of (past ∷ pasts) (woven marks current.updates)) t ≡ settled past.day t ++ view past.next (chronicle_of pasts (woven marks current.updates)) t
+view-first kinds first past pasts current marks t h =
+    view-ended first past.next past.by t (woven past.marks past.day.updates) (chronicle_of pasts (woven marks current.updates)) (day_keeps past.day past.marks h.2) h.3 (ascend-chronicle kinds past.next pasts current marks h.4)
+    ∙ ap (λ rs. in_order ended_cmp rs ++ view past.next (chronicle_of pasts (woven marks current.updates)) t) (rows-woven t past.marks past.day.updates first 0)
+    ∙ ap (λ d. settled (record past.day { date = d }) t ++ view past.next (chronicle_of pasts (woven marks current.updates)) t) (sym h.0)
 
-view-last : (kinds : List (List Kind)) (first : ℤ) (current : Day) (t : ℕ) → Follow kinds first [] current → view first (chronicle_of [] current.updates) t ≡ arrived current t
-view-last kinds first current t h = view-open first t current.updates (day_keeps current h.2) ∙ ap (λ d. arrived (record current { date = d }) t) (sym h.0)
+view-last : (kinds : List (List Kind)) (first : ℤ) (current : Day) (marks : List Mark) (t : ℕ) → Follow kinds first [] current → view first (chronicle_of [] (woven marks current.updates)) t ≡ arrived current t
+view-last kinds first current marks t h = view-open first t (woven marks current.updates) (day_keeps current marks h.2) ∙ rows-woven t marks current.updates first 0 ∙ ap (λ d. arrived (record current { date = d }) t) (sym h.0)
 
-view-dated : (kinds : List (List Kind)) (first : ℤ) (pasts : List Past) (current : Day) (t : ℕ) → Follow kinds first pasts current → AllByRecursion (λ (r : Row). IsFrom first r.date) (view first (chronicle_of pasts current.updates) t)
-view-dated kinds first [] current t h =
-    rw (view-last kinds first current t h) (weaker (λ (r : Row). r.date ≡ current.date) (λ (r : Row). IsFrom first r.date) (λ r same. inl (same ∙ h.0)) (arrived current t) (arrived-dated current t h.2))
-view-dated kinds first (past ∷ pasts) current t h =
-    rw (view-first kinds first past pasts current t h)
-    (all-append (λ (r : Row). IsFrom first r.date) (settled past.day t) (view past.next (chronicle_of pasts current.updates) t)
+view-dated : (kinds : List (List Kind)) (first : ℤ) (pasts : List Past) (current : Day) (marks : List Mark) (t : ℕ) → Follow kinds first pasts current → AllByRecursion (λ (r : Row). IsFrom first r.date) (view first (chronicle_of pasts (woven marks current.updates)) t)
+view-dated kinds first [] current marks t h =
+    rw (view-last kinds first current marks t h) (weaker (λ (r : Row). r.date ≡ current.date) (λ (r : Row). IsFrom first r.date) (λ r same. inl (same ∙ h.0)) (arrived current t) (arrived-dated current t h.2))
+view-dated kinds first (past ∷ pasts) current marks t h =
+    rw (view-first kinds first past pasts current marks t h)
+    (all-append (λ (r : Row). IsFrom first r.date) (settled past.day t) (view past.next (chronicle_of pasts (woven marks current.updates)) t)
     (weaker (λ (r : Row). r.date ≡ past.day.date) (λ (r : Row). IsFrom first r.date) (λ r same. inl (same ∙ h.0)) (settled past.day t) (settled-dated past.day t h.2))
-    (weaker (λ (r : Row). IsFrom past.next r.date) (λ (r : Row). IsFrom first r.date) (λ r from. inr (from-later first past.next r.date h.3 from)) (view past.next (chronicle_of pasts current.updates) t) (view-dated kinds past.next pasts current t h.4)))
+    (weaker (λ (r : Row). IsFrom past.next r.date) (λ (r : Row). IsFrom first r.date) (λ r from. inr (from-later first past.next r.date h.3 from)) (view past.next (chronicle_of pasts (woven marks current.updates)) t) (view-dated kinds past.next pasts current marks t h.4)))
 
 -- the dates, in order
 abbrev nexts : List Past → List ℤ
@@ -109,30 +113,30 @@ date-from kinds first [] current (suc k) d h k_in = absurd (omega arith)
 date-from kinds first (past ∷ pasts) current (suc k) d h k_in =
     inr (from-later first past.next (get_or (past.next ∷ nexts pasts) k d) h.3 (date-from kinds past.next pasts current k d h.4 (omega arith)))
 
-shown : (kinds : List (List Kind)) (first : ℤ) (pasts : List Past) (current : Day) (k t : ℕ) (d : ℤ) → Follow kinds first pasts current → k ≤ length pasts
-    → on_date (get_or (first ∷ nexts pasts) k d) (view first (chronicle_of pasts current.updates) t) ≡ block pasts current k t
-shown kinds first [] current zero t d h k_in =
-    rw (view-last kinds first current t h) (on_date-all first (arrived current t) (subst (λ x. AllByRecursion (λ (r : Row). r.date ≡ x) (arrived current t)) h.0 (arrived-dated current t h.2)))
-shown kinds first [] current (suc k) t d h k_in = absurd (omega arith)
-shown kinds first (past ∷ pasts) current zero t d h k_in =
-    let rest = view past.next (chronicle_of pasts current.updates) t in
+shown : (kinds : List (List Kind)) (first : ℤ) (pasts : List Past) (current : Day) (marks : List Mark) (k t : ℕ) (d : ℤ) → Follow kinds first pasts current → k ≤ length pasts
+    → on_date (get_or (first ∷ nexts pasts) k d) (view first (chronicle_of pasts (woven marks current.updates)) t) ≡ block pasts current k t
+shown kinds first [] current marks zero t d h k_in =
+    rw (view-last kinds first current marks t h) (on_date-all first (arrived current t) (subst (λ x. AllByRecursion (λ (r : Row). r.date ≡ x) (arrived current t)) h.0 (arrived-dated current t h.2)))
+shown kinds first [] current marks (suc k) t d h k_in = absurd (omega arith)
+shown kinds first (past ∷ pasts) current marks zero t d h k_in =
+    let rest = view past.next (chronicle_of pasts (woven marks current.updates)) t in
     let own = on_date-all first (settled past.day t) (subst (λ x. AllByRecursion (λ (r : Row). r.date ≡ x) (settled past.day t)) h.0 (settled-dated past.day t h.2)) in
-    let none = on_date-none first rest (weaker (λ (r : Row). IsFrom past.next r.date) (λ (r : Row). int_eq r.date first ≡ false) (λ r from. apart-back first r.date (from-later first past.next r.date h.3 from)) rest (view-dated kinds past.next pasts current t h.4)) in
-    rw (view-first kinds first past pasts current t h) (filter-append (λ (r : Row). int_eq r.date first) (settled past.day t) rest ∙ ap₂ ◌++◌ own none ∙ append-nil (settled past.day t))
-shown kinds first (past ∷ pasts) current (suc k) t d h k_in =
+    let none = on_date-none first rest (weaker (λ (r : Row). IsFrom past.next r.date) (λ (r : Row). int_eq r.date first ≡ false) (λ r from. apart-back first r.date (from-later first past.next r.date h.3 from)) rest (view-dated kinds past.next pasts current marks t h.4)) in
+    rw (view-first kinds first past pasts current marks t h) (filter-append (λ (r : Row). int_eq r.date first) (settled past.day t) rest ∙ ap₂ ◌++◌ own none ∙ append-nil (settled past.day t))
+shown kinds first (past ∷ pasts) current marks (suc k) t d h k_in =
     let date = get_or (past.next ∷ nexts pasts) k d in
-    let rest = view past.next (chronicle_of pasts current.updates) t in
+    let rest = view past.next (chronicle_of pasts (woven marks current.updates)) t in
     let less : int_cmp past.day.date date ≡ Less = rw h.0 (from-later first past.next date h.3 (date-from kinds past.next pasts current k d h.4 (omega arith))) in
     let none = on_date-none date (settled past.day t) (weaker (λ (r : Row). r.date ≡ past.day.date) (λ (r : Row). int_eq r.date date ≡ false) (λ r same. rw same (apart past.day.date date less)) (settled past.day t) (settled-dated past.day t h.2)) in
-    rw (view-first kinds first past pasts current t h) (filter-append (λ (r : Row). int_eq r.date date) (settled past.day t) rest ∙ ap₂ ◌++◌ none (shown kinds past.next pasts current k t d h.4 (omega arith)))
+    rw (view-first kinds first past pasts current marks t h) (filter-append (λ (r : Row). int_eq r.date date) (settled past.day t) rest ∙ ap₂ ◌++◌ none (shown kinds past.next pasts current marks k t d h.4 (omega arith)))
 
-pub rows_at-chronicle : (kinds : List (List Kind)) (first : ℤ) (pasts : List Past) (current : Day) (k t : ℕ) → Follow kinds first pasts current → k ≤ length pasts
-    → rows_at first (chronicle_of pasts current.updates) k t ≡ block pasts current k t
-rows_at-chronicle kinds first pasts current k t h k_in =
-    ap (λ ds. on_date (get_or ds k first) (view first (chronicle_of pasts current.updates) t)) (dates_of-chronicle kinds first pasts current h) ∙ shown kinds first pasts current k t first h k_in
+pub rows_at-chronicle : (kinds : List (List Kind)) (first : ℤ) (pasts : List Past) (current : Day) (marks : List Mark) (k t : ℕ) → Follow kinds first pasts current → k ≤ length pasts
+    → rows_at first (chronicle_of pasts (woven marks current.updates)) k t ≡ block pasts current k t
+rows_at-chronicle kinds first pasts current marks k t h k_in =
+    ap (λ ds. on_date (get_or ds k first) (view first (chronicle_of pasts (woven marks current.updates)) t)) (dates_of-chronicle kinds first pasts current marks h) ∙ shown kinds first pasts current marks k t first h k_in
 
-pub length-dates : (kinds : List (List Kind)) (first : ℤ) (pasts : List Past) (current : Day) → Follow kinds first pasts current → length (dates_of first (chronicle_of pasts current.updates)) ≡ length pasts + 1
-length-dates kinds first pasts current h = ap length (dates_of-chronicle kinds first pasts current h) ∙ (let size : length (first ∷ nexts pasts) ≡ length pasts + 1 = omega (arith, length-map pasts (λ (p : Past). p.next)) in size)
+pub length-dates : (kinds : List (List Kind)) (first : ℤ) (pasts : List Past) (current : Day) (marks : List Mark) → Follow kinds first pasts current → length (dates_of first (chronicle_of pasts (woven marks current.updates))) ≡ length pasts + 1
+length-dates kinds first pasts current marks h = ap length (dates_of-chronicle kinds first pasts current marks h) ∙ (let size : length (first ∷ nexts pasts) ≡ length pasts + 1 = omega (arith, length-map pasts (λ (p : Past). p.next)) in size)
 
 -- the ended date with an index
 pub record IsPast (kinds : List (List Kind)) (pasts : List Past) (current : Day) (k : ℕ) (past : Past) : Type 0 where
@@ -152,21 +156,21 @@ last_block [] current t = refl
 last_block (past ∷ pasts) current t = last_block pasts current t
 
 -- what a plant shows on a date that has ended, and on the open one
-pub rows-past : (kinds : List (List Kind)) (first : ℤ) (pasts : List Past) (current : Day) (k t : ℕ) (past : Past) → Follow kinds first pasts current → k < length pasts → past ≡ get_or pasts k past → rows_at first (chronicle_of pasts current.updates) k t ≡ settled past.day t
-rows-past kinds first pasts current k t past h k_in is = rows_at-chronicle kinds first pasts current k t h (omega arith) ∙ (past_at kinds first pasts current k past h k_in is).shows t
+pub rows-past : (kinds : List (List Kind)) (first : ℤ) (pasts : List Past) (current : Day) (marks : List Mark) (k t : ℕ) (past : Past) → Follow kinds first pasts current → k < length pasts → past ≡ get_or pasts k past → rows_at first (chronicle_of pasts (woven marks current.updates)) k t ≡ settled past.day t
+rows-past kinds first pasts current marks k t past h k_in is = rows_at-chronicle kinds first pasts current marks k t h (omega arith) ∙ (past_at kinds first pasts current k past h k_in is).shows t
 
-pub rows-last : (kinds : List (List Kind)) (first : ℤ) (pasts : List Past) (current : Day) (k t : ℕ) → Follow kinds first pasts current → k ≡ length pasts → rows_at first (chronicle_of pasts current.updates) k t ≡ arrived current t
-rows-last kinds first pasts current k t h is = rows_at-chronicle kinds first pasts current k t h (omega arith) ∙ ap (λ n. block pasts current n t) is ∙ last_block pasts current t
+pub rows-last : (kinds : List (List Kind)) (first : ℤ) (pasts : List Past) (current : Day) (marks : List Mark) (k t : ℕ) → Follow kinds first pasts current → k ≡ length pasts → rows_at first (chronicle_of pasts (woven marks current.updates)) k t ≡ arrived current t
+rows-last kinds first pasts current marks k t h is = rows_at-chronicle kinds first pasts current marks k t h (omega arith) ∙ ap (λ n. block pasts current n t) is ∙ last_block pasts current t
 
-pub date_at-zero : (kinds : List (List Kind)) (first : ℤ) (pasts : List Past) (current : Day) (k : ℕ) → Follow kinds first pasts current → k ≡ 0 → first ≡ date_at first (chronicle_of pasts current.updates) k
-date_at-zero kinds first pasts current k h is = rw is (sym (ap (λ ds. get_or ds 0 first) (dates_of-chronicle kinds first pasts current h)))
+pub date_at-zero : (kinds : List (List Kind)) (first : ℤ) (pasts : List Past) (current : Day) (marks : List Mark) (k : ℕ) → Follow kinds first pasts current → k ≡ 0 → first ≡ date_at first (chronicle_of pasts (woven marks current.updates)) k
+date_at-zero kinds first pasts current marks k h is = rw is (sym (ap (λ ds. get_or ds 0 first) (dates_of-chronicle kinds first pasts current marks h)))
 
-pub date_at-next : (kinds : List (List Kind)) (first : ℤ) (pasts : List Past) (current : Day) (k : ℕ) (past : Past) → Follow kinds first pasts current → 0 < k → k - 1 < length pasts → past ≡ get_or pasts (k - 1) past → past.next ≡ date_at first (chronicle_of pasts current.updates) k
-date_at-next kinds first pasts current zero past h some k_in is = absurd (omega arith)
-date_at-next kinds first pasts current (suc k) past h some k_in is =
+pub date_at-next : (kinds : List (List Kind)) (first : ℤ) (pasts : List Past) (current : Day) (marks : List Mark) (k : ℕ) (past : Past) → Follow kinds first pasts current → 0 < k → k - 1 < length pasts → past ≡ get_or pasts (k - 1) past → past.next ≡ date_at first (chronicle_of pasts (woven marks current.updates)) k
+date_at-next kinds first pasts current marks zero past h some k_in is = absurd (omega arith)
+date_at-next kinds first pasts current marks (suc k) past h some k_in is =
     let same : suc k - 1 ≡ k = omega arith in
     let is' : past ≡ get_or pasts k past = rw same at is in
-    sym (ap (λ ds. get_or ds (suc k) first) (dates_of-chronicle kinds first pasts current h) ∙ get_or-map (λ (p : Past). p.next) pasts k past first (omega arith) ∙ ap (λ (p : Past). p.next) (sym is'))
+    sym (ap (λ ds. get_or ds (suc k) first) (dates_of-chronicle kinds first pasts current marks h) ∙ get_or-map (λ (p : Past). p.next) pasts k past first (omega arith) ∙ ap (λ (p : Past). p.next) (sym is'))
 
 pub column_in : (tables : List (List Kind)) (day : Day) (t c : ℕ) (kind : Kind) → day.kinds ≡ tables → IsColumn tables t c kind → HasColumn day t c kind
 column_in tables day t c kind same is = (is.kinds, rw same is.table_is, is.column_is)

@@ -3,15 +3,21 @@ use Rattle.std.proofs.Common.{◌≡◌, ℕ, ℤ, ◌≤◌, ◌∷◌, ◌++�
 use Rattle.std.proofs.lemmas.List.{length-append, drop-append-le}
 use Rattle.q_values.specs.Tree.{Tree}
 use Rattle.q_values.specs.declared.kind.Kind.{Kind}
-use Rattle.day_rows.specs.Chronicle.{date_of}
+use Rattle.day_rows.specs.Chronicle.{date_of, is_logged}
 use Rattle.day_rows.specs.Day.{IsUpdate}
 use Rattle.day_rows.specs.declared.entry.Entry.{Entry}
 use Rattle.day_rows.specs.declared.entry.Entry.TheVariants as e
-use Rattle.plant_core.specs.Access.{AccessView, SeesMore, Logs, Looks, Waits, Rolls, Wants, access_of, next_count}
-use Rattle.plant_core.specs.Plant.{PlantView, PreparedView, Prepares, Adds, due, next_roll, roll_place}
+use Rattle.std.specs.List.{AllByRecursion}
+use Rattle.std.proofs.Common.{◌<◌, ◌^◌, suc, ◌+◌, Some}
+use Rattle.std.specs.Prelude.{◌==◌, cond}
+use Rattle.std.proofs.lemmas.Bool.{eqb-true}
+use Rattle.plant_core.specs.Chronicle.{last_fault_from, last_fault, top_by}
+use Rattle.plant_core.specs.Access.{AccessView, SeesMore, Logs, Looks, Waits, Rolls, Wants, access_of, next_count, IsSolo}
+use Rattle.plant_core.specs.Plant.{PlantView, PreparedView, PreparedRollView, Prepares, Adds, due, next_roll, roll_place}
 use Rattle.plant_core.specs.Turns.{IsRefusal}
 use Rattle.plant_core.specs.Verdict.{verdict, is_next_day}
 use Rattle.plant_core.specs.declared.refusal.UpdRefusal.{UpdRefusal}
+use Rattle.plant_core.proofs.MadeLemmas.{IsMade, verdict_made}
 
 no_roll : (tables : List (List Kind)) (place : ℕ) (entry : Entry) → IsUpdate tables entry → None ≡ roll_place place (entry ∷ [])
 no_roll tables place (e.Upd by table columns) is = refl
@@ -44,22 +50,22 @@ waits_alone plant by began snapshots ticks after now length_now early at more = 
 }
 
 pub rolls_alone : (plant new : PlantView) (by began snapshots ticks after : ℕ) (now : ℤ) (place : ℕ) → true ≡ is_next_day (date_of plant.frame.first plant.entries) now → place ≡ length plant.entries → after ≡ next_count ticks
-    → new ≡ record plant { entries = plant.entries ++ next_roll plant.frame.first plant.entries by ∷ []; room = [] } → began ≤ length plant.entries → Rolls (access_of plant by began snapshots ticks) (access_of new by began snapshots after) now place
-rolls_alone plant new by began snapshots ticks after now place is at more made within = record {
+    → new.frame ≡ plant.frame → new.entries ≡ plant.entries ++ next_roll plant.frame.first plant.entries by ∷ [] → began ≤ length plant.entries → Rolls (access_of plant by began snapshots ticks) (access_of new by began snapshots after) now place
+rolls_alone plant new by began snapshots ticks after now place is at more frame made within = record {
   others = [];
   saw = saw_nothing (access_of plant by began snapshots ticks);
   due = rw (append-nil plant.entries) (sym is);
   at_end = rw (append-nil plant.entries) at;
-  after = rw (append-nil plant.entries, more, made, drop-append-le began plant.entries (next_roll plant.frame.first plant.entries by ∷ []) within) refl;
+  after = rw (append-nil plant.entries, more, frame, made, drop-append-le began plant.entries (next_roll plant.frame.first plant.entries by ∷ []) within) refl;
 }
 
-pub wants_alone : (plant new : PlantView) (by began snapshots ticks after : ℕ) (now : ℤ) → true ≡ is_next_day (date_of plant.frame.first plant.entries) now → after ≡ next_count ticks → new ≡ plant
+pub wants_alone : (plant new : PlantView) (by began snapshots ticks after : ℕ) (now : ℤ) → true ≡ is_next_day (date_of plant.frame.first plant.entries) now → after ≡ next_count ticks → new.frame ≡ plant.frame → new.entries ≡ plant.entries
     → Wants (access_of plant by began snapshots ticks) (access_of new by began snapshots after) now
-wants_alone plant new by began snapshots ticks after now is more same = record {
+wants_alone plant new by began snapshots ticks after now is more frame entries = record {
   others = [];
   saw = saw_nothing (access_of plant by began snapshots ticks);
   due = rw (append-nil plant.entries) (sym is);
-  after = rw (append-nil plant.entries, more, same) refl;
+  after = rw (append-nil plant.entries, more, frame, entries) refl;
 }
 
 pub looks_alone : (plant new : PlantView) (by began snapshots ticks : ℕ) (table : List ℕ) (items : List Tree) (now : ℤ) (length_now : ℕ) (why : UpdRefusal) → new.frame ≡ plant.frame → new.entries ≡ plant.entries → length_now ≡ length plant.entries
@@ -88,3 +94,88 @@ logs_alone plant prepared new by began snapshots ticks table items now update ro
       last = rw (append-nil plant.entries) (a.last ∙ ap (λ es. length (es ++ entries)) same);
       after = rw (append-nil plant.entries, frame, whole, drop-append-le began plant.entries entries within) refl;
     }
+
+last_fault-append : (by i : ℕ) (found : Option ℕ) (xs ys : List Entry) → last_fault_from by i found (xs ++ ys) ≡ last_fault_from by (i + length xs) (last_fault_from by i found xs) ys
+last_fault-append by i found [] ys = let same : i ≡ i + 0 = omega arith in ap (λ n. last_fault_from by n found ys) same
+last_fault-append by i found (e.Upd own table columns ∷ xs) ys =
+    let same : (i + 1) + length xs ≡ i + suc (length xs) = omega arith in
+    last_fault-append by (i + 1) found xs ys ∙ ap (λ n. last_fault_from by n (last_fault_from by (i + 1) found xs) ys) same
+last_fault-append by i found (e.Roll own date ∷ xs) ys =
+    let same : (i + 1) + length xs ≡ i + suc (length xs) = omega arith in
+    last_fault-append by (i + 1) found xs ys ∙ ap (λ n. last_fault_from by n (last_fault_from by (i + 1) found xs) ys) same
+last_fault-append by i found (e.Fault own ∷ xs) ys =
+    let same : (i + 1) + length xs ≡ i + suc (length xs) = omega arith in
+    let latest = cond (own == by) (Some i) found in
+    last_fault-append by (i + 1) latest xs ys ∙ ap (λ n. last_fault_from by n (last_fault_from by (i + 1) latest xs) ys) same
+
+-- an update or a roll
+abbrev pub IsLogged : Entry → Type 0
+IsLogged entry = is_logged entry ≡ true
+
+last_fault-logged : (by i : ℕ) (found : Option ℕ) (es : List Entry) → AllByRecursion IsLogged es → last_fault_from by i found es ≡ found
+last_fault-logged by i found [] all = refl
+last_fault-logged by i found (e.Upd own table columns ∷ es) all = last_fault-logged by (i + 1) found es all.1
+last_fault-logged by i found (e.Roll own date ∷ es) all = last_fault-logged by (i + 1) found es all.1
+last_fault-logged by i found (e.Fault own ∷ es) all = absurd (let h = all.0 in cc)
+
+-- the last fault stays so where updates and rolls are appended
+pub last_fault-more : (by : ℕ) (old es : List Entry) → AllByRecursion IsLogged es → last_fault by (old ++ es) ≡ last_fault by old
+last_fault-more by old es all = last_fault-append by 0 None old es ∙ last_fault-logged by (0 + length old) (last_fault by old) es all
+
+other_pass : (own by : ℕ) → own < by → (own == by) ≡ false
+other_pass own by less = elim (own == by) as (λ b. (own == by) ≡ b → b ≡ false) [ true ↦ λ h. absurd (let same = eqb-true own by h in omega arith) | false ↦ λ h. refl ] refl
+
+last_fault-none_from : (by i : ℕ) (es : List Entry) → top_by es < by → last_fault_from by i None es ≡ None
+last_fault-none_from by i [] less = refl
+last_fault-none_from by i (e.Upd own table columns ∷ es) less = last_fault-none_from by (i + 1) es (omega arith)
+last_fault-none_from by i (e.Roll own date ∷ es) less = last_fault-none_from by (i + 1) es (omega arith)
+last_fault-none_from by i (e.Fault own ∷ es) less = rw (other_pass own by (omega arith)) (last_fault-none_from by (i + 1) es (omega arith))
+
+-- a pass with a number above all others has made no fault
+pub last_fault-none : (by : ℕ) (es : List Entry) → top_by es < by → last_fault by es ≡ None
+last_fault-none by es less = last_fault-none_from by 0 es less
+
+-- a pass that begins
+pub solo_begins : (plant : PlantView) (by began : ℕ) → by ≡ top_by plant.entries + 1 → by + 1 < 2 ^ 64 → began ≡ length plant.entries → IsSolo plant by began 0
+solo_begins plant by began is few at = record {
+  few = few;
+  within = omega (arith, at);
+  latest_is = λ place found. absurd (let none = last_fault-none by plant.entries (omega (arith, is)) in let h : None ≡ Some place = sym none ∙ found in cc);
+}
+
+-- a pass after it has made updates and rolls
+pub solo_goes : (plant new : PlantView) (by began latest : ℕ) (es : List Entry) → IsSolo plant by began latest → new.entries ≡ plant.entries ++ es → AllByRecursion IsLogged es → IsSolo new by began latest
+solo_goes plant new by began latest es h made all = record {
+  few = h.few;
+  within = omega (arith, h.within, ap length made, length-append plant.entries es);
+  latest_is = λ place found. h.latest_is place (sym (last_fault-more by plant.entries es all) ∙ ap (last_fault by) (sym made) ∙ found);
+}
+
+-- a pass after nothing was made
+pub solo_stays : (plant new : PlantView) (by began latest : ℕ) → IsSolo plant by began latest → new.entries ≡ plant.entries → IsSolo new by began latest
+solo_stays plant new by began latest h same = solo_goes plant new by began latest [] h (same ∙ sym (append-nil plant.entries)) tt
+
+-- what an accepted update adds is logged
+made_logged : (es : List Entry) → IsMade es → AllByRecursion IsLogged es
+made_logged [] made = absurd made
+made_logged (e.Fault by ∷ es) made = absurd made
+made_logged (e.Upd by table columns ∷ []) made = (refl, tt)
+made_logged (e.Upd by table columns ∷ x ∷ es) made = absurd made
+made_logged (e.Roll by date ∷ []) made = absurd made
+made_logged (e.Roll by date ∷ e.Roll by' date' ∷ es) made = absurd made
+made_logged (e.Roll by date ∷ e.Fault by' ∷ es) made = absurd made
+made_logged (e.Roll by date ∷ e.Upd by' table columns ∷ []) made = (refl, (refl, tt))
+made_logged (e.Roll by date ∷ e.Upd by' table columns ∷ x ∷ es) made = absurd made
+
+-- a pass after an update was logged
+pub solo_logs : (plant prepared new : PlantView) (by began latest : ℕ) (table : List ℕ) (items : List Tree) (now : ℤ) (update : PreparedView) (rolled : Option ℕ) (place : ℕ) → IsSolo plant by began latest → Prepares plant prepared by table items now update
+    → Adds prepared new (due update ++ update.entry ∷ []) rolled place → IsSolo new by began latest
+solo_logs plant prepared new by began latest table items now update rolled place h p a =
+    let entries = due update ++ update.entry ∷ [] in
+    let same : prepared.entries ≡ plant.entries = ap (λ (x : PlantView). x.entries) p.after in
+    solo_goes plant new by began latest entries h (a.whole ∙ ap (λ es. es ++ entries) same) (made_logged entries (verdict_made plant.frame by plant.entries entries table items now p.accepted))
+
+-- the roll that was prepared and made
+pub roll_made : (plant ready new : PlantView) (roll : PreparedRollView) (by : ℕ) → ready.frame ≡ plant.frame → ready.entries ≡ plant.entries → roll.by ≡ by → new.entries ≡ ready.entries ++ next_roll ready.frame.first ready.entries roll.by ∷ []
+    → new.entries ≡ plant.entries ++ next_roll plant.frame.first plant.entries by ∷ []
+roll_made plant ready new roll by frame entries own made = made ∙ (λ i. entries i ++ next_roll (frame i).first (entries i) (own i) ∷ [])

@@ -1,9 +1,11 @@
 -- What an access (the way of one pass to the plant) shows, and what its calls change.
-use Rattle.std.specs.Prelude.{◌≡◌, ℕ, ℤ, ◌+◌, ◌<◌, ◌≤◌, ◌^◌, Bool, true, false, List, [], ◌∷◌, ◌++◌, length, min, drop, Option, Result, Ok, Err}
+use Rattle.std.specs.Prelude.{◌≡◌, ℕ, ℤ, ◌+◌, ◌<◌, ◌≤◌, ◌^◌, Bool, true, false, List, [], ◌∷◌, ◌++◌, length, min, drop, Option, Some, Result, Ok, Err}
 use Rattle.q_values.specs.Tree.{Tree, trees}
 use Rattle.q_values.specs.declared.refusal.NoMemory.{NoMemory}
 use Rattle.day_rows.specs.Chronicle.{date_of}
 use Rattle.day_rows.specs.declared.entry.Entry.{Entry}
+use Rattle.day_rows.specs.declared.entry.Entry.TheVariants as e
+use Rattle.plant_core.specs.Chronicle.{last_fault}
 use Rattle.plant_core.specs.Frame.{Frame}
 use Rattle.plant_core.specs.Plant.{PlantView, SnapshotView, next_roll, roll_place}
 use Rattle.plant_core.specs.Turns.{IsRefusal}
@@ -11,7 +13,7 @@ use Rattle.plant_core.specs.Verdict.{accepts, is_next_day, verdict}
 use Rattle.plant_core.specs.declared.access.TickTurn.{TickTurn}
 use Rattle.plant_core.specs.declared.access.TickTurn.TheVariants as t
 use Rattle.plant_core.specs.declared.access.UpdTurn.{UpdTurn}
-use Rattle.plant_core.specs.declared.access.UpdTurn.TheVariants.{Logged, Refused}
+use Rattle.plant_core.specs.declared.access.UpdTurn.TheVariants.{Logged, Refused, Failed}
 use Rattle.plant_core.specs.declared.refusal.UpdRefusal.{UpdRefusal}
 use Rattle.plant_core.specs.declared.request.UpdRequest.{UpdRequest}
 
@@ -56,10 +58,27 @@ pub record Looks (old new : AccessView) (table : List ℕ) (items : List Tree) (
   pub length : length_now ≡ length (old.seen ++ others)
   pub after : new ≡ record old { seen = old.seen ++ others }
 
+-- an update was accepted, and the disk failed at an entry that the verdict adds: those before it were made, and then a fault; a
+-- roll, if it was made, has the index `rolled`, and the fault the index `place`
+pub record Fails (old new : AccessView) (table : List ℕ) (items : List Tree) (now : ℤ) (rolled : Option ℕ) (place : ℕ) : Type 0 where
+  pub others : List Entry
+  pub saw : SeesMore old others
+  pub before : List Entry
+  pub failed : Entry
+  pub rest : List Entry
+  pub accepted : verdict old.frame old.by (old.seen ++ others) table items now ≡ accepts (before ++ failed ∷ rest)
+  pub rolled_is : rolled ≡ roll_place (length (old.seen ++ others)) before
+  pub last : place ≡ length ((old.seen ++ others) ++ before)
+  pub after : new ≡ record old {
+    seen = (old.seen ++ others) ++ before ++ e.Fault old.by ∷ [];
+    mine = old.mine ++ before ++ e.Fault old.by ∷ [];
+  }
+
 -- what a call of `upd` changes and answers
 abbrev pub Updates : AccessView → AccessView → UpdRequest → ℤ → UpdTurn → Type 0
 Updates old new request now (Logged rolled place) = Logs old new request.table (trees request.items) now rolled place
 Updates old new request now (Refused length why) = Looks old new request.table (trees request.items) now length why
+Updates old new request now (Failed rolled place) = Fails old new request.table (trees request.items) now rolled place
 
 -- the moment's date isn't the one after the open date: nothing was made
 pub record Waits (old new : AccessView) (now : ℤ) (length_now : ℕ) : Type 0 where
@@ -81,6 +100,18 @@ pub record Rolls (old new : AccessView) (now : ℤ) (place : ℕ) : Type 0 where
     ticks = next_count old.ticks;
   }
 
+-- a roll was due, and the disk failed at it: a fault was made, with this index
+pub record FailsRoll (old new : AccessView) (now : ℤ) (place : ℕ) : Type 0 where
+  pub others : List Entry
+  pub saw : SeesMore old others
+  pub due : is_next_day (date_of old.frame.first (old.seen ++ others)) now ≡ true
+  pub at_end : place ≡ length (old.seen ++ others)
+  pub after : new ≡ record old {
+    seen = (old.seen ++ others) ++ e.Fault old.by ∷ [];
+    mine = old.mine ++ e.Fault old.by ∷ [];
+    ticks = next_count old.ticks;
+  }
+
 -- a roll was due, and the access was out of memory: nothing was made
 pub record Wants (old new : AccessView) (now : ℤ) : Type 0 where
   pub others : List Entry
@@ -92,6 +123,7 @@ pub record Wants (old new : AccessView) (now : ℤ) : Type 0 where
 abbrev pub Ticks : AccessView → AccessView → ℤ → TickTurn → Type 0
 Ticks old new now (t.Quiet length) = Waits old new now length
 Ticks old new now (t.Rolled place) = Rolls old new now place
+Ticks old new now (t.Failed place) = FailsRoll old new now place
 Ticks old new now t.NoMemory = Wants old new now
 
 -- a snapshot was asked for; the access saw what the others made
@@ -117,7 +149,9 @@ access_of plant by began snapshots ticks = record {
   ticks = ticks;
 }
 
--- the pass has a number of its own, and began when the plant had no more entries than now
-pub record IsSolo (plant : PlantView) (by began : ℕ) : Type 0 where
+-- the pass has a number of its own, and began when the plant had no more entries than now; its last fault, if there is one, has the
+-- index `latest`
+pub record IsSolo (plant : PlantView) (by began latest : ℕ) : Type 0 where
   pub few : by + 1 < 2 ^ 64
   pub within : began ≤ length plant.entries
+  pub latest_is : (place : ℕ) → last_fault by plant.entries ≡ Some place → latest ≡ place

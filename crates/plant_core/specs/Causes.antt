@@ -1,5 +1,5 @@
 -- Why an update is refused: each cause in the order in which they are judged.
-use Rattle.std.specs.Prelude.{ℕ, ℤ, ◌+◌, not, Bool, true, false, if◌then◌else◌, List, [], ◌∷◌, ◌++◌, length, Option, Some, None}
+use Rattle.std.specs.Prelude.{ℕ, ℤ, ◌+◌, not, Bool, if◌then◌else◌, List, [], ◌∷◌, ◌++◌, length, Option, Some, None}
 use Rattle.std.specs.List.{list_any}
 use Rattle.std.specs.Str.{bytes_eq}
 use Rattle.q_values.specs.Tree.{Tree}
@@ -41,7 +41,7 @@ causes_of frame chronicle name items now =
     ∷ (r.Length, not (have_matching_lengths (length (kinds_of name frame.schema)) items))
     ∷ wrong_types 0 (kinds_of name frame.schema) items
     ++ (r.MoreThanOneDay, is_past_next_day (date_of frame.first chronicle) now)
-    ∷ (r.Limit, is_beyond frame.limits (rows_before (date_of frame.first chronicle) chronicle now) items)
+    ∷ (r.Limit, is_beyond frame.limits (rows_before (date_of frame.first chronicle) chronicle now) name items)
     ∷ []
 
 -- each cause with whether it holds, for an update of a table with these items at this moment

@@ -1,5 +1,5 @@
 -- What a chronicle shows: its dates, the entries of its open date, the numbers of its passes.
-use Rattle.std.specs.Prelude.{ℕ, ℤ, ◌+◌, List, [], ◌∷◌, drop, max, filter, slice_index_or}
+use Rattle.std.specs.Prelude.{ℕ, ℤ, ◌+◌, ◌==◌, if◌then◌else◌, Option, Some, None, List, [], ◌∷◌, drop, max, filter, slice_index_or}
 use Rattle.std.specs.Int.{int_div_euclid, int_rem_euclid}
 use Rattle.std.specs.Ordering.{int_eq}
 use Rattle.q_values.specs.Time.{day_nanoseconds}
@@ -36,6 +36,17 @@ abbrev pub by_of : Entry → ℕ
 by_of (e.Upd by table columns) = by
 by_of (e.Roll by date) = by
 by_of (e.Fault by) = by
+
+-- the index of the last fault that a pass made, where the first of the entries has the index `i`; or the one found so far
+abbrev pub last_fault_from : ℕ → ℕ → Option ℕ → List Entry → Option ℕ
+last_fault_from by i found [] = found
+last_fault_from by i found (e.Upd own table columns ∷ entries) = last_fault_from by (i + 1) found entries
+last_fault_from by i found (e.Roll own date ∷ entries) = last_fault_from by (i + 1) found entries
+last_fault_from by i found (e.Fault own ∷ entries) = last_fault_from by (i + 1) (if own == by then Some i else found) entries
+
+-- the index of the last fault that a pass made
+abbrev pub last_fault : ℕ → List Entry → Option ℕ
+last_fault by = last_fault_from by 0 None
 
 -- the greatest pass number of the entries, 0 where there are none
 abbrev pub top_by : List Entry → ℕ

@@ -1,5 +1,5 @@
 -- The dates of a plant, in order, and the chronicle that they hold.
-use Rattle.std.specs.Prelude.{◌≡◌, ◌<◌, ◌+◌, ◌^◌, ℕ, ℤ, List, [], ◌∷◌, ◌++◌, length, Some, slice_get}
+use Rattle.std.specs.Prelude.{◌≡◌, ◌<◌, ◌+◌, ◌^◌, ℕ, ℤ, List, [], ◌∷◌, ◌++◌, length, Bool, Some, slice_get}
 use Rattle.std.specs.Ordering.{int_cmp}
 use Rattle.std.specs.declared.cmp.Ordering.TheVariants.{Less}
 use Rattle.q_values.specs.declared.kind.Kind.{Kind}
@@ -7,28 +7,38 @@ use Rattle.day_rows.specs.Day.{Day, Opened, IsDay, total_rows}
 use Rattle.day_rows.specs.declared.entry.Entry.{Entry}
 use Rattle.day_rows.specs.declared.entry.Entry.TheVariants as e
 use Rattle.plant_core.specs.Chronicle.{index_after_roll, top_by}
+use Rattle.plant_core.specs.Faults.{FaultsView, woven, covered}
+use Rattle.plant_core.specs.declared.faults.Mark.{Mark}
 
--- a date that has ended, the pass that ended it, and the date that was opened then
+-- a date that has ended, its faults, the pass that ended it, and the date that was opened then
 pub record Past : Type 0 where
   pub day : Day
+  pub marks : List Mark
   pub by : ℕ
   pub next : ℤ
 
--- the updates of the ended dates, each followed by its roll, and those of the open one
+-- the updates and faults of the ended dates, each date followed by its roll, and those of the open one
 abbrev pub chronicle_of : List Past → List Entry → List Entry
 chronicle_of [] current = current
-chronicle_of (past ∷ pasts) current = past.day.updates ++ e.Roll past.by past.next ∷ chronicle_of pasts current
+chronicle_of (past ∷ pasts) current = woven past.marks past.day.updates ++ e.Roll past.by past.next ∷ chronicle_of pasts current
 
--- what the dates stand for: the first date, the kinds of each table's columns, the chronicle, and the update that room was
--- made for
+-- what the dates stand for: the first date, the kinds of each table's columns, the chronicle, the update that room was made
+-- for, and whether there is room for a fault
 pub record HistoryView : Type 0 where
   pub first : ℤ
   pub kinds : List (List Kind)
   pub entries : List Entry
   pub room : List Entry
+  pub spare : Bool
 
-abbrev pub history_of : ℤ → List Past → Opened → HistoryView
-history_of first pasts opened = record { first = first; kinds = opened.day.kinds; entries = chronicle_of pasts opened.day.updates; room = opened.room }
+abbrev pub history_of : ℤ → List Past → Opened → FaultsView → HistoryView
+history_of first pasts opened faults = record {
+  first = first;
+  kinds = opened.day.kinds;
+  entries = chronicle_of pasts (woven faults.marks opened.day.updates);
+  room = opened.room;
+  spare = faults.spare;
+}
 
 -- each date is the one that was opened, of the same tables, and each roll opens a later one
 abbrev pub Follow : List (List Kind) → ℤ → List Past → Day → Type 0
@@ -37,12 +47,13 @@ Follow kinds date (past ∷ pasts) current =
     (past.day.date ≡ date) × (past.day.kinds ≡ kinds) × IsDay past.day × (int_cmp date past.next ≡ Less) × Follow kinds past.next pasts current
 
 -- the dates follow each other, and the counts are those of the chronicle
-pub record IsHistory (first : ℤ) (pasts : List Past) (current : Day) (count opened_at rows top : ℕ) : Type 0 where
+pub record IsHistory (first : ℤ) (pasts : List Past) (current : Day) (marks : List Mark) (since count opened_at rows top : ℕ) : Type 0 where
   pub follow : Follow current.kinds first pasts current
-  pub count_is : count ≡ length (chronicle_of pasts current.updates)
-  pub opened_is : opened_at ≡ index_after_roll (chronicle_of pasts current.updates)
+  pub since_is : covered marks + since ≡ length current.updates
+  pub count_is : count ≡ length (chronicle_of pasts (woven marks current.updates))
+  pub opened_is : opened_at ≡ index_after_roll (chronicle_of pasts (woven marks current.updates))
   pub rows_is : rows ≡ total_rows current.updates
-  pub top_is : top ≡ top_by (chronicle_of pasts current.updates)
+  pub top_is : top ≡ top_by (chronicle_of pasts (woven marks current.updates))
   pub few : top + 1 < 2 ^ 64
 
 -- a table has a column with this index, of this kind

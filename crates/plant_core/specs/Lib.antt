@@ -1,6 +1,7 @@
 pub mod Access
 pub mod Causes
 pub mod Chronicle
+pub mod Faults
 pub mod Frame
 pub mod History
 pub mod Items

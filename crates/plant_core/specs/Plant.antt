@@ -1,24 +1,26 @@
 -- What a plant shows, and what its calls change.
-use Rattle.std.specs.Prelude.{◌≡◌, ◌<◌, ◌+◌, ◌^◌, ◌+ℤ◌, ◌<ℤ◌, ℕ, ℤ, pos, Bool, true, if◌then◌else◌, List, [], ◌∷◌, ◌++◌, length, map, Option, Some, None}
+use Rattle.std.specs.Prelude.{◌≡◌, ◌<◌, ◌≤◌, ◌+◌, ◌^◌, ◌+ℤ◌, ◌<ℤ◌, ℕ, ℤ, pos, Bool, true, if◌then◌else◌, List, [], ◌∷◌, ◌++◌, length, map, Option, Some, None}
 use Rattle.q_values.specs.Limits.{AreLimits}
 use Rattle.q_values.specs.Tree.{Tree}
 use Rattle.q_values.specs.declared.kind.Kind.{Kind}
 use Rattle.q_values.specs.declared.limits.Limits.{Limits}
 use Rattle.day_rows.specs.Chronicle.{date_of}
-use Rattle.day_rows.specs.Day.{Opened, IsUpdate, opened_of}
+use Rattle.day_rows.specs.Day.{Opened, IsUpdate, entry_rows, opened_of}
 use Rattle.day_rows.specs.declared.entry.Entry.{Entry}
 use Rattle.day_rows.specs.declared.entry.Entry.TheVariants as e
 use Rattle.day_rows.specs.declared.schema.Shape.{Shape}
+use Rattle.tick_log.specs.Chunk.{IsChunk}
 use Rattle.plant_core.specs.Chronicle.{by_of}
 use Rattle.plant_core.specs.Frame.{Frame}
 use Rattle.plant_core.specs.History.{HistoryView, IsColumn}
 use Rattle.plant_core.specs.Verdict.{accepts, roll_due, verdict}
 
--- a plant: what no call changes, the chronicle, and the update that room was made for
+-- a plant: what no call changes, the chronicle, the update that room was made for, and whether there is room for a fault
 pub record PlantView : Type 0 where
   pub frame : Frame
   pub entries : List Entry
   pub room : List Entry
+  pub spare : Bool
 
 -- a prepared update: the plant's frame and chronicle when it was prepared, whether a roll is due before it, the pass that
 -- asked for it, and its entry
@@ -59,7 +61,7 @@ pub record Prepares (old new : PlantView) (by : ℕ) (table : List ℕ) (items :
   pub entries : update.entries ≡ old.entries
   pub own : update.by ≡ by
   pub early : update.rolls ≡ true → date_of old.frame.first old.entries <ℤ pos 106751
-  pub after : new ≡ record old { room = if update.rolls then old.room else update.entry ∷ [] }
+  pub after : new ≡ record old { room = if update.rolls then old.room else update.entry ∷ []; spare = true }
 
 -- the index of the roll, if the entries, the first of which has the index `place`, begin with one
 abbrev pub roll_place : ℕ → List Entry → Option ℕ
@@ -80,19 +82,25 @@ abbrev pub frame_of : List Shape → Limits → HistoryView → Frame
 frame_of schema limits history = record { schema = schema; first = history.first; limits = limits }
 
 abbrev pub plant_of : List Shape → Limits → HistoryView → PlantView
-plant_of schema limits history = record { frame = frame_of schema limits history; entries = history.entries; room = history.room }
+plant_of schema limits history = record {
+  frame = frame_of schema limits history;
+  entries = history.entries;
+  room = history.room;
+  spare = history.spare;
+}
 
 -- the dates are of the schema's tables
 pub record IsPlant (schema : List Shape) (limits : Limits) (history : HistoryView) : Type 0 where
   pub limits_are : AreLimits limits
   pub kinds_are : history.kinds ≡ kinds_of schema
 
--- what a prepared update holds: its entry, and the next date with room for it where a roll is due
-pub record IsPrepared (of : PlantView) (by : ℕ) (entry : Entry) (fresh : Option Opened) : Type 0 where
+-- what a prepared update holds: its entry, its log record, and the next date with room for it where a roll is due
+pub record IsPrepared (of : PlantView) (by : ℕ) (entry : Entry) (fresh : Option Opened) (chunk : List ℕ) : Type 0 where
   pub few : length of.entries < 2 ^ 63
   pub own : by_of entry ≡ by
   pub by_few : by + 1 < 2 ^ 64
   pub update : IsUpdate (kinds_of of.frame.schema) entry
+  pub chunk_is : (before : ℕ) → before + entry_rows entry ≤ 4294967295 → IsChunk of.frame.schema before chunk entry
   pub fresh_is :
       (opened : Opened) → fresh ≡ Some opened
       → opened ≡ opened_of (date_of of.frame.first of.entries +ℤ pos 1) (kinds_of of.frame.schema) [] (entry ∷ [])
@@ -105,6 +113,7 @@ pub record IsPreparedRoll (of : PlantView) (by : ℕ) (next : HistoryView) : Typ
     kinds = kinds_of of.frame.schema;
     entries = of.entries ++ next_roll of.frame.first of.entries by ∷ [];
     room = [];
+    spare = true;
   }
 
 -- a table of the schema has a column with this index, of this kind

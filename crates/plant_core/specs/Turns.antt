@@ -36,13 +36,13 @@ Rules schema limits by date rows name items now (Ok judged) =
 Rules schema limits by date rows name items now (Err why) = IsRefusal (ruling schema limits by date rows name items now) why
 
 -- the same for items, with their time, that are judged for a table
-abbrev pub RulesItems : Limits → ℕ → ℤ → ℕ → ℤ → ℕ → List Kind → List Tree → Result Judged UpdRefusal → Type 0
-RulesItems limits by date rows now table kinds items (Ok judged) =
+abbrev pub RulesItems : Limits → ℕ → ℤ → ℕ → ℤ → List ℕ → ℕ → List Kind → List Tree → Result Judged UpdRefusal → Type 0
+RulesItems limits by date rows now name table kinds items (Ok judged) =
     (tables : List (List Kind)) → slice_get tables table ≡ Some kinds
-    → Passes limits by date rows now tables (items_judged limits by date rows now (table, kinds) items) judged
-RulesItems limits by date rows now table kinds items (Err why) = IsRefusal (items_judged limits by date rows now (table, kinds) items) why
+    → Passes limits by date rows now tables (items_judged limits by date rows now name (table, kinds) items) judged
+RulesItems limits by date rows now name table kinds items (Err why) = IsRefusal (items_judged limits by date rows now name (table, kinds) items) why
 
--- the index of the first table with this name, or that none has it
+-- the index of the first table with this name, or none where no table has it
 abbrev pub FindsTable : List Shape → List ℕ → Option ℕ → Type 0
 FindsTable schema name None = table_from 0 name schema ≡ None
-FindsTable schema name (Some i) = (shape : Shape) × (slice_get schema i ≡ Some shape) × (table_from 0 name schema ≡ Some (i, shape.kinds))
+FindsTable schema name (Some i) = (shape : Shape) × (slice_get schema i ≡ Some shape) × (shape.table ≡ name) × (table_from 0 name schema ≡ Some (i, shape.kinds))

@@ -41,11 +41,11 @@ table_from i name [] = None
 table_from i name (shape ∷ shapes) = if bytes_eq shape.table name then Some (i, shape.kinds) else table_from (i + 1) name shapes
 
 -- the date and the limits are judged last; `rows` is the number of rows of the open date
-abbrev pub dated : Limits → ℕ → ℤ → ℕ → ℤ → ℕ → List Tree → Verdict
-dated limits by date rows now table items =
+abbrev pub dated : Limits → ℕ → ℤ → ℕ → ℤ → List ℕ → ℕ → List Tree → Verdict
+dated limits by date rows now name table items =
     let rolls = is_next_day date now in
     if is_past_next_day date now then refuses r.MoreThanOneDay
-    else if is_beyond limits (if rolls then 0 else rows) items then refuses r.Limit
+    else if is_beyond limits (if rolls then 0 else rows) name items then refuses r.Limit
     else accepts (roll_due rolls by date ++ e.Upd by table (columns_of items) ∷ [])
 
 -- the kinds are judged, and then the rest
@@ -53,10 +53,10 @@ abbrev pub kinds_judged : Option ℕ → Verdict → Verdict
 kinds_judged (Some column) rest = refuses (r.WrongType column)
 kinds_judged None rest = rest
 
--- the items, with their time, are judged for a table
-abbrev pub items_judged : Limits → ℕ → ℤ → ℕ → ℤ → ℕ × List Kind → List Tree → Verdict
-items_judged limits by date rows now table items =
-    if have_matching_lengths (length table.1) items then kinds_judged (wrong_from 0 table.1 items) (dated limits by date rows now table.0 items)
+-- the items, with their time, are judged for a table of this name
+abbrev pub items_judged : Limits → ℕ → ℤ → ℕ → ℤ → List ℕ → ℕ × List Kind → List Tree → Verdict
+items_judged limits by date rows now name table items =
+    if have_matching_lengths (length table.1) items then kinds_judged (wrong_from 0 table.1 items) (dated limits by date rows now name table.0 items)
     else refuses r.Length
 
 abbrev pub table_judged : List ℕ → Option (ℕ × List Kind) → (ℕ × List Kind → Verdict) → Verdict
@@ -66,7 +66,7 @@ table_judged name (Some table) judged = judged table
 -- what becomes of an update, where this date is open and has `rows` rows
 abbrev pub ruling : List Shape → Limits → ℕ → ℤ → ℕ → List ℕ → List Tree → ℤ → Verdict
 ruling schema limits by date rows name items now =
-    table_judged name (table_from 0 name schema) (λ table. items_judged limits by date rows now table (timed (time_of_day now) items))
+    table_judged name (table_from 0 name schema) (λ table. items_judged limits by date rows now name table (timed (time_of_day now) items))
 
 -- what becomes of an update that the pass `by` asks for, of a table with these items at this moment
 abbrev pub verdict : Frame → ℕ → List Entry → List ℕ → List Tree → ℤ → Verdict

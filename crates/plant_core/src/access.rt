@@ -1,5 +1,6 @@
 //! How a session reaches the plant: the trait [`Access`] and what its calls answer.
-ghost use Rattle.std.specs.Prelude.{◌≡◌};
+ghost use Rattle.std.specs.Prelude.{◌≡◌, ℕ, Some};
+ghost use Rattle.plant_core.specs.Chronicle.{last_fault};
 
 use crate::refusal::UpdRefusal;
 use crate::request::UpdRequest;
@@ -26,6 +27,13 @@ pub enum UpdTurn {
         /// The first reason that holds.
         why: UpdRefusal,
     },
+    /// The disk failed, and the update was not logged. After a crash or a restart it may be found in the log all the same.
+    Failed {
+        /// The index of the roll that was made before the disk failed, where one was due and was made.
+        rolled: Option<u64>,
+        /// The index of the fault in the chronicle.
+        place: u64,
+    },
 }
 
 /// What became of a look at the clock.
@@ -39,6 +47,11 @@ pub enum TickTurn {
     /// A roll was due, and was made.
     Rolled {
         /// The index of its entry in the chronicle.
+        place: u64,
+    },
+    /// A roll was due, and the disk failed at it.
+    Failed {
+        /// The index of the fault in the chronicle.
         place: u64,
     },
     /// A roll was due, and there was no memory for it; nothing was made.
@@ -71,4 +84,9 @@ pub trait Access {
     /// A snapshot of the whole chronicle. The error is that it is out of memory.
     fn snapshot<R: Wait>(&mut self, rt: &R, alloc: Global) -> Result<Snapshot, NoMemory>
         ensures { Snaps (shown self.old) (shown self.new) result };
+
+    /// The index of the last fault that this pass made. There is one.
+    fn last_fault(&self) -> u64
+        requires { (place : ℕ) × (last_fault (shown self.now).by (shown self.now).seen ≡ Some place) }
+        ensures { last_fault (shown self.now).by (shown self.now).seen ≡ Some result };
 }

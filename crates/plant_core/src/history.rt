@@ -1,5 +1,5 @@
 //! The dates of a plant: those that have ended, which snapshots share, and the open one.
-ghost use Rattle.std.specs.Prelude.{◌≡◌, ◌<◌, ◌≤◌, ◌+◌, ◌-◌, ◌^◌, ◌<ℤ◌, ◌+ℤ◌, pos, [], ◌∷◌, ◌++◌, length, map, take, drop};
+ghost use Rattle.std.specs.Prelude.{◌≡◌, ◌<◌, ◌≤◌, ◌+◌, ◌-◌, ◌^◌, ◌<ℤ◌, ◌+ℤ◌, pos, [], ◌∷◌, ◌++◌, length, map, take, drop, true};
 ghost use Rattle.std.specs.Prelude.{IfOk, OnOk, OnErr, Some, slice_get, slice_index_or};
 ghost use Rattle.std.specs.List.{AllByRecursion};
 ghost use Rattle.q_values.specs.declared.kind.Kind.{Kind};
@@ -9,6 +9,7 @@ ghost use Rattle.day_rows.specs.Rows.{column_of};
 ghost use Rattle.plant_core.specs.Chronicle.{by_of, index_after_roll, today, top_by, dates_of, date_at, rows_at, update_count};
 ghost use Rattle.plant_core.specs.History.{IsColumn};
 
+use crate::faults::Faults;
 use day_rows::{ClosedDay, Entries, Entry, OpenDay, Schema};
 use q_values::{NoMemory, Vector};
 use std::alloc::Global;
@@ -20,6 +21,8 @@ use std::sync::Arc;
 pub struct Ended {
     // the date's updates and columns, shared with snapshots
     day: Arc<ClosedDay>,
+    // the date's faults, shared too
+    faults: Arc<Faults>,
     // the number of the pass that ended it
     by: u64,
     // the later date that was opened then, in days since 2000.01.01
@@ -31,7 +34,7 @@ impl Model for Ended {
 
     ghost Value = { Past };
 
-    ghost view = { λ d. record { day = d.day.value; by = d.by; next = d.next } };
+    ghost view = { λ d. record { day = d.day.value; marks = d.faults.value.marks; by = d.by; next = d.next } };
 }
 
 impl Ended {
@@ -48,6 +51,7 @@ impl Ended {
     {
         Ok(Ended {
             day: self.day.clone()?,
+            faults: self.faults.clone()?,
             by: self.by,
             next: self.next,
         })
@@ -63,7 +67,9 @@ pub struct History {
     ended: Vec<Ended>,
     // the open date
     current: OpenDay,
-    // the number of entries of the chronicle, rolls included
+    // the faults of the open date
+    faults: Faults,
+    // the number of entries of the chronicle, rolls and faults included
     length: u64,
     // the index of the first entry after the last roll, or 0 where there is no roll
     opened_at: u64,
@@ -78,9 +84,9 @@ impl Model for History {
 
     ghost Value = { HistoryView };
 
-    ghost view = { λ h. history_of h.first h.ended.items h.current };
+    ghost view = { λ h. history_of h.first h.ended.items h.current h.faults };
 
-    ghost invariant = { λ h. IsHistory h.first h.ended.items h.current.day h.length h.opened_at h.rows h.top_by };
+    ghost invariant = { λ h. IsHistory h.first h.ended.items h.current.day h.faults.marks h.faults.since h.length h.opened_at h.rows h.top_by };
 }
 
 fn by_of(entry: &Entry) -> u64
@@ -148,6 +154,7 @@ impl History {
           kinds = map (λ shape. shape.kinds) schema.now;
           entries = [];
           room = [];
+          spare = true;
         }) }
     {
         let current = OpenDay::new(alloc, schema, date)?;
@@ -155,6 +162,7 @@ impl History {
             first: current.date(),
             ended: Vec::new(alloc),
             current,
+            faults: Faults::new(alloc)?,
             length: 0,
             opened_at: 0,
             rows: 0,
@@ -215,6 +223,14 @@ impl History {
         self.current.reserve(entries)
     }
 
+    /// Makes room for a fault. An error changes nothing.
+    pub fn reserve_fault(&mut self) -> Result<(), NoMemory>
+        ensures ok { OnOk result (self.new ≡ record self.old { spare = true }) }
+        ensures err { OnErr result (self.new ≡ self.old) }
+    {
+        self.faults.reserve()
+    }
+
     /// Appends an entry: the next of those that room was made for. It takes no memory.
     pub fn push(&mut self, entry: Entry)
         requires room { take 1 self.old.room ≡ entry ∷ [] }
@@ -230,12 +246,29 @@ impl History {
         self.current.push(entry);
         // The contract of this call says that the day's rows fit 32 bits.
         let _date = self.current.date();
+        self.faults.count_update();
         self.length += 1;
         self.rows += rows;
         self.top_by = self.top_by.max(by);
     }
 
-    /// The dates as they will be once this pass has ended the open one. The contents of ended dates are shared.
+    /// Appends a fault of this pass, for which room was made. It takes no memory.
+    pub fn push_fault(&mut self, by: u64)
+        requires room { self.old.spare ≡ true }
+        requires few { length self.old.entries + 1 < 2 ^ 64 }
+        requires by { by + 1 < 2 ^ 64 }
+        ensures { self.new ≡ record self.old {
+          entries = self.old.entries ++ Entry.Fault by ∷ [];
+          spare = self.new.spare;
+        } }
+    {
+        self.faults.push(by);
+        self.length += 1;
+        self.top_by = self.top_by.max(by);
+    }
+
+    /// The dates as they will be once this pass has ended the open one, with room for a fault. The contents of ended dates are
+    /// shared.
     pub fn rolled(&self, alloc: Global, schema: &Schema, by: u64) -> Result<History, NoMemory>
         requires schema { self.now.kinds ≡ map (λ shape. shape.kinds) schema.now }
         requires date { date_of self.now.first self.now.entries <ℤ pos 106751 }
@@ -244,16 +277,23 @@ impl History {
         ensures { IfOk result (λ rolled. rolled ≡ record self.now {
           entries = self.now.entries ++ Entry.Roll by (date_of self.now.first self.now.entries +ℤ pos 1) ∷ [];
           room = [];
+          spare = true;
         }) }
     {
         let next = next_date(self.date());
-        let day = closed(alloc, &self.current)?;
-        let ended = shared_with(alloc, &self.ended, Ended { day, by, next })?;
+        let last = Ended {
+            day: closed(alloc, &self.current)?,
+            faults: Arc::new(alloc, self.faults.copy(alloc)?)?,
+            by,
+            next,
+        };
+        let ended = shared_with(alloc, &self.ended, last)?;
         let current = OpenDay::new(alloc, schema, next)?;
         Ok(History {
             first: self.first,
             ended,
             current,
+            faults: Faults::new(alloc)?,
             length: self.length + 1,
             opened_at: self.length + 1,
             rows: 0,
@@ -261,7 +301,7 @@ impl History {
         })
     }
 
-    /// Replaces the open day. Both days are of one date, and without updates. It takes no memory.
+    /// Replaces the open day, which has no entries yet. Both days are of one date, and without updates. It takes no memory.
     pub fn replace(&mut self, fresh: OpenDay)
         requires date { fresh.day.date ≡ date_of self.old.first self.old.entries }
         requires kinds { fresh.day.kinds ≡ self.old.kinds }
@@ -273,9 +313,9 @@ impl History {
         self.current = fresh;
     }
 
-    /// Equal dates, without room. The contents of ended dates are shared.
+    /// Equal dates, without room for updates. The contents of ended dates are shared.
     pub fn copy(&self, alloc: Global) -> Result<History, NoMemory>
-        ensures { IfOk result (λ copied. copied ≡ record self.now { room = [] }) }
+        ensures { IfOk result (λ copied. copied ≡ record self.now { room = []; spare = copied.spare }) }
     {
         let ended = shared(alloc, &self.ended, 0)?;
         let current = self.current.copy(alloc)?;
@@ -283,6 +323,7 @@ impl History {
             first: self.first,
             ended,
             current,
+            faults: self.faults.copy(alloc)?,
             length: self.length,
             opened_at: self.opened_at,
             rows: self.rows,
@@ -325,7 +366,7 @@ impl History {
     pub fn updates_today(&self) -> u64
         ensures { result ≡ update_count (today self.now.entries) }
     {
-        self.length - self.opened_at
+        self.length - self.opened_at - self.faults.len() as u64
     }
 
     /// The `n` atoms of a table's column from the row `from` on, on the date with the index `k`, in the documented order.

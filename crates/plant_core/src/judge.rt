@@ -1,5 +1,5 @@
 //! Judges updates: the first refusal that holds, or the update as it may be logged.
-ghost use Rattle.std.specs.Prelude.{◌≡◌, ◌<◌, ◌≤◌, ◌+◌, ℕ, [], ◌∷◌, length, map, Some, None, slice_get, MatchOption, IfOk};
+ghost use Rattle.std.specs.Prelude.{◌≡◌, ◌<◌, ◌≤◌, ◌+◌, ℕ, [], ◌∷◌, length, map, nat_lt, Some, None, slice_get, MatchOption, IfOk};
 ghost use Rattle.q_values.specs.Tree.{tree, trees};
 ghost use Rattle.q_values.specs.Limits.{AreLimits};
 ghost use Rattle.day_rows.specs.declared.schema.Shape.{Shape};
@@ -7,7 +7,8 @@ ghost use Rattle.day_rows.specs.Day.{AreTableKinds};
 ghost use Rattle.plant_core.specs.Chronicle.{time_of_day};
 ghost use Rattle.std.specs.Str.{bytes_eq};
 ghost use Rattle.plant_core.specs.Items.{timed};
-ghost use Rattle.plant_core.specs.Limit.{is_beyond};
+ghost use Rattle.plant_core.specs.Limit.{HasLogRecord, holds_too_much};
+ghost use Rattle.tick_log.specs.Chunk.{IsLoggable, chunk_bytes, no_pass};
 ghost use Rattle.plant_core.specs.Turns.{IsRefusal, Rules, RulesItems, FindsTable};
 ghost use Rattle.plant_core.specs.Verdict.{is_next_day, is_past_next_day, table_from, refuses};
 
@@ -18,8 +19,9 @@ use crate::items::{
 use crate::refusal::UpdRefusal;
 use crate::request::UpdRequest;
 use day_rows::{Entry, Kinds, Schema};
-use q_values::{Kind, Limits, NANOSECONDS_PER_DAY, Sym, Value};
+use q_values::{Kind, Limits, NANOSECONDS_PER_DAY, Sym, Value, Vector};
 use std::alloc::Global;
+use tick_log::chunk_length;
 
 /// What an update is judged by, besides the request itself.
 #[derive(Clone, Copy)]
@@ -32,6 +34,17 @@ pub struct Standing {
     pub rows: u64,
     /// The moment, in nanoseconds since 2000.01.01.
     pub moment: i64,
+}
+
+/// The table of an update.
+#[derive(Clone, Copy)]
+pub struct Target<'a> {
+    /// Its name.
+    pub name: &'a Sym,
+    /// Its index in the schema.
+    pub index: u32,
+    /// The kinds of its columns.
+    pub kinds: &'a [Kind],
 }
 
 /// An update that may be logged.
@@ -56,9 +69,9 @@ fn is_past_next_day(date: i32, now: i64) -> bool
     now.div_euclid(NANOSECONDS_PER_DAY) > i64::from(date) + 1
 }
 
-fn is_beyond(limits: &Limits, rows: u64, first: &Value, others: &[Value]) -> bool
+fn holds_too_much(limits: &Limits, rows: u64, first: &Value, others: &[Value]) -> bool
     requires { AreLimits limits.now }
-    ensures { result ≡ is_beyond limits.now rows (tree first.now ∷ map tree others.now) }
+    ensures { result ≡ holds_too_much limits.now rows (tree first.now ∷ map tree others.now) }
 {
     if has_long_symbol(limits.symbol as usize, first, others) {
         return true;
@@ -67,25 +80,33 @@ fn is_beyond(limits: &Limits, rows: u64, first: &Value, others: &[Value]) -> boo
     rows > limits.day_rows || more > limits.day_rows - rows
 }
 
+// Whether the log record of an update of this table with these columns would be longer than the limit.
+fn is_long_record(limits: &Limits, name: &Sym, columns: &[Vector]) -> bool
+    requires { AreLimits limits.now }
+    ensures { result ≡ nat_lt limits.now.chunk (length (chunk_bytes 0 name.now columns.now)) }
+{
+    chunk_length(name, columns) > limits.chunk as usize
+}
+
 // The update that the items make, or the first refusal. The first item is the time.
 fn judge_items(
     alloc: Global,
     limits: &Limits,
     standing: &Standing,
-    table: u32,
-    kinds: &[Kind],
+    target: &Target,
     first: &Value,
     others: &[Value],
 ) -> Result<Judged, UpdRefusal>
     requires lawful { AreLimits limits.now }
-    requires few { length kinds.now ≤ 48 }
-    ensures { RulesItems limits.now standing.now.by standing.now.date standing.now.rows standing.now.moment
-        table kinds.now (tree first.now ∷ map tree others.now) result }
+    requires few { length target.now.kinds.now ≤ 48 }
+    ensures rules { RulesItems limits.now standing.now.by standing.now.date standing.now.rows standing.now.moment
+        target.now.name.now target.now.index target.now.kinds.now (tree first.now ∷ map tree others.now) result }
+    ensures fits { IfOk result (HasLogRecord standing.now.by target.now.name.now target.now.index target.now.kinds.now) }
 {
-    if !have_matching_lengths(kinds.len(), first, others) {
+    if !have_matching_lengths(target.kinds.len(), first, others) {
         return Err(UpdRefusal::Length);
     }
-    if let Some(column) = wrong_column(kinds, first, others) {
+    if let Some(column) = wrong_column(target.kinds, first, others) {
         return Err(UpdRefusal::WrongType {
             column: column as u32,
         });
@@ -95,15 +116,18 @@ fn judge_items(
     }
     let rolls = is_next_day(standing.date, standing.moment);
     let rows = if rolls { 0 } else { standing.rows };
-    if is_beyond(limits, rows, first, others) {
+    if holds_too_much(limits, rows, first, others) {
         return Err(UpdRefusal::Limit);
     }
     let columns = spread_all(alloc, count_atoms(first), first, others)?;
+    if is_long_record(limits, target.name, columns.as_slice()) {
+        return Err(UpdRefusal::Limit);
+    }
     Ok(Judged {
         rolls,
         update: Entry::Upd {
             by: standing.by,
-            table,
+            table: target.index,
             columns,
         },
     })
@@ -114,24 +138,24 @@ fn judge_timed(
     alloc: Global,
     limits: &Limits,
     standing: &Standing,
-    table: u32,
-    kinds: &[Kind],
+    target: &Target,
     items: &[Value],
 ) -> Result<Judged, UpdRefusal>
     requires lawful { AreLimits limits.now }
-    requires few { length kinds.now ≤ 48 }
-    ensures { RulesItems limits.now standing.now.by standing.now.date standing.now.rows standing.now.moment
-        table kinds.now (timed (time_of_day standing.now.moment) (map tree items.now)) result }
+    requires few { length target.now.kinds.now ≤ 48 }
+    ensures rules { RulesItems limits.now standing.now.by standing.now.date standing.now.rows standing.now.moment
+        target.now.name.now target.now.index target.now.kinds.now (timed (time_of_day standing.now.moment) (map tree items.now)) result }
+    ensures fits { IfOk result (HasLogRecord standing.now.by target.now.name.now target.now.index target.now.kinds.now) }
 {
     match items {
         [] => Err(UpdRefusal::Length),
         [first, others @ ..] => {
             if is_of_kind(first, Kind::Timespan) {
-                return judge_items(alloc, limits, standing, table, kinds, first, others);
+                return judge_items(alloc, limits, standing, target, first, others);
             }
             let time = standing.moment.rem_euclid(NANOSECONDS_PER_DAY);
             let time = time_beside(alloc, time, vector_length(first))?;
-            judge_items(alloc, limits, standing, table, kinds, &time, items)
+            judge_items(alloc, limits, standing, target, &time, items)
         }
     }
 }
@@ -173,13 +197,19 @@ pub fn judge(
     request: &UpdRequest,
 ) -> Result<Judged, UpdRefusal>
     requires { AreLimits limits.now }
-    ensures { Rules schema.now limits.now standing.now.by standing.now.date standing.now.rows
+    ensures rules { Rules schema.now limits.now standing.now.by standing.now.date standing.now.rows
         request.now.table (trees request.now.items) standing.now.moment result }
+    ensures loggable { standing.now.by < no_pass → IfOk result (λ judged. IsLoggable schema.now judged.update) }
 {
     let Some(table) = table_of(schema, &request.table) else {
         return Err(no_table(alloc, &request.table));
     };
     let kinds = schema.at(table).kinds.as_slice();
+    let target = Target {
+        name: &request.table,
+        index: table as u32,
+        kinds,
+    };
     let items = request.items.as_slice();
-    judge_timed(alloc, limits, standing, table as u32, kinds, items)
+    judge_timed(alloc, limits, standing, &target, items)
 }

@@ -1,6 +1,7 @@
 //! A plant in memory: it judges updates, logs them, ends its dates, and gives snapshots to read from.
 //!
-//! A plant stands for one list, its chronicle: updates and rolls (a roll ends the open date and opens the next).
+//! A plant stands for one list, its chronicle: updates, rolls (a roll ends the open date and opens the next) and faults (the
+//! disk failed at an update or a roll, which isn't logged).
 //! Everything that it answers is a function of that list, of its schema, its first date and its limits.
 //!
 //! - [`Plant`] changes in two steps. `prepare` judges an update and makes room for it, which may run out of memory;
@@ -16,6 +17,7 @@
 //! match solo.upd(&rt, alloc, &request, now) {
 //!     UpdTurn::Logged { rolled, place } => ..,    // the indices of the roll before it, if any, and of its entry
 //!     UpdTurn::Refused { length, why } => ..,     // why: the first refusal that holds, or NoMemory
+//!     UpdTurn::Failed { rolled, place } => ..,    // the disk failed: the indices of the roll before it, if any, and of the fault
 //! }
 //! let snapshot = solo.snapshot(&rt, alloc)?;
 //! let prices = snapshot.column(alloc, 0, 1, 2, 0, snapshot.rows_at(0, 1))?;
@@ -28,6 +30,7 @@
 #![tactic(auto)]
 
 mod access;
+mod faults;
 mod history;
 mod items;
 mod judge;

@@ -9,6 +9,7 @@ ghost use Rattle.day_rows.specs.Day.{IsUpdate, opened_of, entry_rows, total_rows
 ghost use Rattle.plant_core.specs.Chronicle.{by_of, today, top_by, index_after_roll};
 ghost use Rattle.plant_core.specs.Plant.{Adds, Prepares, due, kinds_of, next_roll};
 ghost use Rattle.plant_core.specs.Turns.{IsRefusal};
+ghost use Rattle.tick_log.specs.Chunk.{IsLoggable};
 ghost use Rattle.plant_core.specs.Verdict.{verdict};
 
 use crate::history::{History, next_date};
@@ -17,10 +18,11 @@ use crate::prepared::{Prepared, PreparedRoll, entry_of, sole};
 use crate::refusal::UpdRefusal;
 use crate::request::UpdRequest;
 use crate::snapshot::Snapshot;
-use day_rows::{Entries, OpenDay, Schema};
+use day_rows::{Entries, Entry, OpenDay, Schema};
 use q_values::{Limits, NoMemory};
 use std::alloc::Global;
 use std::marker::Model;
+use tick_log::chunk_of;
 
 /// The number of entries from which on nothing more is prepared. No run reaches it.
 const LONGEST_CHRONICLE: u64 = 9_223_372_036_854_775_808;
@@ -61,6 +63,7 @@ impl Plant {
           frame = record { schema = schema; first = date; limits = limits.now };
           entries = [];
           room = [];
+          spare = true;
         }) }
     {
         let history = History::new(alloc, &schema, date)?;
@@ -127,12 +130,13 @@ impl Plant {
         Ok(fresh)
     }
 
-    // Makes room for an update that may be logged: in the open date, or in a next one where a roll is due.
+    // Makes room for an update that may be logged, in the open date or in a next one where a roll is due, and for a fault.
     fn make_room(&mut self, alloc: Global, by: u64, judged: Judged) -> Result<Prepared, NoMemory>
         requires few { length self.old.entries < 2 ^ 63 }
         requires by { by + 1 < 2 ^ 64 }
         requires own { by_of judged.update ≡ by }
         requires update { IsUpdate (kinds_of self.old.frame.schema) judged.update }
+        requires loggable { IsLoggable self.old.frame.schema judged.update }
         requires bounded { (if judged.rolls then 0 else total_rows (today self.old.entries)) + entry_rows judged.update ≤ 4294967295 }
         requires date { judged.rolls ≡ true → date_of self.old.frame.first self.old.entries <ℤ pos 106751 }
         ensures ok { IfOk result (λ p. p ≡ record {
@@ -142,11 +146,16 @@ impl Plant {
           by = by;
           entry = judged.update;
         }) }
-        ensures after { OnOk result (self.new ≡ record self.old { room = if judged.rolls then self.old.room else judged.update ∷ [] }) }
-        ensures err { OnErr result (self.new ≡ self.old) }
+        ensures after { OnOk result (self.new ≡ record self.old {
+          room = if judged.rolls then self.old.room else judged.update ∷ [];
+          spare = true;
+        }) }
+        ensures err { OnErr result (self.new ≡ record self.old { spare = self.new.spare }) }
     {
+        self.history.reserve_fault()?;
         let of = std::snapshot::Snapshot::of(&*self);
         let Judged { rolls, update } = judged;
+        let chunk = chunk_of(alloc, &self.schema, &update)?;
         let entries = sole(alloc, update)?;
         let mut fresh = None;
         if rolls {
@@ -159,11 +168,13 @@ impl Plant {
             of,
             by,
             entry,
+            chunk,
             fresh,
         })
     }
 
-    /// Judges an update of the pass `by`, and makes room for it. The chronicle stays as it is; an error changes nothing.
+    /// Judges an update of the pass `by`, and makes its log record and room for it, and for the fault that may come in its place. The chronicle
+    /// stays as it is. An error changes nothing, but that there may be room for a fault.
     /// `now` is in nanoseconds since 2000.01.01.
     pub fn prepare(
         &mut self,
@@ -176,7 +187,7 @@ impl Plant {
         ensures ok { IfOk result (λ update. Prepares self.old self.new by request.now.table (trees request.now.items) now update) }
         ensures refused { IfErr result (λ why.
             IsRefusal (verdict self.old.frame by self.old.entries request.now.table (trees request.now.items) now) why) }
-        ensures err { OnErr result (self.new ≡ self.old) }
+        ensures err { OnErr result (self.new ≡ record self.old { spare = self.new.spare }) }
     {
         if self.history.length() >= LONGEST_CHRONICLE {
             return Err(UpdRefusal::NoMemory);
@@ -191,16 +202,19 @@ impl Plant {
         Ok(self.make_room(alloc, by, judged)?)
     }
 
-    /// Prepares the end of the open date by the pass `by`. The chronicle stays as it is.
+    /// Prepares the end of the open date by the pass `by`, and makes room for the fault that may come in its place. The
+    /// chronicle stays as it is.
     pub fn prepare_roll(&mut self, alloc: Global, by: u64) -> Result<PreparedRoll, NoMemory>
         requires by { by + 1 < 2 ^ 64 }
         requires date { date_of self.old.frame.first self.old.entries <ℤ pos 106751 }
         ensures ok { IfOk result (λ roll. roll ≡ record { frame = self.old.frame; entries = self.old.entries; by = by }) }
-        ensures unchanged { self.new ≡ self.old }
+        ensures room { OnOk result (self.new.spare ≡ true) }
+        ensures unchanged { self.new ≡ record self.old { spare = self.new.spare } }
     {
         if self.history.length() >= LONGEST_CHRONICLE {
             return Err(NoMemory);
         }
+        self.history.reserve_fault()?;
         let next = self.history.rolled(alloc, &self.schema, by)?;
         Ok(PreparedRoll {
             of: std::snapshot::Snapshot::of(&*self),
@@ -218,6 +232,7 @@ impl Plant {
         ensures after { self.new ≡ record self.old {
           entries = self.old.entries ++ next_roll self.old.frame.first self.old.entries roll.by ∷ [];
           room = [];
+          spare = true;
         } }
     {
         let place = self.history.length();
@@ -250,6 +265,23 @@ impl Plant {
         place
     }
 
+    /// Notes a disk fault of the pass `by`, and returns the index of its entry. The room for it was made by `prepare` or
+    /// `prepare_roll`. It takes no memory.
+    pub fn note_fault(&mut self, by: u64) -> u64
+        requires room { self.old.spare ≡ true }
+        requires few { length self.old.entries + 1 < 2 ^ 64 }
+        requires by { by + 1 < 2 ^ 64 }
+        ensures place { result ≡ length self.old.entries }
+        ensures after { self.new ≡ record self.old {
+          entries = self.old.entries ++ Entry.Fault by ∷ [];
+          spare = self.new.spare;
+        } }
+    {
+        let place = self.history.length();
+        self.history.push_fault(by);
+        place
+    }
+
     // Logs a prepared update, after the roll where one is due, and returns the indices of the roll and of the update.
     pub(crate) fn log(
         &mut self,
@@ -261,7 +293,7 @@ impl Plant {
         requires room { update.rolls ≡ false → self.old.room ≡ update.entry ∷ [] }
         requires date { update.rolls ≡ true → date_of self.old.frame.first self.old.entries <ℤ pos 106751 }
         ensures ok { IfOk result (λ places. Adds self.old self.new (due update ++ update.entry ∷ []) places.0 places.1) }
-        ensures err { OnErr result (self.new ≡ self.old) }
+        ensures err { OnErr result (self.new ≡ record self.old { spare = self.new.spare }) }
     {
         if !update.rolls() {
             let place = self.commit(update);

@@ -8,8 +8,9 @@ use q_values::NoMemory;
 use std::alloc::Global;
 use std::marker::Model;
 use std::snapshot::Snapshot;
+use tick_log::Chunk;
 
-/// An update that may be logged, and the room for it.
+/// An update that may be logged, with its log record and the room for it.
 #[derive(Drop)]
 pub struct Prepared {
     /// The plant as it was when the update was prepared; takes no memory.
@@ -18,6 +19,8 @@ pub struct Prepared {
     pub(crate) by: u64,
     /// The entry to log.
     pub(crate) entry: Entry,
+    /// Its log record.
+    pub(crate) chunk: Chunk,
     /// Where a roll is due before the update: the next date, with room for the entry.
     pub(crate) fresh: Option<OpenDay>,
 }
@@ -30,7 +33,7 @@ impl Model for Prepared {
 
     ghost view = { λ p. record { frame = p.of.value.frame; entries = p.of.value.entries; rolls = is_some p.fresh; by = p.by; entry = p.entry } };
 
-    ghost invariant = { λ p. IsPrepared p.of.value p.by p.entry p.fresh };
+    ghost invariant = { λ p. IsPrepared p.of.value p.by p.entry p.fresh p.chunk.bytes };
 }
 
 impl Prepared {

@@ -15,7 +15,7 @@ pub enum UpdRefusal {
     },
     /// The moment's date is two or more days after the open date.
     MoreThanOneDay,
-    /// A symbol is longer than the limit, or the date would have more rows than the limit.
+    /// A symbol or the log record is longer than its limit, or the date would have more rows than the limit.
     Limit,
     /// Out of memory.
     NoMemory,

@@ -27,6 +27,8 @@ pub struct Solo {
     snapshots: u64,
     // how often `tick` was called; saturates
     ticks: u64,
+    // the index of the last fault that the pass made, if it made one
+    latest: u64,
 }
 
 impl Model for Solo {
@@ -36,7 +38,7 @@ impl Model for Solo {
 
     ghost view = { λ s. access_of s.plant s.by s.began s.snapshots s.ticks };
 
-    ghost invariant = { λ s. IsSolo s.plant s.by s.began };
+    ghost invariant = { λ s. IsSolo s.plant s.by s.began s.latest };
 }
 
 impl Solo {
@@ -59,6 +61,7 @@ impl Solo {
             plant,
             snapshots: 0,
             ticks: 0,
+            latest: 0,
         }
     }
 }
@@ -107,5 +110,9 @@ impl Access for Solo {
     fn snapshot<R: Wait>(&mut self, _rt: &R, alloc: Global) -> Result<Snapshot, NoMemory> {
         self.snapshots = self.snapshots.saturating_add(1);
         self.plant.snapshot(alloc)
+    }
+
+    fn last_fault(&self) -> u64 {
+        self.latest
     }
 }

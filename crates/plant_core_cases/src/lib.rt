@@ -2,7 +2,8 @@
 //!
 //! `plants` begins a plant over the built-in schema, on 2024.01.02, and logs updates of its `trade`: atoms that are spread
 //! to columns, a time that is left out, updates that are refused, a clock that is a day or two ahead, the order of rows
-//! before and after a date ends, and a pass that has the plant to itself. The expected values come from the documented
+//! before and after a date ends, and a pass that has the plant to itself. `faults` notes a disk fault between updates, and
+//! `records` compares the limit of log records with a record's length, counted by hand. The expected values come from the documented
 //! order and the error texts of kdb+, not from the contracts.
 //!
 //! One of the cases: after updates of `b`, `a` and `b`, the symbols are read as
@@ -18,4 +19,8 @@
 #![tactic(auto)]
 
 #[cfg(test)]
+mod faults;
+#[cfg(test)]
 mod plants;
+#[cfg(test)]
+mod records;

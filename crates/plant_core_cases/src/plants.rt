@@ -14,21 +14,21 @@ use std::sync::Wait;
 use std::test::Fail;
 
 /// 2024.01.02, in days since 2000.01.01.
-const DATE: i32 = 8_767;
+pub(crate) const DATE: i32 = 8_767;
 
 /// The index of `trade` in the schema.
 const TRADE: u32 = 1;
 
 /// `0D09:30`, in nanoseconds.
-const HALF_PAST_NINE: i64 = 34_200_000_000_000;
+pub(crate) const HALF_PAST_NINE: i64 = 34_200_000_000_000;
 
 /// A minute, in nanoseconds.
 const MINUTE: i64 = 60_000_000_000;
 
 /// 2024.01.02D09:30, in nanoseconds since 2000.01.01.
-const NOW: i64 = 757_503_000_000_000_000;
+pub(crate) const NOW: i64 = 757_503_000_000_000_000;
 
-fn begun(alloc: Global) -> Result<Option<Plant>, NoMemory> {
+pub(crate) fn begun(alloc: Global) -> Result<Option<Plant>, NoMemory> {
     match read_schema(alloc, BUILT_IN) {
         Ok(schema) => Ok(Some(Plant::begin(alloc, schema, DATE, &Limits::standard())?)),
         Err(_) => Ok(None),
@@ -55,7 +55,7 @@ fn asked(alloc: Global, table: &[u8], items: Values) -> Result<UpdRequest, NoMem
 }
 
 // One row of `trade`.
-fn trade(
+pub(crate) fn trade(
     alloc: Global,
     time: i64,
     name: &[u8],
@@ -89,7 +89,7 @@ fn log(alloc: Global, plant: &mut Plant, update: Prepared) -> Result<(), NoMemor
 }
 
 // The refusal of an update, or none where it was logged.
-fn refusal_of(
+pub(crate) fn refusal_of(
     alloc: Global,
     plant: &mut Plant,
     request: &UpdRequest,
@@ -147,7 +147,12 @@ fn are_longs(column: &Vector, items: &[i64]) -> bool {
     }
 }
 
-fn shows_symbols(alloc: Global, plant: &Plant, k: usize, names: &[&str]) -> Result<bool, NoMemory> {
+pub(crate) fn shows_symbols(
+    alloc: Global,
+    plant: &Plant,
+    k: usize,
+    names: &[&str],
+) -> Result<bool, NoMemory> {
     match shown(alloc, plant, k, 1)? {
         Some(column) => Ok(are_symbols(&column, names)),
         None => Ok(false),
@@ -211,7 +216,7 @@ fn without_time(alloc: Global) -> Result<UpdRequest, NoMemory> {
     asked(alloc, b"trade", items)
 }
 
-fn logs_trade(
+pub(crate) fn logs_trade(
     alloc: Global,
     plant: &mut Plant,
     time: i64,
@@ -453,7 +458,7 @@ fn places<R: Wait>(
     let request = trade(alloc, HALF_PAST_NINE, b"b", 10, 100)?;
     match solo.upd(rt, alloc, &request, now) {
         UpdTurn::Logged { rolled, place } => Ok(Some((rolled, place))),
-        UpdTurn::Refused { .. } => Ok(None),
+        UpdTurn::Refused { .. } | UpdTurn::Failed { .. } => Ok(None),
     }
 }
 

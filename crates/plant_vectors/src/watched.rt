@@ -162,6 +162,10 @@ impl Access for WatchedAccess {
         self.calls.add(Call::Snapshot);
         self.solo.snapshot(rt, alloc)
     }
+
+    fn last_fault(&self) -> u64 {
+        self.solo.last_fault()
+    }
 }
 
 // Serves the link over this plant, which has logged nothing, and gives the number of the calls.

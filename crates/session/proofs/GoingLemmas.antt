@@ -4,7 +4,7 @@ use Rattle.std.proofs.lemmas.List.{append-nil, length-append}
 use Rattle.day_rows.specs.declared.entry.Entry.{Entry}
 use Rattle.plant_core.specs.Access.{AccessView, SeesMore}
 use Rattle.q_values.specs.declared.turn.Turn.{Turn}
-use Rattle.q_values.specs.declared.turn.Turn.TheVariants.{Logged, Rolled, Refused, Quiet, Answered}
+use Rattle.q_values.specs.declared.turn.Turn.TheVariants.{Logged, Rolled, Refused, Failed, Quiet, Answered}
 use Rattle.session.specs.Lawful.{AllGoOn, GoesOn, length_after, last_length}
 use Rattle.session.specs.Run.{Advances, advanced}
 
@@ -18,6 +18,7 @@ lower_one : (n m : ℕ) (t : Turn) → n ≤ m → GoesOn at_most m t → GoesOn
 lower_one n m (Logged place now) le h = (omega arith, omega arith)
 lower_one n m (Rolled place now) le h = (omega arith, omega arith)
 lower_one n m (Refused count now) le h = (omega arith, omega arith)
+lower_one n m (Failed place now) le h = (omega arith, omega arith)
 lower_one n m (Quiet count now) le h = (omega arith, omega arith)
 lower_one n m (Answered count) le h = (omega arith, omega arith)
 lower_one n m t le h = (tt, le)
@@ -34,6 +35,7 @@ weaker_one : (n : ℕ) (t : Turn) → GoesOn just n t → GoesOn at_most n t
 weaker_one n (Logged place now) h = omega (arith, h)
 weaker_one n (Rolled place now) h = omega (arith, h)
 weaker_one n (Refused count now) h = omega (arith, h)
+weaker_one n (Failed place now) h = omega (arith, h)
 weaker_one n (Quiet count now) h = omega (arith, h)
 weaker_one n (Answered count) h = omega (arith, h)
 weaker_one n t h = h

@@ -57,7 +57,8 @@ text-more frame seen more false bytes deed h = h
 
 request-more : (frame : Frame) (by : ℕ) (seen more : List Entry) (sync : Bool) (request : Request) (deed : Deed) → ServesRequest frame by seen sync request deed → ServesRequest frame by (seen ++ more) sync request deed
 request-more frame by seen more sync (update table items) deed (inl h) = inl (record { front = h.front; now = h.now; accepted = h.accepted; stands = stands-more h.front deed.made seen more h.stands; noted = h.noted; answered = h.answered; read = h.read; unasked = h.unasked })
-request-more frame by seen more sync (update table items) deed (inr h) = inr (record { count = h.count; front = h.front; is_front = front-more h.count h.front seen more h.is_front; now = h.now; why = h.why; refused = h.refused; noted = h.noted; answered = h.answered; read = h.read; unmade = h.unmade; unasked = h.unasked })
+request-more frame by seen more sync (update table items) deed (inr (inr h)) = inr (inr (record { front = h.front; now = h.now; before = h.before; failed = h.failed; rest = h.rest; accepted = h.accepted; made = h.made; stands = stands-more h.front deed.made seen more h.stands; noted = h.noted; answered = h.answered; read = h.read; unasked = h.unasked }))
+request-more frame by seen more sync (update table items) deed (inr (inl h)) = inr (inl (record { count = h.count; front = h.front; is_front = front-more h.count h.front seen more h.is_front; now = h.now; why = h.why; refused = h.refused; noted = h.noted; answered = h.answered; read = h.read; unmade = h.unmade; unasked = h.unasked }))
 request-more frame by seen more sync mistyped deed h = h
 request-more frame by seen more sync (text bytes) deed h = text-more frame seen more sync bytes deed h
 request-more frame by seen more sync other deed h = h
@@ -70,8 +71,9 @@ content-more frame by seen more sync (built t) deed (inr h) = inr h
 idle_done-more : (frame : Frame) (by : ℕ) (seen more : List Entry) (before : State) (deed : Deed) → IsIdle frame by seen before deed → IsIdle frame by (seen ++ more) before deed
 idle_done-more frame by seen more before deed (inl d) = inl (record { count = d.count; front = d.front; is_front = front-more d.count d.front seen more d.is_front; now = d.now; same = d.same; noted = d.noted; read = d.read; unmade = d.unmade; asked = d.asked })
 idle_done-more frame by seen more before deed (inr (inl d)) = inr (inl (record { front = d.front; now = d.now; next = d.next; rolled = d.rolled; stands = stands-more d.front deed.made seen more d.stands; noted = d.noted; read = d.read; asked = d.asked }))
-idle_done-more frame by seen more before deed (inr (inr d)) =
-    inr (inr (record { count = d.count; front = d.front; is_front = front-more d.count d.front seen more d.is_front; known = d.known; now = d.now; next = d.next; noted = d.noted; read = d.read; unmade = d.unmade; asked = d.asked }))
+idle_done-more frame by seen more before deed (inr (inr (inl d))) = inr (inr (inl (record { front = d.front; now = d.now; next = d.next; failed = d.failed; stands = stands-more d.front deed.made seen more d.stands; noted = d.noted; read = d.read; asked = d.asked })))
+idle_done-more frame by seen more before deed (inr (inr (inr d))) =
+    inr (inr (inr (record { count = d.count; front = d.front; is_front = front-more d.count d.front seen more d.is_front; known = d.known; now = d.now; next = d.next; noted = d.noted; read = d.read; unmade = d.unmade; asked = d.asked })))
 
 idle-more : (frame : Frame) (by : ℕ) (seen more : List Entry) (before : State) (deed : Deed) → ServesIdle frame by seen before deed → ServesIdle frame by (seen ++ more) before deed
 idle-more frame by seen more before deed h = record { unsent = h.unsent; done = idle_done-more frame by seen more before deed h.done }

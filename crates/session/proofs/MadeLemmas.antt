@@ -1,67 +1,19 @@
--- What an accepted update adds: a roll, where one is due, and the update.
-use Rattle.std.proofs.Common.{◌≡◌, ◌+◌, ℕ, ℤ, Bool, true, false, List, [], ◌∷◌, ◌++◌, length, cond, Option, Some, None, subst, arith}
+-- Where what an accepted update adds stands.
+use Rattle.std.proofs.Common.{◌≡◌, ◌+◌, ℕ, ℤ, List, [], ◌∷◌, ◌++◌, length, Option, Some, None, arith}
 use Rattle.std.proofs.lemmas.List.{length-append}
-use Rattle.day_rows.specs.Chronicle.{date_of}
-use Rattle.day_rows.specs.Day.{total_rows}
 use Rattle.day_rows.specs.declared.entry.Entry.{Entry}
 use Rattle.day_rows.specs.declared.entry.Entry.TheVariants as e
-use Rattle.plant_core.specs.Chronicle.{time_of_day, today}
 use Rattle.plant_core.specs.Frame.{Frame}
-use Rattle.plant_core.specs.Items.{timed, have_matching_lengths, wrong_from, columns_of}
-use Rattle.plant_core.specs.Limit.{is_beyond}
 use Rattle.plant_core.specs.Plant.{roll_place}
-use Rattle.plant_core.specs.Verdict.{Verdict, accepts, refuses, verdict, table_from, table_judged, items_judged, kinds_judged, dated, roll_due, is_next_day, is_past_next_day}
-use Rattle.plant_core.specs.declared.refusal.UpdRefusal.{UpdRefusal}
+use Rattle.plant_core.specs.Verdict.{accepts, verdict}
+use Rattle.plant_core.proofs.MadeLemmas.{IsMade, verdict_made}
 use Rattle.q_values.specs.Tree.{Tree}
-use Rattle.q_values.specs.declared.kind.Kind.{Kind}
-use Rattle.q_values.specs.declared.limits.Limits.{Limits}
 
 -- an update, and a roll before it where there is one, stand from a place on
 abbrev pub AreAt : ℕ → List Entry → Option ℕ → ℕ → Type 0
 AreAt n (e.Upd by table columns ∷ []) None place = place ≡ n
 AreAt n (e.Roll by date ∷ e.Upd by' table columns ∷ []) (Some rolled) place = (rolled ≡ n) × (place ≡ n + 1)
 AreAt n entries rolled place = ⊥
-
--- the entries are an update, and perhaps a roll before it
-abbrev pub IsMade : List Entry → Type 0
-IsMade (e.Upd by table columns ∷ []) = Unit {0}
-IsMade (e.Roll by date ∷ e.Upd by' table columns ∷ []) = Unit {0}
-IsMade entries = ⊥
-
-made_by : (past beyond rolls : Bool) (a b : UpdRefusal) (by : ℕ) (date : ℤ) (update : Entry) (entries : List Entry) → IsMade (roll_due rolls by date ++ update ∷ []) → cond past (refuses a) (cond beyond (refuses b) (accepts (roll_due rolls by date ++ update ∷ []))) ≡ accepts entries → IsMade entries
-made_by true beyond rolls a b by date update entries made h = absurd cc
-made_by false true rolls a b by date update entries made h = absurd cc
-made_by false false rolls a b by date update entries made h = let same : roll_due rolls by date ++ update ∷ [] ≡ entries = cc in subst IsMade same made
-
-update_made : (rolls : Bool) (by : ℕ) (date : ℤ) (table : ℕ) (columns : _) → IsMade (roll_due rolls by date ++ e.Upd by table columns ∷ [])
-update_made true by date table columns = tt
-update_made false by date table columns = tt
-
-dated_made : (limits : Limits) (by : ℕ) (date : ℤ) (rows : ℕ) (now : ℤ) (table : ℕ) (items : List Tree) (entries : List Entry) → dated limits by date rows now table items ≡ accepts entries → IsMade entries
-dated_made limits by date rows now table items entries h =
-    made_by (is_past_next_day date now) (is_beyond limits (cond (is_next_day date now) 0 rows) items) (is_next_day date now) _ _ by date (e.Upd by table (columns_of items)) entries (update_made (is_next_day date now) by date table (columns_of items)) h
-
-kinds_made : (column : Option ℕ) (rest : Verdict) (entries : List Entry) → (rest ≡ accepts entries → IsMade entries) → kinds_judged column rest ≡ accepts entries → IsMade entries
-kinds_made (Some column) rest entries f h = absurd cc
-kinds_made None rest entries f h = f h
-
-even_made : (even : Bool) (a : UpdRefusal) (rest : Verdict) (entries : List Entry) → (rest ≡ accepts entries → IsMade entries) → cond even rest (refuses a) ≡ accepts entries → IsMade entries
-even_made true a rest entries f h = f h
-even_made false a rest entries f h = absurd cc
-
-items_made : (limits : Limits) (by : ℕ) (date : ℤ) (rows : ℕ) (now : ℤ) (table : ℕ × List Kind) (items : List Tree) (entries : List Entry) → items_judged limits by date rows now table items ≡ accepts entries → IsMade entries
-items_made limits by date rows now table items entries h =
-    even_made (have_matching_lengths (length table.1) items) _ (kinds_judged (wrong_from 0 table.1 items) (dated limits by date rows now table.0 items)) entries
-    (kinds_made (wrong_from 0 table.1 items) (dated limits by date rows now table.0 items) entries (dated_made limits by date rows now table.0 items entries)) h
-
-table_made : (name : List ℕ) (found : Option (ℕ × List Kind)) (judged : ℕ × List Kind → Verdict) (entries : List Entry) → ((t : ℕ × List Kind) → judged t ≡ accepts entries → IsMade entries) → table_judged name found judged ≡ accepts entries → IsMade entries
-table_made name None judged entries f h = absurd cc
-table_made name (Some t) judged entries f h = f t h
-
-pub verdict_made : (frame : Frame) (by : ℕ) (chronicle entries : List Entry) (name : List ℕ) (items : List Tree) (now : ℤ) → verdict frame by chronicle name items now ≡ accepts entries → IsMade entries
-verdict_made frame by chronicle entries name items now h =
-    table_made name (table_from 0 name frame.schema) (λ t. items_judged frame.limits by (date_of frame.first chronicle) (total_rows (today chronicle)) now t (timed (time_of_day now) items)) entries
-    (λ t. items_made frame.limits by (date_of frame.first chronicle) (total_rows (today chronicle)) now t (timed (time_of_day now) items) entries) h
 
 made_at : (front entries : List Entry) (rolled : Option ℕ) (place : ℕ) → IsMade entries → rolled ≡ roll_place (length front) entries → place + 1 ≡ length (front ++ entries) → AreAt (length front) entries rolled place
 made_at front [] rolled place m r l = absurd m
@@ -81,3 +33,28 @@ made_at front (e.Roll by date ∷ e.Upd by' table columns ∷ []) (Some p) place
 -- the places of what an accepted update adds
 pub accepted_at : (frame : Frame) (by : ℕ) (front entries : List Entry) (name : List ℕ) (items : List Tree) (now : ℤ) (rolled : Option ℕ) (place : ℕ) → verdict frame by front name items now ≡ accepts entries → rolled ≡ roll_place (length front) entries → place + 1 ≡ length (front ++ entries) → AreAt (length front) entries rolled place
 accepted_at frame by front entries name items now rolled place h r l = made_at front entries rolled place (verdict_made frame by front entries name items now h) r l
+
+-- a roll, or nothing, stands from a place on, and then a fault
+abbrev pub AreBefore : ℕ → List Entry → Option ℕ → ℕ → Type 0
+AreBefore n [] None place = place ≡ n
+AreBefore n (e.Roll by date ∷ []) (Some rolled) place = (rolled ≡ n) × (place ≡ n + 1)
+AreBefore n entries rolled place = ⊥
+
+before_at : (front before rest : List Entry) (failed : Entry) (rolled : Option ℕ) (place : ℕ) → IsMade (before ++ failed ∷ rest) → rolled ≡ roll_place (length front) before → place ≡ length (front ++ before) → AreBefore (length front) before rolled place
+before_at front [] rest failed (Some p) place m r l = absurd cc
+before_at front [] rest failed None place m r l = omega (arith, l, length-append front [])
+before_at front (e.Fault by ∷ before) rest failed rolled place m r l = absurd m
+before_at front (e.Upd by table columns ∷ []) rest failed rolled place m r l = absurd m
+before_at front (e.Upd by table columns ∷ x ∷ before) rest failed rolled place m r l = absurd m
+before_at front (e.Roll by date ∷ []) rest failed None place m r l = absurd cc
+before_at front (e.Roll by date ∷ []) rest failed (Some p) place m r l =
+    let same : p ≡ length front = cc in
+    (same, omega (arith, l, length-append front (e.Roll by date ∷ [])))
+before_at front (e.Roll by date ∷ e.Roll by' date' ∷ before) rest failed rolled place m r l = absurd m
+before_at front (e.Roll by date ∷ e.Fault by' ∷ before) rest failed rolled place m r l = absurd m
+before_at front (e.Roll by date ∷ e.Upd by' table columns ∷ []) rest failed rolled place m r l = absurd m
+before_at front (e.Roll by date ∷ e.Upd by' table columns ∷ x ∷ before) rest failed rolled place m r l = absurd m
+
+-- the places of what was made before the entry that the disk failed at
+pub failed_at : (frame : Frame) (by : ℕ) (front before rest : List Entry) (failed : Entry) (name : List ℕ) (items : List Tree) (now : ℤ) (rolled : Option ℕ) (place : ℕ) → verdict frame by front name items now ≡ accepts (before ++ failed ∷ rest) → rolled ≡ roll_place (length front) before → place ≡ length (front ++ before) → AreBefore (length front) before rolled place
+failed_at frame by front before rest failed name items now rolled place h r l = before_at front before rest failed rolled place (verdict_made frame by front (before ++ failed ∷ rest) name items now h) r l

@@ -41,6 +41,10 @@ pub mistyped_is : (limits : Limits) (made : List ℕ) → made ≡ fixed_reply l
 unfolding written
 mistyped_is limits made e = e
 
+pub disk_is : (limits : Limits) (made : List ℕ) → made ≡ fixed_reply limits (1 ∷ 2 ∷ 0 ∷ 0 ∷ 14 ∷ 0 ∷ 0 ∷ 0 ∷ 128 ∷ 100 ∷ 105 ∷ 115 ∷ 107 ∷ 0 ∷ []) → made ≡ reply limits (wrong (codes "disk"))
+unfolding written
+disk_is limits made e = e
+
 pub length_is : (limits : Limits) (made : List ℕ) → made ≡ fixed_reply limits (1 ∷ 2 ∷ 0 ∷ 0 ∷ 16 ∷ 0 ∷ 0 ∷ 0 ∷ 128 ∷ 108 ∷ 101 ∷ 110 ∷ 103 ∷ 116 ∷ 104 ∷ 0 ∷ [])
     → made ≡ reply limits (wrong (codes "length"))
 unfolding written

@@ -5,7 +5,7 @@ use Rattle.day_rows.specs.declared.entry.Entry.{Entry}
 use Rattle.day_rows.specs.declared.entry.Entry.TheVariants as e
 use Rattle.outside_api.specs.Told.{told}
 use Rattle.day_rows.specs.declared.schema.Shape.{Shape}
-use Rattle.plant_core.specs.Access.{AccessView, SeesMore, Logs, Looks, Asks, Waits, Rolls, Wants, next_count}
+use Rattle.plant_core.specs.Access.{AccessView, SeesMore, Logs, Looks, Fails, Asks, Waits, Rolls, FailsRoll, Wants, next_count}
 use Rattle.plant_core.specs.Plant.{SnapshotView, next_roll}
 use Rattle.plant_core.specs.Turns.{IsRefusal}
 use Rattle.plant_core.specs.Frame.{Frame}
@@ -32,7 +32,7 @@ use Rattle.session.specs.State.{State}
 use Rattle.session.specs.declared.answer.Answer.{Answer}
 use Rattle.session.specs.declared.reply.Reply.{Reply}
 use Rattle.session.proofs.GoingLemmas.{advances, just}
-use Rattle.session.proofs.MadeLemmas.{AreAt, accepted_at}
+use Rattle.session.proofs.MadeLemmas.{AreAt, accepted_at, AreBefore, failed_at}
 use Rattle.session.proofs.ToldLemmas.{told-nil}
 
 -- what the turns of logged entries report
@@ -89,6 +89,59 @@ does_logged a b k k' limits sync table items now rolled place answer same read l
       }));
     }
 
+failed_turns : (n : ℕ) (now : ℤ) (before : List Entry) (by : ℕ) (rolled : Option ℕ) (place : ℕ) → AreBefore n before rolled place → Tells n now (before ++ e.Fault by ∷ []) (turns_by (roll_turn rolled now) (t.Failed place now))
+failed_turns n now [] by None place at = record { noted = rw at refl; each = (sym at, tt); last = rw at refl }
+failed_turns n now [] by (Some rolled) place at = absurd at
+failed_turns n now (e.Upd own table columns ∷ before) by rolled place at = absurd at
+failed_turns n now (e.Fault own ∷ before) by rolled place at = absurd at
+failed_turns n now (e.Roll own date ∷ x ∷ before) by rolled place at = absurd at
+failed_turns n now (e.Roll own date ∷ []) by None place at = absurd at
+failed_turns n now (e.Roll own date ∷ []) by (Some rolled) place at =
+    record { noted = rw (at.0, at.1) refl; each = (sym at.0, (rw at.0 (sym at.1), tt)); last = rw at.1 (omega arith) }
+
+pub does_failed : (a b : AccessView) (k k' : Option (List ℤ)) (limits : Limits) (sync : Bool) (table : List ℕ) (items : List Tree) (now : ℤ) (rolled : Option ℕ) (place : ℕ) (answer : Answer)
+    → a.frame.limits ≡ limits
+    → k' ≡ told k (now ∷ [])
+    → Fails a b table items now rolled place
+    → answer.roll ≡ roll_turn rolled now → answer.turn ≡ t.Failed place now → sent_by answer.reply ≡ replied sync (reply limits (wrong (codes "disk")))
+    → Does (ServesValue a.frame a.by b.seen sync (update table items)) k k' a b answer
+does_failed a b k k' limits sync table items now rolled place answer same read l roll turn answered =
+    let n = length (a.seen ++ l.others) in
+    let made = l.before ++ e.Fault a.by ∷ [] in
+    let places = failed_at a.frame a.by (a.seen ++ l.others) l.before l.rest l.failed table items now rolled place l.accepted l.rolled_is l.last in
+    let tells = failed_turns n now l.before a.by rolled place places in
+    let turns : turns_by answer.roll answer.turn ≡ turns_by (roll_turn rolled now) (t.Failed place now) = rw (roll, turn) refl in
+    let fault = e.Fault a.by ∷ [] in
+    let joined : ((a.seen ++ l.others) ++ l.before) ++ fault ≡ (a.seen ++ l.others) ++ made = append_assoc (a.seen ++ l.others) l.before fault in
+    let seen : b.seen ≡ (a.seen ++ l.others) ++ made = ap (λ (v : AccessView). v.seen) l.after ∙ joined in
+    let each : AllGoOn just n (turns_by answer.roll answer.turn) = rw turns tells.each in
+    let last : last_length n (turns_by answer.roll answer.turn) ≡ length ((a.seen ++ l.others) ++ made) = ap (λ ts. last_length n ts) turns ∙ tells.last ∙ sym (length-append (a.seen ++ l.others) made) in
+    let whole : ((a.seen ++ l.others) ++ l.before) ++ fault ≡ a.seen ++ (l.others ++ made) = joined ∙ append_assoc a.seen l.others made in
+    let own : (a.mine ++ l.before) ++ fault ≡ a.mine ++ made = append_assoc a.mine l.before fault in
+    let after = l.after ∙ (λ i. record a { seen = whole i; mine = own i }) in
+    record {
+      readings = now ∷ [];
+      made = made;
+      asked = 0;
+      ticked = 0;
+      clock = read;
+      access = advances a b l.others made (turns_by answer.roll answer.turn) 0 0 l.saw after each last;
+      done = inl (inr (inr (record {
+        front = a.seen ++ l.others;
+        now = now;
+        before = l.before;
+        failed = l.failed;
+        rest = l.rest;
+        accepted = l.accepted;
+        made = refl;
+        stands = record { more = []; whole = seen ∙ sym (append-nil ((a.seen ++ l.others) ++ made)) };
+        noted = turns ∙ tells.noted;
+        answered = rw same answered;
+        read = refl;
+        unasked = (refl, refl);
+      })));
+    }
+
 -- an access that made nothing, whose turns tell its length or nothing
 pub record Idles (n : ℕ) (turns : List Turn) : Type 0 where
   pub each : AllGoOn just n turns
@@ -129,7 +182,7 @@ does_refused a b k k' limits sync table items now count why answer same read l (
       clock = read;
       access = advances_idle a b l.others (turns_by answer.roll answer.turn) 0 0 l.saw (refuses_after a b table items now count why l)
           (rw turns (record { each = (sym l.length, tt); last = l.length }));
-      done = inl (inr (record {
+      done = inl (inr (inl (record {
         count = count;
         front = a.seen ++ l.others;
         is_front = record { count = l.length; more = []; whole = seen ∙ sym (append-nil (a.seen ++ l.others)) };
@@ -141,7 +194,7 @@ does_refused a b k k' limits sync table items now count why answer same read l (
         read = refl;
         unmade = refl;
         unasked = (refl, refl);
-      }));
+      })));
     }
 does_refused a b k k' limits sync table items now count why answer same read l (inr r) =
     let turns : turns_by answer.roll answer.turn ≡ t.Short ∷ [] = rw (r.roll, r.turn) refl in
@@ -305,7 +358,7 @@ does_short_idle a b before k k' now answer knows read l roll turn unsent =
       access = advances_idle a b l.others (turns_by answer.roll answer.turn) 0 1 l.saw (idle_after a b l.others l.after) (rw turns (tells_short (length (a.seen ++ l.others))));
       done = record {
         unsent = unsent;
-        done = inr (inr (record {
+        done = inr (inr (inr (record {
           count = length (a.seen ++ l.others);
           front = a.seen ++ l.others;
           is_front = record { count = refl; more = []; whole = seen ∙ sym (append-nil (a.seen ++ l.others)) };
@@ -316,7 +369,7 @@ does_short_idle a b before k k' now answer knows read l roll turn unsent =
           read = refl;
           unmade = refl;
           asked = (refl, refl);
-        }));
+        })));
       };
     }
 
@@ -349,6 +402,38 @@ does_rolled a b before k k' now place answer read l roll turn unsent =
           read = refl;
           asked = (refl, refl);
         }));
+      };
+    }
+
+pub does_failed_idle : (a b : AccessView) (before : State) (k k' : Option (List ℤ)) (now : ℤ) (place : ℕ) (answer : Answer) → k' ≡ told k (now ∷ []) → FailsRoll a b now place → answer.roll ≡ None → answer.turn ≡ t.Failed place now → sent_by answer.reply ≡ [] → Does (ServesIdle a.frame a.by b.seen before) k k' a b answer
+does_failed_idle a b before k k' now place answer read l roll turn unsent =
+    let n = length (a.seen ++ l.others) in
+    let entry = e.Fault a.by in
+    let turns : turns_by answer.roll answer.turn ≡ t.Failed n now ∷ [] = rw (roll, turn, l.at_end) refl in
+    let seen : b.seen ≡ (a.seen ++ l.others) ++ entry ∷ [] = ap (λ (v : AccessView). v.seen) l.after in
+    let each : AllGoOn just n (turns_by answer.roll answer.turn) = rw turns (refl, tt) in
+    let size : n + 1 ≡ length ((a.seen ++ l.others) ++ entry ∷ []) = sym (length-append (a.seen ++ l.others) (entry ∷ [])) in
+    let last : last_length n (turns_by answer.roll answer.turn) ≡ length ((a.seen ++ l.others) ++ entry ∷ []) = ap (λ ts. last_length n ts) turns ∙ size in
+    let after = l.after ∙ ap (λ s. record a { seen = s; mine = a.mine ++ entry ∷ []; ticks = next_count a.ticks }) (append_assoc a.seen l.others (entry ∷ [])) in
+    record {
+      readings = now ∷ [];
+      made = entry ∷ [];
+      asked = 0;
+      ticked = 1;
+      clock = read;
+      access = advances a b l.others (entry ∷ []) (turns_by answer.roll answer.turn) 0 1 l.saw after each last;
+      done = record {
+        unsent = unsent;
+        done = inr (inr (inl (record {
+          front = a.seen ++ l.others;
+          now = now;
+          next = l.due;
+          failed = refl;
+          stands = record { more = []; whole = seen ∙ sym (append-nil ((a.seen ++ l.others) ++ entry ∷ [])) };
+          noted = turns;
+          read = refl;
+          asked = (refl, refl);
+        })));
       };
     }
 

@@ -1,13 +1,14 @@
 -- The lengths of the chronicle that turns report, one after the other.
 use Rattle.std.specs.Prelude.{◌≡◌, ◌≤◌, ◌+◌, ℕ, List, [], ◌∷◌}
 use Rattle.q_values.specs.declared.turn.Turn.{Turn}
-use Rattle.q_values.specs.declared.turn.Turn.TheVariants.{Logged, Rolled, Refused, Quiet, Answered}
+use Rattle.q_values.specs.declared.turn.Turn.TheVariants.{Logged, Rolled, Refused, Failed, Quiet, Answered}
 
 -- the chronicle's length after a turn: as the turn reports it, or else the length before it
 abbrev pub length_after : ℕ → Turn → ℕ
 length_after n (Logged place now) = place + 1
 length_after n (Rolled place now) = place + 1
 length_after n (Refused count now) = count
+length_after n (Failed place now) = place + 1
 length_after n (Quiet count now) = count
 length_after n (Answered count) = count
 length_after n turn = n
@@ -17,6 +18,7 @@ abbrev pub GoesOn : (ℕ → ℕ → Type 0) → ℕ → Turn → Type 0
 GoesOn R n (Logged place now) = R n place
 GoesOn R n (Rolled place now) = R n place
 GoesOn R n (Refused count now) = R n count
+GoesOn R n (Failed place now) = R n place
 GoesOn R n (Quiet count now) = R n count
 GoesOn R n (Answered count) = R n count
 GoesOn R n turn = Unit {0}

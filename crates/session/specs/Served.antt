@@ -92,6 +92,23 @@ pub record IsRefused (frame : Frame) (by : ℕ) (seen : List Entry) (sync : Bool
   pub unmade : deed.made ≡ []
   pub unasked : AsksFor 0 0 deed
 
+-- the disk failed at an entry that the verdict on an update adds: those before it, and then a fault of this pass, stand in the
+-- chronicle, and the answer is the error `disk`
+pub record IsFailed (frame : Frame) (by : ℕ) (seen : List Entry) (sync : Bool)
+    (table : List ℕ) (items : List Tree) (deed : Deed) : Type 0 where
+  pub front : List Entry
+  pub now : ℤ
+  pub before : List Entry
+  pub failed : Entry
+  pub rest : List Entry
+  pub accepted : verdict frame by front table items now ≡ accepts (before ++ failed ∷ rest)
+  pub made : deed.made ≡ before ++ e.Fault by ∷ []
+  pub stands : StandsAfter front deed.made seen
+  pub noted : deed.turns ≡ entry_turns (length front) now deed.made
+  pub answered : deed.sent ≡ replied sync (reply frame.limits (wrong (codes "disk")))
+  pub read : deed.readings ≡ now ∷ []
+  pub unasked : AsksFor 0 0 deed
+
 -- out of memory: nothing was made; the clock was read once, or a snapshot was asked for once, or neither
 pub record IsShort (sync : Bool) (deed : Deed) : Type 0 where
   pub noted : deed.turns ≡ t.Short ∷ []
@@ -138,7 +155,8 @@ ServesText frame seen false bytes deed = IsPassed deed
 
 -- what is done with a request, where there is memory
 abbrev pub ServesRequest : Frame → ℕ → List Entry → Bool → Request → Deed → Type 0
-ServesRequest frame by seen sync (update table items) deed = IsLogged frame by seen sync table items deed ⊎ IsRefused frame by seen sync table items deed
+ServesRequest frame by seen sync (update table items) deed =
+    IsLogged frame by seen sync table items deed ⊎ IsRefused frame by seen sync table items deed ⊎ IsFailed frame by seen sync table items deed
 ServesRequest frame by seen sync mistyped deed = IsDeclined frame sync (codes "type") deed
 ServesRequest frame by seen sync (text bytes) deed = ServesText frame seen sync bytes deed
 ServesRequest frame by seen sync other deed = IsUnserved frame sync deed
@@ -177,6 +195,17 @@ pub record IsRolled (frame : Frame) (by : ℕ) (seen : List Entry) (deed : Deed)
   pub read : deed.readings ≡ now ∷ []
   pub asked : AsksFor 0 1 deed
 
+-- a read timeout at which the open date was to be ended, and the disk failed at that: a fault of this pass stands in the chronicle
+pub record IsFailedIdle (frame : Frame) (by : ℕ) (seen : List Entry) (deed : Deed) : Type 0 where
+  pub front : List Entry
+  pub now : ℤ
+  pub next : is_next_day (date_of frame.first front) now ≡ true
+  pub failed : deed.made ≡ e.Fault by ∷ []
+  pub stands : StandsAfter front deed.made seen
+  pub noted : deed.turns ≡ t.Failed (length front) now ∷ []
+  pub read : deed.readings ≡ now ∷ []
+  pub asked : AsksFor 0 1 deed
+
 -- a read timeout at which the open date was to be ended, and the session was out of memory for that
 pub record IsShortIdle (frame : Frame) (seen : List Entry) (before : State) (deed : Deed) : Type 0 where
   pub count : ℕ
@@ -193,7 +222,8 @@ pub record IsShortIdle (frame : Frame) (seen : List Entry) (before : State) (dee
 
 -- what a read timeout may come to
 abbrev pub IsIdle : Frame → ℕ → List Entry → State → Deed → Type 0
-IsIdle frame by seen before deed = IsQuiet frame seen deed ⊎ IsRolled frame by seen deed ⊎ IsShortIdle frame seen before deed
+IsIdle frame by seen before deed =
+    IsQuiet frame seen deed ⊎ IsRolled frame by seen deed ⊎ IsFailedIdle frame by seen deed ⊎ IsShortIdle frame seen before deed
 
 -- a read timeout sends nothing
 pub record ServesIdle (frame : Frame) (by : ℕ) (seen : List Entry) (before : State) (deed : Deed) : Type 0 where

@@ -12,7 +12,7 @@ ghost use Rattle.session.specs.Asked.{Asks};
 ghost use Rattle.session.specs.Request.{Request, update, text, request_of};
 ghost use Rattle.session.specs.Served.{ServesIdle};
 
-use crate::reply::{Reply, done, mistyped, nyi, refuse, respond, wsfull};
+use crate::reply::{Reply, disk, done, mistyped, nyi, refuse, respond, wsfull};
 use crate::request::{Asked, asked_by};
 use crate::session::Session;
 use day_rows::Schema;
@@ -114,6 +114,15 @@ fn refused(
     }
 }
 
+/// The turn of the roll that was made as the entry `rolled`, if there was one; after it the gate is paused.
+fn after_roll<G: Gate>(gate: &mut G, rolled: Option<u64>, now: i64) -> Option<Turn>
+    ensures { result ≡ roll_turn rolled now }
+{
+    let place = rolled?;
+    gate.pause(Point::Rolled);
+    Some(Turn::Rolled { place, now })
+}
+
 /// The answer to an update that was logged as the entry `place`, after a roll where there was one.
 fn logged<G: Gate>(
     gate: &mut G,
@@ -127,17 +136,30 @@ fn logged<G: Gate>(
     ensures turn { result.turn ≡ Turn.Logged place now }
     ensures reply { sent_by result.reply ≡ replied sync (reply limits.now identity) }
 {
-    let roll = match rolled {
-        Some(place) => {
-            gate.pause(Point::Rolled);
-            Some(Turn::Rolled { place, now })
-        }
-        None => None,
-    };
     Answer {
-        roll,
+        roll: after_roll(gate, rolled, now),
         turn: Turn::Logged { place, now },
         reply: replying(sync, done(limits)),
+    }
+}
+
+/// The answer to an update at which the disk failed; the fault is the entry `place`, after a roll where there was one.
+fn failed<G: Gate>(
+    gate: &mut G,
+    sync: bool,
+    limits: &Limits,
+    rolled: Option<u64>,
+    place: u64,
+    now: i64,
+) -> Answer
+    ensures roll { result.roll ≡ roll_turn rolled now }
+    ensures turn { result.turn ≡ Turn.Failed place now }
+    ensures reply { sent_by result.reply ≡ replied sync (reply limits.now (wrong (codes "disk"))) }
+{
+    Answer {
+        roll: after_roll(gate, rolled, now),
+        turn: Turn::Failed { place, now },
+        reply: replying(sync, disk(limits)),
     }
 }
 
@@ -174,7 +196,7 @@ fn reply_over(
 impl<A: Access, L: Link, C: Clock, G: Gate, N: Recorder> Session<'_, A, L, C, G, N> {
     ghost use Rattle.session.specs.Devices.{OnlyAsks, state_of};
 
-    /// Logs an update, or refuses it.
+    /// Logs an update, or refuses it, or tells that the disk failed.
     fn answer_update<R: Wait>(
         &mut self,
         rt: &R,
@@ -197,6 +219,9 @@ impl<A: Access, L: Link, C: Clock, G: Gate, N: Recorder> Session<'_, A, L, C, G,
                 logged(self.gate, sync, self.limits, rolled, place, now)
             }
             UpdTurn::Refused { length, why } => refused(alloc, sync, self.limits, length, now, why),
+            UpdTurn::Failed { rolled, place } => {
+                failed(self.gate, sync, self.limits, rolled, place, now)
+            }
         }
     }
 
@@ -319,6 +344,7 @@ impl<A: Access, L: Link, C: Clock, G: Gate, N: Recorder> Session<'_, A, L, C, G,
                 self.gate.pause(Point::Rolled);
                 unsent(Turn::Rolled { place, now })
             }
+            TickTurn::Failed { place } => unsent(Turn::Failed { place, now }),
             TickTurn::NoMemory => unsent(Turn::Short),
         }
     }

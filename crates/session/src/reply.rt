@@ -43,6 +43,9 @@ static LENGTH: [u8; 16] = *b"\x01\x02\x00\x00\x10\x00\x00\x00\x80length\x00";
 /// The response of the error `more than one day?`.
 static MORE_THAN_ONE_DAY: [u8; 28] = *b"\x01\x02\x00\x00\x1c\x00\x00\x00\x80more than one day?\x00";
 
+/// The response of the error `disk`.
+static DISK: [u8; 14] = *b"\x01\x02\x00\x00\x0e\x00\x00\x00\x80disk\x00";
+
 /// The response of the error `wsfull`.
 static WSFULL: [u8; 16] = *b"\x01\x02\x00\x00\x10\x00\x00\x00\x80wsfull\x00";
 
@@ -109,6 +112,13 @@ fn over_the_limit(limits: &Limits) -> Reply
     ensures { reply_bytes result ≡ reply limits.now (wrong (codes "limit")) }
 {
     fixed(limits, &LIMIT)
+}
+
+/// The error `disk`, for an update that the disk failed to keep.
+pub fn disk(limits: &Limits) -> Reply
+    ensures { reply_bytes result ≡ reply limits.now (wrong (codes "disk")) }
+{
+    fixed(limits, &DISK)
 }
 
 /// The error `wsfull`: out of memory.

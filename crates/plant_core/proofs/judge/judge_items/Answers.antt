@@ -1,12 +1,12 @@
 use Rattle.std.proofs.Common.{◌≡◌, cond, sym, ◌∙◌, ap, ◌∷◌, map, w32, w64, to_z, of_z, rules}
 use Rattle.q_values.specs.Tree.{tree}
 use Rattle.plant_core.specs.Items.{spread}
-use Rattle.plant_core.proofs.JudgeLemmas.{passes_items}
+use Rattle.plant_core.proofs.JudgeLemmas.{passes_items, long_items, fits_items}
 use Rattle.plant_core.proofs.judge.judge_items.Goals as goal
 use Rattle.plant_core.proofs.judge.judge_items.Goals.{then-rolls, else-rolls}
 
-pub returns : goal.returns
-returns c =
+pub returns-then-is_long_record-clause-rules : goal.returns-then-is_long_record-clause-rules
+returns-then-is_long_record-clause-rules c =
     let left : c.if-rolls.rows ≡ cond c.is_next_day-rolls.result 0 c.args.standing.now.rows =
     elim c.if-rolls.branch [
       | then-rolls w ↦ w.rows-is ∙ ap (λ b. cond b 0 c.args.standing.now.rows) (sym w.if-rolls.true)
@@ -17,4 +17,23 @@ returns c =
     let moment : to_z w64 (of_z w64 c.args.standing.now.moment) ≡ c.args.standing.now.moment = search rules in
     let near = rw (date, moment) at c.if-is_past_next_day.ensures in
     let rolls = rw (date, moment) at c.is_next_day-rolls.ensures in
-    passes_items _ _ _ _ _ _ _ _ _ c.is_next_day-rolls.result c.if-rolls.rows _ (sym c.if-not-have_matching_lengths.ensures) (sym c.in_default.ensures.value) (sym near) rolls left (sym c.if-is_beyond.ensures) made
+    long_items c.args.limits.now c.args.standing.now.by c.args.standing.now.date c.args.standing.now.rows c.args.standing.now.moment c.args.target.now.name.now c.args.target.now.index c.args.target.now.kinds.now (tree c.args.first.now) (map tree c.args.others.now) c.is_next_day-rolls.result c.if-rolls.rows _ (sym c.if-not-have_matching_lengths.ensures) (sym c.in_default.ensures.value) (sym near) rolls left (sym c.if-holds_too_much.ensures) (sym (rw c.as_slice.ensures at c.if-is_long_record.ensures)) made
+
+pub returns-clause-rules : goal.returns-clause-rules
+returns-clause-rules c =
+    let left : c.if-rolls.rows ≡ cond c.is_next_day-rolls.result 0 c.args.standing.now.rows =
+    elim c.if-rolls.branch [
+      | then-rolls w ↦ w.rows-is ∙ ap (λ b. cond b 0 c.args.standing.now.rows) (sym w.if-rolls.true)
+      | else-rolls w ↦ w.rows-is ∙ ap (λ b. cond b 0 c.args.standing.now.rows) (sym w.if-rolls.false)
+    ] in
+    let made = c.in_ok-columns.ensures ∙ ap (λ n. map (spread n) (tree c.args.first.now ∷ map tree c.args.others.now)) c.count_atoms.ensures in
+    let date : to_z w32 (of_z w32 c.args.standing.now.date) ≡ c.args.standing.now.date = search rules in
+    let moment : to_z w64 (of_z w64 c.args.standing.now.moment) ≡ c.args.standing.now.moment = search rules in
+    let near = rw (date, moment) at c.if-is_past_next_day.ensures in
+    let rolls = rw (date, moment) at c.is_next_day-rolls.ensures in
+    passes_items _ _ _ _ _ _ _ _ _ _ c.is_next_day-rolls.result c.if-rolls.rows _ (sym c.if-not-have_matching_lengths.ensures) (sym c.in_default.ensures.value) (sym near) rolls left (sym c.if-holds_too_much.ensures) (sym (rw c.as_slice.ensures at c.if-is_long_record.ensures)) made
+
+pub returns-clause-fits : goal.returns-clause-fits
+returns-clause-fits c =
+    let made = c.in_ok-columns.ensures ∙ ap (λ n. map (spread n) (tree c.args.first.now ∷ map tree c.args.others.now)) c.count_atoms.ensures in
+    fits_items _ _ _ _ _ _ _ c.is_next_day-rolls.result c.if-rolls.rows _ c.requires.lawful (sym c.if-not-have_matching_lengths.ensures) (sym c.in_default.ensures.value) (sym c.if-holds_too_much.ensures) (sym (rw c.as_slice.ensures at c.if-is_long_record.ensures)) made

@@ -5,4 +5,4 @@ use Rattle.plant_core.proofs.history.History.date.Goals as goal
 pub returns : goal.returns
 returns c =
     let same : to_z w32 (of_z w32 c.date.result) ≡ c.date.result = search rules in
-    rw (← c.self.view_is) (same ∙ c.date.ensures.value ∙ sym (date_of-chronicle _ _ _ _ c.self.invariant.follow))
+    rw (← c.self.view_is) (same ∙ c.date.ensures.value ∙ sym (date_of-chronicle _ _ _ _ c.self.inside.faults.marks c.self.invariant.follow))

@@ -10,11 +10,11 @@ rows-requires c =
 pub returns-then-k-len : goal.returns-then-k-len
 returns-then-k-len c =
     let inside : c.args.k < length c.self.inside.ended.items = omega (arith, c.if-k-len.true, c.len.ensures, c.self.inside.ended.ok) in
-    rw (← c.self.view_is) ((rw c.day.ensures at c.rows.ensures) ∙ ap length (sym (rows-past _ _ _ _ _ c.args.table _ c.self.invariant.follow inside c.index.ensures)))
+    rw (← c.self.view_is) ((rw c.day.ensures at c.rows.ensures) ∙ ap length (sym (rows-past _ _ _ _ c.self.inside.faults.marks _ c.args.table _ c.self.invariant.follow inside c.index.ensures)))
 
 pub returns : goal.returns
 returns c =
-    let size = length-dates _ _ _ _ c.self.invariant.follow in
+    let size = length-dates _ _ _ _ c.self.inside.faults.marks c.self.invariant.follow in
     let below = rw (← c.self.view_is) at c.requires.date in
     let last : c.args.k ≡ length c.self.inside.ended.items = omega (arith, size, below, c.if-k-len.false, c.len.ensures, c.self.inside.ended.ok) in
-    rw (← c.self.view_is) (c.rows-2.ensures ∙ ap length (sym (rows-last _ _ _ _ _ c.args.table c.self.invariant.follow last)))
+    rw (← c.self.view_is) (c.rows-2.ensures ∙ ap length (sym (rows-last _ _ _ _ c.self.inside.faults.marks _ c.args.table c.self.invariant.follow last)))

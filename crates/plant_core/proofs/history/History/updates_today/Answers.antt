@@ -2,7 +2,10 @@ use Rattle.plant_core.proofs.HistoryLemmas.{today_counted}
 use Rattle.plant_core.proofs.history.History.updates_today.Goals as goal
 
 pub overflow_sub-result : goal.overflow_sub-result
-overflow_sub-result c = (today_counted _ _ _ _ _ _ _ c.self.invariant).below
+overflow_sub-result c = (today_counted _ _ _ _ _ _ _ _ _ c.self.invariant).below
+
+pub overflow_sub-result-2 : goal.overflow_sub-result-2
+overflow_sub-result-2 c = rw c.len.ensures (today_counted _ _ _ _ _ _ _ _ _ c.self.invariant).few
 
 pub returns : goal.returns
-returns c = rw (← c.self.view_is) (today_counted _ _ _ _ _ _ _ c.self.invariant).updates
+returns c = rw (← c.self.view_is, c.len.ensures) (today_counted _ _ _ _ _ _ _ _ _ c.self.invariant).updates

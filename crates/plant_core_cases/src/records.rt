@@ -1,0 +1,37 @@
+//! The limit of log records.
+ghost use Rattle.std.specs.Prelude.{◌≤◌};
+
+use crate::plants::{DATE, HALF_PAST_NINE, NOW, refusal_of, trade};
+use plant_core::{Plant, UpdRefusal};
+use q_values::{Limits, NoMemory};
+use schema_text::{BUILT_IN, read_schema};
+use std::alloc::Global;
+use std::test::Fail;
+
+// The refusal of an update of one row of `trade` with the symbol `ibm`, or none where it was logged. Its record has 8 bytes
+// for the pass, 6 for a list of three, 5 for `upd`, 7 for `trade`, 6 for a list of four, 14 for the time, 10 for the
+// symbol, 14 for the price and 14 for the size: 84.
+fn refused_at(alloc: Global, limit: u32) -> Result<Option<UpdRefusal>, NoMemory>
+    requires { limit ≤ 67108864 }
+{
+    let mut limits = Limits::standard();
+    limits.chunk = limit;
+    let Ok(schema) = read_schema(alloc, BUILT_IN) else {
+        return Err(NoMemory);
+    };
+    let mut plant = Plant::begin(alloc, schema, DATE, &limits)?;
+    let request = trade(alloc, HALF_PAST_NINE, b"ibm", 10, 1)?;
+    refusal_of(alloc, &mut plant, &request, NOW)
+}
+
+fn longer_is_refused(alloc: Global) -> Result<bool, NoMemory> {
+    let within = refused_at(alloc, 84)?.is_none();
+    let beyond = matches!(refused_at(alloc, 83)?, Some(UpdRefusal::Limit));
+    Ok(within && beyond)
+}
+
+#[test]
+fn record_longer_than_the_limit(rt: HostRuntime) -> Result<(), Fail> {
+    assert!(rt; longer_is_refused(rt.alloc())?);
+    Ok(())
+}
