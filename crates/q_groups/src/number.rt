@@ -32,7 +32,7 @@ pub(crate) struct Numbered<T: Eq + Hash> {
     pub firsts: Vec<u32>,
 }
 
-// The slot of an item among so many, a power of two.
+// The slot of an item among this many, a power of two.
 fn slot_of(word: u64, slots: usize) -> usize {
     (word.wrapping_mul(SPREAD) >> 40) as usize & slots.wrapping_sub(1)
 }

@@ -24,10 +24,10 @@ const RANKS: i64 = 4_294_967_296;
 // The most rows that 32 bits number, with a number to spare.
 const MOST_ROWS: usize = 4_294_967_295;
 
-// A table of so many cells is small beside any number of rows.
+// A table of this many cells is small beside any number of rows.
 const FEW_CELLS: usize = 4_096;
 
-// A table of more cells has at least so many rows for each of them.
+// A table of more cells has at least this many rows for each of them.
 const ROWS_A_CELL: usize = 4;
 
 /// Rows grouped by their keys, the groups in ascending order of the keys.

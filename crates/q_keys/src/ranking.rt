@@ -42,13 +42,26 @@ pub(crate) fn picked(alloc: Global, items: &[u32], indices: &[u32]) -> Result<Ve
     Ok(picked)
 }
 
-/// The ranks of the column's atoms.
+// Puts the item at each of these indices in its place. It takes no memory.
+fn replaced(items: &[u32], indices: Vec<u32>) -> Vec<u32>
+    requires { All (λ i. i < length items.now) indices.items }
+    ensures { result.items ≡ map (slice_index items.now) indices.items }
+{
+    let mut found = indices;
+    for k in 0..found.len() {
+        let index = found[k] as usize;
+        found[k] = items[index];
+    }
+    found
+}
+
+/// The ranks of the column's atoms. They take the memory of the groups' numbers.
 pub(crate) fn ranked(alloc: Global, column: &Vector) -> Result<Ranking, NoMemory>
     ensures { IfOk result (λ r. IsRanking atom_cmp column.now.atoms r.ranks.items r.firsts.items) }
 {
     let groups = Groups::of(alloc, column)?;
     let places = places_in(alloc, groups.sorted())?;
     let firsts = picked(alloc, groups.firsts(), groups.sorted())?;
-    let ranks = picked(alloc, &places, groups.codes())?;
+    let ranks = replaced(&places, groups.into_codes());
     Ok(Ranking { ranks, firsts })
 }
