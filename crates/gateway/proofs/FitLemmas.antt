@@ -1,5 +1,5 @@
 -- Of the rows of a table, those columns that a query needs.
-use Rattle.std.proofs.Common.{◌≡◌, ℕ, suc, ℤ, Bool, true, false, cond, not, ◌+◌, ◌||◌, List, [], ◌∷◌, length, refl, sym, ap, ap₂, ◌∙◌, All, Option, Some, None, subst, arith}
+use Rattle.std.proofs.Common.{◌≡◌, ℕ, suc, ℤ, Bool, true, false, cond, not, ◌+◌, ◌||◌, List, [], ◌∷◌, length, refl, sym, ap, ◌∙◌, All, Option, Some, None, subst, arith}
 use Rattle.std.specs.Prelude.{codes, is_some, slice_get}
 use Rattle.std.specs.List.{filter, list_all, list_any}
 use Rattle.std.specs.Str.{bytes_eq}
@@ -24,15 +24,14 @@ use Rattle.qsql_values.specs.Kinds.{column_kind}
 use Rattle.qsql_values.proofs.FrameLemmas.{Even, some-lent, length_frame}
 use Rattle.qsql_eval.proofs.ReadyLemmas.{even_rows}
 use Rattle.qsql_eval.specs.Judgement.{mistyped, fits, first_unknown, judged_by_names, judged_over, judgement, table_named, all_columns, is_typed, IsFit}
-use Rattle.qsql_eval.specs.Meaning.{meaning}
 use Rattle.qsql_eval.specs.Views.{needed, is_kind, has_column, has_columns}
 use Rattle.gateway.specs.Answer.{table_index}
 use Rattle.gateway.specs.Needs.{is_wanted, chosen, SameColumn, AreSame}
 use Rattle.gateway.specs.DateRows.{rows_on, columns_on}
+use Rattle.gateway.specs.Kept.{table_names, table_rows_on}
 use Rattle.gateway.specs.TableRows.{dates_of_rows, numbers_on, columns_from}
 use Rattle.gateway.proofs.ColumnLemmas.{date_of_row, length-numbers_on}
 use Rattle.gateway.proofs.ChosenLemmas.{chosen_columns, even_chosen, beside-chosen, same_column, size_of_found, length-columns_from, kinds-columns_from, even-columns_from}
-use Rattle.gateway.proofs.NeedLemmas.{needed_suffice}
 
 no : {P : Type 0} → false ≡ true → P
 no e = absurd cc
@@ -42,14 +41,14 @@ bytes_eq-itself xs = (bytes_eq-Decides xs xs).1 refl
 
 -- ---- the names that a query needs are columns
 
-unknown_none : (table : Shape) (q : QueryForm) (o : Option (List ℕ)) → judged_by_names table q o ≡ fits table → o ≡ None
+pub unknown_none : (table : Shape) (q : QueryForm) (o : Option (List ℕ)) → judged_by_names table q o ≡ fits table → o ≡ None
 unknown_none table q None h = refl
 unknown_none table q (Some name) h = absurd cc
 
-abbrev IsKnown : Shape → List ℕ → Type 0
+abbrev pub IsKnown : Shape → List ℕ → Type 0
 IsKnown table name = is_some (column_kind table name) ≡ true
 
-all_known : (columns : List ℕ → Option Kind) (names : List (List ℕ)) → first_unknown columns names ≡ None → All (λ (n : List ℕ). is_some (columns n) ≡ true) names
+pub all_known : (columns : List ℕ → Option Kind) (names : List (List ℕ)) → first_unknown columns names ≡ None → All (λ (n : List ℕ). is_some (columns n) ≡ true) names
 all_known columns [] h = All-nil (λ (n : List ℕ). is_some (columns n) ≡ true)
 all_known columns (name ∷ names) h = by_test (all_known columns names) (is_some (columns name)) refl h
   where
@@ -114,14 +113,7 @@ wanted_needed (name ∷ names) = among (name ∷ names)
 
 -- ---- the columns of a table
 
-abbrev pub table_names : Shape → List (List ℕ)
-table_names table = codes "date" ∷ codes "i" ∷ table.names
-
--- the rows of a table on these dates, with all of its columns
-abbrev pub table_rows_on : List ℕ → ℤ → List Entry → ℕ → Shape → Frame
-table_rows_on dates first entries index table = frame_of (table_names table) (columns_on dates first entries index table)
-
-table_kinds : (dates : List ℕ) (first : ℤ) (entries : List Entry) (index : ℕ) (table : Shape) (name : List ℕ) → kind_beside (table_rows_on dates first entries index table) name ≡ column_kind table name
+pub table_kinds : (dates : List ℕ) (first : ℤ) (entries : List Entry) (index : ℕ) (table : Shape) (name : List ℕ) → kind_beside (table_rows_on dates first entries index table) name ≡ column_kind table name
 table_kinds dates first entries index table name =
     ap (λ (kinds : List Kind). cond (bytes_eq name (codes "date")) (Some k.Date) (cond (bytes_eq name (codes "i")) (Some k.Long) (beside name table.names kinds)))
     (kinds-columns_from 0 table.kinds (rows_on dates first entries index))
@@ -137,7 +129,7 @@ table_even dates first entries index table =
     (All-cons P (numbers_on dates first entries index) (columns_from 0 table.kinds rows) (length-numbers_on dates first entries index)
     (even-columns_from (length rows) 0 table.kinds rows refl))
 
-table_are : (dates : List ℕ) (first : ℤ) (entries : List Entry) (index : ℕ) (table : Shape) → length table.names ≡ length table.kinds → AreColumns (table_names table) (columns_on dates first entries index table)
+pub table_are : (dates : List ℕ) (first : ℤ) (entries : List Entry) (index : ℕ) (table : Shape) → length table.names ≡ length table.kinds → AreColumns (table_names table) (columns_on dates first entries index table)
 table_are dates first entries index table size = record {
   named = table_size dates first entries index table size;
   even = even_rows (length (rows_on dates first entries index)) (columns_on dates first entries index table) (table_even dates first entries index table);
@@ -148,11 +140,9 @@ pub wanted_columns : (dates : List ℕ) (first : ℤ) (entries : List Entry) (in
 wanted_columns dates first entries index table needs size =
     chosen_columns (length (rows_on dates first entries index)) (is_wanted needs) (table_names table) (columns_on dates first entries index table) (table_size dates first entries index table size) (table_even dates first entries index table)
 
-pub wanted_made : (dates : List ℕ) (first : ℤ) (entries : List Entry) (index : ℕ) (table : Shape) (needs names : List (List ℕ)) (columns : List Contents) → length table.names ≡ length table.kinds
-    → names ≡ filter (is_wanted needs) (table_names table) → columns ≡ chosen (is_wanted needs) (table_names table) (columns_on dates first entries index table) → AreColumns names columns
-wanted_made dates first entries index table needs names columns size n c =
-    subst (λ (ns : List (List ℕ)). AreColumns ns columns) (sym n)
-    (subst (λ (cs : List Contents). AreColumns (filter (is_wanted needs) (table_names table)) cs) (sym c) (wanted_columns dates first entries index table needs size))
+-- they have a row for each
+pub wanted_even : (dates : List ℕ) (first : ℤ) (entries : List Entry) (index : ℕ) (table : Shape) (needs : List (List ℕ)) → Even (length (rows_on dates first entries index)) (chosen (is_wanted needs) (table_names table) (columns_on dates first entries index table))
+wanted_even dates first entries index table needs = even_chosen (length (rows_on dates first entries index)) (is_wanted needs) (table_names table) (columns_on dates first entries index table) (table_even dates first entries index table)
 
 some_item : {X : Type 0} (o : Option X) → is_some o ≡ true → (x : X) × (o ≡ Some x)
 some_item (Some x) h = (x, refl)
@@ -181,26 +171,36 @@ same_wanted dates first entries index table needs size name has known =
     found.1
     (beside-chosen (is_wanted needs) name names columns has ∙ found.1)
 
+-- a column that is wanted has a row for each
+size_of_wanted : (dates : List ℕ) (first : ℤ) (entries : List Entry) (index : ℕ) (table : Shape) (needs : List (List ℕ)) (name : List ℕ) → is_wanted needs name ≡ true → IsKnown table name → rows_of (chosen (is_wanted needs) (table_names table) (columns_on dates first entries index table)) ≡ length (rows_on dates first entries index)
+size_of_wanted dates first entries index table needs name has known =
+    let names = table_names table in
+    let columns = columns_on dates first entries index table in
+    let found = found_column dates first entries index table name known in
+    size_of_found (length (rows_on dates first entries index)) (filter (is_wanted needs) names) (chosen (is_wanted needs) names columns) name found.0 (wanted_even dates first entries index table needs) (beside-chosen (is_wanted needs) name names columns has ∙ found.1)
+
 -- they are as many
 size_wanted : (dates : List ℕ) (first : ℤ) (entries : List Entry) (index : ℕ) (table : Shape) (needs : List (List ℕ)) → length table.names ≡ length table.kinds → (name : List ℕ) → is_wanted needs name ≡ true → IsKnown table name → length (table_rows_on dates first entries index table).rows ≡ length (wanted_rows dates first entries index table needs).rows
 size_wanted dates first entries index table needs size name has known =
     let names = table_names table in
     let columns = columns_on dates first entries index table in
-    let n = length (rows_on dates first entries index) in
-    let found = found_column dates first entries index table name known in
-    let there : rows_of (chosen (is_wanted needs) names columns) ≡ n =
-    size_of_found n (filter (is_wanted needs) names) (chosen (is_wanted needs) names columns) name found.0 (even_chosen n (is_wanted needs) names columns (table_even dates first entries index table)) (beside-chosen (is_wanted needs) name names columns has ∙ found.1) in
     length_frame names columns (table_are dates first entries index table size)
     ∙ length-map (rows_on dates first entries index) date_of_row
-    ∙ sym there
+    ∙ sym (size_of_wanted dates first entries index table needs name has known)
     ∙ sym (length_frame (filter (is_wanted needs) names) (chosen (is_wanted needs) names columns) (wanted_columns dates first entries index table needs size))
 
 -- a column that is read, whatever is needed
-one_wanted : (table : Shape) (needs : List (List ℕ)) → All (IsKnown table) needs → (name : List ℕ) × ((is_wanted needs name ≡ true) × IsKnown table name)
+pub one_wanted : (table : Shape) (needs : List (List ℕ)) → All (IsKnown table) needs → (name : List ℕ) × ((is_wanted needs name ≡ true) × IsKnown table name)
 one_wanted table [] known = (codes "date", (ap (λ (b : Bool). b || false) (bytes_eq-itself (codes "date")), known_date table))
 one_wanted table (name ∷ names) known = (name, (ap (λ (b : Bool). b || list_any (bytes_eq name) names) (bytes_eq-itself name), All-head (IsKnown table) name names known))
 
-all_both : {X : Type 0} (P Q R : X → Type 0) → ((x : X) → P x → Q x → R x) → (xs : List X) → All P xs → All Q xs → All R xs
+-- the columns that are wanted have a row for each
+pub rows_wanted : (dates : List ℕ) (first : ℤ) (entries : List Entry) (index : ℕ) (table : Shape) (needs : List (List ℕ)) → All (IsKnown table) needs → rows_of (chosen (is_wanted needs) (table_names table) (columns_on dates first entries index table)) ≡ length (rows_on dates first entries index)
+rows_wanted dates first entries index table needs known =
+    let one = one_wanted table needs known in
+    size_of_wanted dates first entries index table needs one.0 one.1.0 one.1.1
+
+pub all_both : {X : Type 0} (P Q R : X → Type 0) → ((x : X) → P x → Q x → R x) → (xs : List X) → All P xs → All Q xs → All R xs
 all_both P Q R f [] p q = All-nil R
 all_both P Q R f (x ∷ xs) p q = All-cons R x xs (f x (All-head P x xs p) (All-head Q x xs q)) (all_both P Q R f xs (All-tail P x xs p) (All-tail Q x xs q))
 
@@ -236,32 +236,8 @@ wanted_fit dates first entries index table q size fit =
     (λ n s known. kind_itself (column_kind table n) (kind_beside g n) (sym (table_kinds dates first entries index table n) ∙ s.kind) known)
     needs same.columns known)
 
-pub wanted_meaning : (dates : List ℕ) (first : ℤ) (entries : List Entry) (index : ℕ) (table : Shape) (q : QueryForm) → length table.names ≡ length table.kinds → IsFit table q → meaning (all_columns table) q (wanted_rows dates first entries index table (needed q table)) ≡ meaning (all_columns table) q (table_rows_on dates first entries index table)
-wanted_meaning dates first entries index table q size fit =
-    sym (needed_suffice table q (table_rows_on dates first entries index table) (wanted_rows dates first entries index table (needed q table)) (are_same dates first entries index table (needed q table) size (known_needed table q fit size)))
-
--- ---- the rows as they are made
-
-frame_made : (dates : List ℕ) (first : ℤ) (entries : List Entry) (index : ℕ) (shape table : Shape) (q : QueryForm) (needs names : List (List ℕ)) (columns : List Contents) → shape ≡ table → needs ≡ needed q table
-    → names ≡ filter (is_wanted needs) (table_names shape) → columns ≡ chosen (is_wanted needs) (table_names shape) (columns_on dates first entries index shape)
-    → frame_of names columns ≡ wanted_rows dates first entries index table (needed q table)
-frame_made dates first entries index shape table q needs names columns same n ns cs =
-    ap₂ frame_of ns cs ∙ ap₂ (λ (t : Shape) (wants : List (List ℕ)). wanted_rows dates first entries index t wants) same n
-
-even_shape : (shape table : Shape) → shape ≡ table → length shape.names ≡ length shape.kinds → length table.names ≡ length table.kinds
+pub even_shape : (shape table : Shape) → shape ≡ table → length shape.names ≡ length shape.kinds → length table.names ≡ length table.kinds
 even_shape shape table same size = subst (λ (t : Shape). length t.names ≡ length t.kinds) same size
-
-pub rows_fit : (dates : List ℕ) (first : ℤ) (entries : List Entry) (index : ℕ) (shape table : Shape) (q : QueryForm) (needs names : List (List ℕ)) (columns : List Contents) → shape ≡ table → needs ≡ needed q table
-    → names ≡ filter (is_wanted needs) (table_names shape) → columns ≡ chosen (is_wanted needs) (table_names shape) (columns_on dates first entries index shape)
-    → length shape.names ≡ length shape.kinds → IsFit table q → has_columns table q (frame_of names columns) ≡ true
-rows_fit dates first entries index shape table q needs names columns same n ns cs size fit =
-    ap (has_columns table q) (frame_made dates first entries index shape table q needs names columns same n ns cs) ∙ wanted_fit dates first entries index table q (even_shape shape table same size) fit
-
-pub rows_value : (dates : List ℕ) (first : ℤ) (entries : List Entry) (index : ℕ) (shape table : Shape) (q : QueryForm) (needs names : List (List ℕ)) (columns : List Contents) → shape ≡ table → needs ≡ needed q table
-    → names ≡ filter (is_wanted needs) (table_names shape) → columns ≡ chosen (is_wanted needs) (table_names shape) (columns_on dates first entries index shape)
-    → length shape.names ≡ length shape.kinds → IsFit table q → meaning (all_columns table) q (frame_of names columns) ≡ meaning (all_columns table) q (table_rows_on dates first entries index table)
-rows_value dates first entries index shape table q needs names columns same n ns cs size fit =
-    ap (meaning (all_columns table) q) (frame_made dates first entries index shape table q needs names columns same n ns cs) ∙ wanted_meaning dates first entries index table q (even_shape shape table same size) fit
 
 -- ---- the table of a query
 

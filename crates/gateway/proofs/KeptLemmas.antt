@@ -40,7 +40,7 @@ use Rattle.gateway.specs.DateRows.{kept_dates, rows_on, columns_on}
 use Rattle.gateway.specs.TableRows.{dates_of_rows, numbers_on, columns_from, every_date, table_rows, kept_rows}
 use Rattle.gateway.proofs.ChosenLemmas.{even-columns_from}
 use Rattle.gateway.proofs.ColumnLemmas.{date_of_row, parts_at, numbers_at, rows_dated, range_more, length-numbers_to, length-numbers_on}
-use Rattle.gateway.proofs.FitLemmas.{table_names, table_rows_on}
+use Rattle.gateway.specs.Kept.{table_names, table_rows_on}
 use Rattle.gateway.proofs.NeedLemmas.{selected-map}
 
 -- ---- lists of which whole parts are kept

@@ -5,5 +5,7 @@ pub mod IndexLemmas
 pub mod JoinLemmas
 pub mod KeptLemmas
 pub mod NeedLemmas
+pub mod PartLemmas
+pub mod RestLemmas
 pub mod ShapedLemmas
 pub mod WantedLemmas

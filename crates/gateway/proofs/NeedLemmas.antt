@@ -85,7 +85,7 @@ same_where f g flags names same =
     (part_same f g (selected flags f.rows) (selected flags g.rows) (selected flags) (λ name. selected-map (field_in f.names name) flags f.rows) (λ name. selected-map (field_in g.names name) flags g.rows))
     names same
 
-same_at : (f g : Frame) (places : List ℕ) (names : List (List ℕ)) → Same f g names → Same (rows_at places f) (rows_at places g) names
+pub same_at : (f g : Frame) (places : List ℕ) (names : List (List ℕ)) → Same f g names → Same (rows_at places f) (rows_at places g) names
 same_at f g places names same =
     All-weaker (SameColumn f g) (SameColumn (rows_at places f) (rows_at places g))
     (part_same f g (gathered f.rows places) (gathered g.rows places) (λ (xs : List Atom). gathered xs places) (λ name. map-gathered (field_in f.names name) f.rows places) (λ name. map-gathered (field_in g.names name) g.rows places))

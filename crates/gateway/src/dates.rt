@@ -6,7 +6,7 @@ ghost use Rattle.gateway.specs.DateRows.{kept_dates, AreDates};
 use plant_core::Snapshot;
 use q_values::NoMemory;
 use qsql_eval::Typed;
-use qsql_needs::keeps;
+use qsql_needs::Reads;
 use std::alloc::Global;
 
 // Puts the index of a date at the end, where the date is kept.
@@ -28,7 +28,7 @@ pub fn kept_dates(alloc: Global, typed: &Typed, snapshot: &Snapshot) -> Result<V
     let mut dates = Vec::new(alloc);
     for k in 0..snapshot.dates() {
         let date = snapshot.date_at(k);
-        let is_kept = keeps(alloc, typed, date)?;
+        let is_kept = typed.keeps(alloc, date)?;
         push_date(&mut dates, k, is_kept)?;
     }
     Ok(dates)

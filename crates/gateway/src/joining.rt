@@ -1,5 +1,5 @@
 //! The answers to as-of joins.
-ghost use Rattle.std.specs.Prelude.{◌≡◌, true, IfOk};
+ghost use Rattle.std.specs.Prelude.{◌≡◌, ◌<◌, true, length, IfOk};
 ghost use Rattle.q_values.specs.Tree.{tree, table};
 ghost use Rattle.qsql_request.specs.Views.{query_of, aj_of};
 ghost use Rattle.qsql_eval.specs.Judgement.{judgement, fits};
@@ -9,7 +9,8 @@ ghost use Rattle.asof_join.specs.Views.{grid_in};
 ghost use Rattle.gateway.specs.Answer.{query_value, joined, join_answer};
 ghost use Rattle.gateway.specs.Shaped.{IsShaped};
 
-use crate::values::{rows_of_typed, wrong_value};
+use crate::rest::without_phrases;
+use crate::values::{kept_rows_of_typed, rows_of_typed, wrong_value};
 use asof_join::{AjRefusal, AjTyped, aj, check_aj, table_of_side};
 use day_rows::Schema;
 use plant_core::Snapshot;
@@ -18,8 +19,8 @@ use qsql_eval::Typed;
 use qsql_request::AjQuery;
 use std::alloc::Global;
 
-// The table of a side, over all rows of its table.
-fn table_of(
+// The table of a side without phrases, over all rows of its table.
+fn table_of_whole(
     alloc: Global,
     typed: &Typed,
     snapshot: &Snapshot,
@@ -35,6 +36,52 @@ fn table_of(
     let rows = rows_of_typed(alloc, typed, snapshot, schema)?;
     let found = table_of_side(alloc, typed, &rows)?;
     Ok(found)
+}
+
+// The table of a side with phrases, over the rows that they keep.
+fn table_of_kept(
+    alloc: Global,
+    typed: &Typed,
+    snapshot: &Snapshot,
+    schema: &Schema,
+) -> Result<TableValue, NoMemory>
+    requires same { snapshot.now.frame.schema ≡ schema.now }
+    requires fits { judgement (query_of typed.now.query.now) schema.now ≡ fits typed.now.table.now }
+    requires typed { is_typed_source typed.now.table.now (query_of typed.now.query.now) ≡ true }
+    requires some { 0 < length typed.now.query.now.phrases }
+    ensures value { IfOk result (λ t. table (grid_in t)
+        ≡ query_value snapshot.now.frame.first schema.now snapshot.now.entries (query_of typed.now.query.now) typed.now.table.now) }
+    ensures source { IfOk result (λ t. IsSource typed.now.table.now (query_of typed.now.query.now) (grid_in t)) }
+{
+    let query = without_phrases(alloc, typed.query)?;
+    let rest = Typed {
+        query: &query,
+        table: typed.table,
+    };
+    let rows = kept_rows_of_typed(alloc, typed, &rest, snapshot, schema)?;
+    let found = table_of_side(alloc, &rest, &rows)?;
+    Ok(found)
+}
+
+// The table of a side, over all rows of its table.
+fn table_of(
+    alloc: Global,
+    typed: &Typed,
+    snapshot: &Snapshot,
+    schema: &Schema,
+) -> Result<TableValue, NoMemory>
+    requires same { snapshot.now.frame.schema ≡ schema.now }
+    requires fits { judgement (query_of typed.now.query.now) schema.now ≡ fits typed.now.table.now }
+    requires typed { is_typed_source typed.now.table.now (query_of typed.now.query.now) ≡ true }
+    ensures value { IfOk result (λ t. table (grid_in t)
+        ≡ query_value snapshot.now.frame.first schema.now snapshot.now.entries (query_of typed.now.query.now) typed.now.table.now) }
+    ensures source { IfOk result (λ t. IsSource typed.now.table.now (query_of typed.now.query.now) (grid_in t)) }
+{
+    if typed.query.phrases.is_empty() {
+        table_of_whole(alloc, typed, snapshot, schema)
+    } else {
+        table_of_kept(alloc, typed, snapshot, schema)
+    }
 }
 
 // The join of the values of both sides.

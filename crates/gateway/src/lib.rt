@@ -14,8 +14,13 @@
 //! more columns: `date`, and `i`, which numbers the rows of each date from 0. Only the columns that a query needs are read
 //! (`wanted`), only on the dates that its first phrases keep (`dates`), and date by date (`columns`).
 //!
-//! The rows of a table are in `specs/TableRows.antt`, those of some dates in `specs/DateRows.antt`, the columns that are
-//! needed in `specs/Needs.antt`, and the answer in `specs/Answer.antt`.
+//! A query with phrases never has a whole table in memory: each phrase is evaluated over the rows that those before it keep,
+//! and of these only the columns that it names are there (`keeping`). Then the columns that the query needs beside its phrases
+//! are read one after another, each cut down to the rows that are kept before the next is read (`table`), and the query is
+//! evaluated over them without its phrases (`rest`, `values`).
+//!
+//! The rows of a table are in `specs/TableRows.antt`, those of some dates in `specs/DateRows.antt`, those at some indices in
+//! `specs/Kept.antt`, the columns that are needed in `specs/Needs.antt`, and the answer in `specs/Answer.antt`.
 //!
 //! A subscription is answered with `nyi` here: the session serves it. The crate encodes no answer and sets no limit on
 //! its length.
@@ -25,8 +30,10 @@ mod answering;
 mod columns;
 mod dates;
 mod joining;
+mod keeping;
 pub mod laws;
 mod question;
+mod rest;
 mod table;
 mod values;
 mod wanted;

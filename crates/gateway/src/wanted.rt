@@ -1,12 +1,15 @@
-//! The columns that are read for a query.
+//! The columns that are read for a query, or for one of its phrases.
 ghost use Rattle.std.specs.Prelude.{◌≡◌, IfOk};
-ghost use Rattle.qsql_request.specs.Views.{query_of};
+ghost use Rattle.qsql_request.specs.Names.{names_in};
+ghost use Rattle.qsql_request.specs.Views.{form, query_of};
 ghost use Rattle.qsql_eval.specs.Views.{needed};
 ghost use Rattle.gateway.specs.Needs.{is_wanted};
 
+use day_rows::Shape;
 use q_values::NoMemory;
 use qsql_eval::Typed;
-use qsql_needs::{Needed, needs};
+use qsql_needs::{Needed, Reads};
+use qsql_request::Expr;
 use std::alloc::Global;
 use std::marker::Model;
 
@@ -29,7 +32,19 @@ impl<'a> Wanted<'a> {
     pub fn of(alloc: Global, typed: &Typed<'a>) -> Result<Wanted<'a>, NoMemory>
         ensures { IfOk result (λ w. w ≡ needed (query_of typed.now.query.now) typed.now.table.now) }
     {
-        let needed = needs(alloc, typed)?;
+        let needed = typed.needs(alloc)?;
+        Ok(Wanted { needed })
+    }
+
+    /// The columns that are read for this phrase of a query of the table.
+    pub fn of_phrase(
+        alloc: Global,
+        phrase: &'a Expr,
+        table: &'a Shape,
+    ) -> Result<Wanted<'a>, NoMemory>
+        ensures { IfOk result (λ w. w ≡ names_in (form phrase.now)) }
+    {
+        let needed = Needed::of_expr(alloc, phrase, table)?;
         Ok(Wanted { needed })
     }
 

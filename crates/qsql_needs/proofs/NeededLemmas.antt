@@ -1,16 +1,15 @@
 -- The columns and dates that a query needs.
-use Rattle.std.proofs.Common.{◌≡◌, ◌==◌, ◌+◌, ℕ, ℤ, Bool, true, false, cond, ◌&&◌, ◌||◌, not, List, [], ◌∷◌, ◌++◌, length, map, refl, sym, ap, ◌∙◌, append-nil, All, Option, Some, None, arith, suc}
+use Rattle.std.proofs.Common.{◌≡◌, ◌==◌, ℕ, ℤ, Bool, true, false, cond, ◌||◌, List, [], ◌∷◌, ◌++◌, length, map, refl, sym, ap, ◌∙◌, append-nil, All, Option, Some, None, arith}
 use Rattle.std.specs.Prelude.{codes}
 use Rattle.std.specs.List.{list_all, list_any}
 use Rattle.std.specs.Str.{bytes_eq}
-use Rattle.std.proofs.lemmas.List.{length-append}
 use Rattle.std.proofs.lemmas.List.Elements.{All-nil, All-cons}
 use Rattle.std.proofs.lemmas.List.Folds.{list_any-append}
 use Rattle.q_values.specs.Kind.{is}
 use Rattle.q_values.specs.declared.kind.Kind.{Kind}
 use Rattle.q_values.specs.declared.kind.Kind.TheVariants as k
 use Rattle.day_rows.specs.declared.schema.Shape.{Shape}
-use Rattle.qsql_request.specs.Forms.{Form, constant, column, two, QueryForm}
+use Rattle.qsql_request.specs.Forms.{Form, constant, column, two}
 use Rattle.qsql_request.specs.Unbuilt.{has_unbuilt, is_unbuilt_phrase}
 use Rattle.qsql_request.specs.Views.{form, query_of}
 use Rattle.qsql_request.specs.declared.request.Expr.{Expr}
@@ -42,6 +41,10 @@ has_every name xs table = list_any-append (bytes_eq name) xs (all_columns table)
 -- a query that names the columns that it shows
 pub has_named : (name : List ℕ) (xs : List (List ℕ)) (table : Shape) → list_any (bytes_eq name) (names_or_all xs false table) ≡ list_any (bytes_eq name) xs
 has_named name xs table = ap (list_any (bytes_eq name)) (append-nil xs)
+
+-- the columns that an expression names
+pub named_only : (xs : List (List ℕ)) (table : Shape) → names_or_all xs false table ≡ xs
+named_only xs table = append-nil xs
 
 not_none : {X : Type 0} (x : X) (xs : List X) → (length (x ∷ xs) == 0) ≡ false
 not_none x xs = grind arith

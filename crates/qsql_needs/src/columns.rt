@@ -1,15 +1,16 @@
 //! The columns that a query needs.
-ghost use Rattle.std.specs.Prelude.{◌≡◌, ◌==◌, length, map, IfOk};
+ghost use Rattle.std.specs.Prelude.{◌≡◌, ◌==◌, ◌++◌, length, map, OnOk, IfOk};
 ghost use Rattle.std.specs.List.{list_any};
 ghost use Rattle.std.specs.Str.{bytes_eq};
-ghost use Rattle.qsql_request.specs.Views.{query_of};
+ghost use Rattle.qsql_request.specs.Names.{names_in};
+ghost use Rattle.qsql_request.specs.Views.{form, query_of};
 ghost use Rattle.qsql_eval.specs.Judgement.{all_columns};
 ghost use Rattle.qsql_eval.specs.Views.{needed};
 
 use day_rows::Shape;
 use q_values::{NoMemory, Sym};
 use qsql_eval::Typed;
-use qsql_request::names_of_query;
+use qsql_request::{Expr, names_of_query};
 use std::alloc::Global;
 use std::marker::Model;
 
@@ -65,7 +66,37 @@ fn is_shown(table: &Shape, name: &[u8]) -> bool
     name == b"date".as_slice() || is_among(table.names.as_slice(), name)
 }
 
+// Puts the columns that the expression names at the end.
+fn push_names<'a>(names: &mut Vec<&'a Sym>, expr: &'a Expr) -> Result<(), NoMemory>
+    ensures { OnOk result (map (λ n. n.now) names.new.items
+        ≡ map (λ n. n.now) names.old.items ++ names_in (form expr.now)) }
+{
+    match expr {
+        Expr::Literal(_) => Ok(()),
+        Expr::Name(name) => Ok(names.push(name)?),
+        Expr::One(_, side) => push_names(names, side),
+        Expr::Two(_, left, right) => {
+            push_names(names, left)?;
+            push_names(names, right)
+        }
+    }
+}
+
 impl<'a> Needed<'a> {
+    /// The columns of the table that an expression names, each as often as it does.
+    #[tactic(auto, using(crate::proofs::NeededLemmas::named_only))]
+    pub fn of_expr(alloc: Global, expr: &'a Expr, table: &'a Shape) -> Result<Needed<'a>, NoMemory>
+        ensures { IfOk result (λ w. w ≡ names_in (form expr.now)) }
+    {
+        let mut names = Vec::new(alloc);
+        push_names(&mut names, expr)?;
+        Ok(Needed {
+            names,
+            every: false,
+            table,
+        })
+    }
+
     /// Whether no column is needed.
     #[tactic(auto, using(crate::proofs::NeededLemmas::some_needed, crate::proofs::NeededLemmas::as_many))]
     pub fn is_empty(&self) -> bool
@@ -86,8 +117,8 @@ impl<'a> Needed<'a> {
     }
 }
 
-/// The columns that a query needs: over rows that have the same ones under these names, it has the same value.
-pub fn needs<'a>(alloc: Global, typed: &Typed<'a>) -> Result<Needed<'a>, NoMemory>
+/// The columns that a query needs.
+pub(crate) fn needed_by<'a>(alloc: Global, typed: &Typed<'a>) -> Result<Needed<'a>, NoMemory>
     ensures { IfOk result (λ w. w ≡ needed (query_of typed.now.query.now) typed.now.table.now) }
 {
     let names = names_of_query(alloc, typed.query)?;

@@ -2,7 +2,7 @@ use Rattle.std.proofs.Common.{sym, subst}
 use Rattle.qsql_values.specs.Frames.{frame_of}
 use Rattle.gateway.specs.Shaped.{IsShaped}
 use Rattle.gateway.proofs.ShapedLemmas.{meaning_shaped}
-use Rattle.gateway.proofs.values.value_of_typed.Goals as goal
+use Rattle.gateway.proofs.values.value_of_whole.Goals as goal
 
 pub returns-clause-shaped : goal.returns-clause-shaped
 returns-clause-shaped c =

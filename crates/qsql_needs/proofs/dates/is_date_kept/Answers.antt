@@ -3,7 +3,7 @@ use Rattle.qsql_request.specs.Views.{form}
 use Rattle.qsql_request.specs.declared.request.Expr.{Expr}
 use Rattle.qsql_dates.specs.Dates.{is_date_phrase, IsDateTest}
 use Rattle.qsql_needs.proofs.NeededLemmas.{fit_dates}
-use Rattle.qsql_needs.proofs.dates.keeps.Goals as goal
+use Rattle.qsql_needs.proofs.dates.is_date_kept.Goals as goal
 
 pub keeps-requires : goal.keeps-requires
 keeps-requires c =
