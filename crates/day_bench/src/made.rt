@@ -38,7 +38,7 @@ pub fn symbols(alloc: Global, size: u32) -> Result<Vector> {
     Ok(items)
 }
 
-// `count` of the symbols, for the rows from `first` on; fewer where there are not so many.
+// `count` of the symbols, for the rows from `first` on; fewer where there are not that many.
 fn some_of(alloc: Global, symbols: &Vector, first: u32, count: usize) -> Result<Vector, NoMemory> {
     let from = (first as usize % NAMES).min(symbols.len());
     symbols.take(alloc, from, count.min(symbols.len() - from))

@@ -95,7 +95,7 @@ fn names(alloc: Global) -> Result<Names> {
     Ok(names)
 }
 
-/// `count` rows of `trade`, with so many symbols, prices from 10,000 and sizes from 1, both of ten bits.
+/// `count` rows of `trade`, with this many symbols, prices from 10,000 and sizes from 1, both of ten bits.
 pub fn rows(alloc: Global, count: u32, spread: Spread) -> Result<Rows> {
     let between = match DAY.checked_div(u64::from(count)) {
         Some(between) => between,

@@ -107,7 +107,7 @@ fn numbers_to(alloc: Global, count: u32) -> Result<Vec<i64>, Fail> {
     Ok(numbers)
 }
 
-// So many letters, `b` and `a` in turn.
+// This many letters, `b` and `a` in turn.
 fn letters_in_turn(alloc: Global, count: u32) -> Result<Vec<u8>, Fail> {
     let mut letters = Vec::new(alloc);
     for number in 0..count {
@@ -116,7 +116,7 @@ fn letters_in_turn(alloc: Global, count: u32) -> Result<Vec<u8>, Fail> {
     Ok(letters)
 }
 
-/// A plant with so many rows of `trade` on 2024.01.02, and as many again on 2024.01.03 with as many of `quote`. The symbols
+/// A plant with this many rows of `trade` on 2024.01.02, and as many again on 2024.01.03 with as many of `quote`. The symbols
 /// are `b` and `a` in turn, and all other columns count the rows of their update from 0.
 pub(crate) fn many_rows(alloc: Global, count: u32) -> Result<Plant, Fail> {
     let numbers = numbers_to(alloc, count)?;

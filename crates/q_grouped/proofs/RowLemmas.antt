@@ -84,7 +84,7 @@ first_by_rows kind groups codes xs n size =
     (λ g. first_from (null_of kind) xs (group_of g codes (range_with_len 0 n)))
     ∙ ap (by_group (aggregate_of u.First kind) groups codes) (ap (λ m. map (λ i. get_or xs i (null_of kind)) (range_with_len 0 m)) size ∙ by_rows (null_of kind) xs)
 
--- the first of one item, so many times
+-- the first of one item, this many times
 pub gathered_zeros : {X : Type 0} (n : ℕ) (x : X) → gathered (x ∷ []) (replicate n 0) ≡ replicate n x
 gathered_zeros zero x = refl
 gathered_zeros (suc n) x = ap (λ l. x ∷ l) (gathered_zeros n x)

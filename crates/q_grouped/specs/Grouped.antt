@@ -12,7 +12,7 @@ group_of g [] xs = []
 group_of g (code ∷ codes) [] = []
 group_of g (code ∷ codes) (x ∷ xs) = if nat_eq code g then x ∷ group_of g codes xs else group_of g codes xs
 
--- for each of so many groups, from 0, what f makes of its items
+-- for each of this many groups, from 0, what f makes of its items
 abbrev pub by_group : {X Y : Type 0} → (List X → Y) → ℕ → List ℕ → List X → List Y
 by_group f groups codes xs = map (λ g. f (group_of g codes xs)) (range_with_len 0 groups)
 

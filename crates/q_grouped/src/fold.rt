@@ -49,7 +49,7 @@ pub(crate) trait Fold<T, S> {
         ensures fits { IsTrue (fits item.now) };
 }
 
-// So many states before the first item.
+// This many states before the first item.
 fn starts<S: Copy>(alloc: Global, start: S, count: usize) -> Result<Vec<S>, NoMemory>
     ensures len { IfOk result (λ v. length v.items ≡ count) }
     ensures each { IfOk result (λ v. All (λ s. s ≡ start) v.items) }

@@ -29,7 +29,7 @@ fn first_rows(alloc: Global, places: &[usize], keys: usize) -> Result<Vec<u32>, 
     Ok(rows)
 }
 
-// Where each row's key is one of so many, the groups are those of the keys that a row has.
+// Where each row's key is one of `keys`, the groups are those of the keys that a row has.
 fn assert_groups(
     rt: &impl Abort,
     alloc: Global,
@@ -72,7 +72,7 @@ fn assert_rows(rt: &impl Abort, alloc: Global, groups: &KeyGroups) -> Result<(),
     Ok(())
 }
 
-// A key of so many for each row, by the bits of the row's number from this byte on.
+// One of this many keys for each row, by the bits of the row's number from this byte on.
 fn keys_of(alloc: Global, keys: u16, byte: usize) -> Result<Vec<i64>, Fail> {
     let mut found = Vec::new(alloc);
     for row in 0..ROWS {
@@ -96,7 +96,7 @@ fn places_of(alloc: Global, firsts: &[i64], nexts: &[i64], keys: u16) -> Result<
     Ok(places)
 }
 
-// Rows with two keys, one of so many each.
+// Rows with two keys, each one of as many as is said.
 fn assert_many(
     rt: &impl Abort,
     alloc: Global,

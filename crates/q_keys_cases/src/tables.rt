@@ -35,9 +35,18 @@ fn assert_groups(rt: &impl Abort, groups: &KeyGroups, codes: &[u32], firsts: &[u
     assert_eq!(rt; groups.is_empty(), firsts.is_empty());
 }
 
+// The groups of each table are those that it has.
+fn assert_tables(rt: &impl Abort, alloc: Global, tables: &[Table]) -> Result<(), Fail> {
+    for table in tables {
+        let columns = columns_of(alloc, table)?;
+        let groups = grouped(alloc, &columns)?;
+        assert_groups(rt, &groups, table.codes, table.firsts);
+    }
+    Ok(())
+}
+
 #[test]
-fn tables(rt: HostRuntime) -> Result<(), Fail> {
-    let alloc = rt.alloc();
+fn one_key(rt: HostRuntime) -> Result<(), Fail> {
     let tables = [
         Table {
             symbols: &[b"b", b"a", b"b", b"c", b"a"],
@@ -57,6 +66,13 @@ fn tables(rt: HostRuntime) -> Result<(), Fail> {
             codes: &[3, 1, 3, 0, 2, 1],
             firsts: &[3, 1, 4, 0],
         },
+    ];
+    assert_tables(&rt, rt.alloc(), &tables)
+}
+
+#[test]
+fn two_keys(rt: HostRuntime) -> Result<(), Fail> {
+    let tables = [
         Table {
             symbols: &[b"b", b"a", b"b", b"a"],
             longs: &[2, 1, 2, 0],
@@ -88,12 +104,7 @@ fn tables(rt: HostRuntime) -> Result<(), Fail> {
             firsts: &[0],
         },
     ];
-    for table in &tables {
-        let columns = columns_of(alloc, table)?;
-        let groups = grouped(alloc, &columns)?;
-        assert_groups(&rt, &groups, table.codes, table.firsts);
-    }
-    Ok(())
+    assert_tables(&rt, rt.alloc(), &tables)
 }
 
 // The last key decides where the others are equal.

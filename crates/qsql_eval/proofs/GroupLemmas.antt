@@ -46,7 +46,7 @@ pub limited_none : (columns : List Contents) → map (limited_column None) colum
 limited_none [] = refl
 limited_none (c ∷ columns) = ap (λ (cs : List Contents). c ∷ cs) (limited_none columns)
 
--- columns of one length with a name for each are a table of so many rows
+-- columns of one length with a name for each are a table of this many rows
 pub record IsTableOf (n : ℕ) (names : List (List ℕ)) (columns : List Contents) : Type 0 where
   pub is : IsTable names columns
   pub size : rows_of columns ≡ n

@@ -281,7 +281,7 @@ pub(crate) fn by_group<'a>(
     }
 }
 
-/// The items of a value for all groups, one for each of so many groups.
+/// The items of a value for all groups, one for each of this many groups.
 pub(crate) fn into_items(alloc: Global, value: Operand, groups: usize) -> Result<Vector, NoMemory>
     ensures { IfOk result (λ v. v ≡ per_group groups (operand_tree value.entry)) }
 {
