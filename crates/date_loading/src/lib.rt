@@ -16,8 +16,8 @@
 //! }
 //! ```
 //!
-//! Nothing is written. Each file is synced before it is read, so the entries that were loaded are in each image from
-//! then on. Dates that are saved as parts aren't known here.
+//! Nothing is written. Each file is synced before it is read. So from then on a crash keeps the entries that were loaded,
+//! if no sync of these files had failed before. Dates that are saved as parts aren't known here.
 #![tactic(auto)]
 
 mod loading;
