@@ -1,7 +1,8 @@
 -- A file in memory, and the files of a disk in memory.
 use Rattle.std.specs.List.{AllByRecursion}
-use Rattle.std.specs.Prelude.{slice_get, drop, Some, ◌≡◌, ◌≢◌, ◌<◌, ◌≤◌, ◌+◌, ◌==◌, ℕ, List, [], ◌∷◌, length, take, slice_index, get_or, min, if◌then◌else◌}
-use Rattle.outside_api.specs.Disk.{FileState, IsDurableAt, IsImage, empty_file}
+use Rattle.std.specs.Prelude.{slice_get, drop, Some}
+use Rattle.std.specs.Prelude.{◌≡◌, ◌≢◌, ◌⊎◌, ◌<◌, ◌≤◌, ◌+◌, ◌==◌, ℕ, List, [], ◌∷◌, length, take, slice_index, get_or, min, if◌then◌else◌}
+use Rattle.outside_api.specs.Disk.{FileState, IsDurableAt, IsImage, empty_file, unsettled}
 use Rattle.outside_api.specs.declared.range.WrittenRange.{WrittenRange}
 use Rattle.outside_api.specs.declared.range.RangeState.TheVariants.{Kept}
 use Rattle.outside_mem.specs.Ranges.{IsNotKept, IsInDoubt}
@@ -20,6 +21,14 @@ file_in (entry ∷ entries) number = if entry.number == number then entry.file e
 pub record ChangesFile (old new : ℕ → FileState) (number : ℕ) (file : FileState) : Type 0 where
   pub changed : new number ≡ file
   pub others : (k : ℕ) → k ≢ number → new k ≡ old k
+
+-- no file has changed
+abbrev pub KeepsFiles : (ℕ → FileState) → (ℕ → FileState) → Type 0
+KeepsFiles old new = (k : ℕ) → new k ≡ old k
+
+-- a sync of this file failed, and what wasn't durable of it may be lost; a file that was never written stays as it is
+abbrev pub LosesFile : (ℕ → FileState) → (ℕ → FileState) → ℕ → Type 0
+LosesFile old new number = ((old number ≡ empty_file) × KeepsFiles old new) ⊎ ChangesFile old new number (unsettled (old number))
 
 -- no entry before this index has the number
 abbrev pub IsAbsentBefore : List Numbered → ℕ → ℕ → Type 0

@@ -2,7 +2,7 @@
 ghost use Rattle.std.specs.Prelude.{◌≡◌, ◌≢◌, ◌⊎◌, ◌<◌, ◌≤◌, ◌+◌, ◌^◌, ℕ, length, take, drop, map, slice_get, Some, IfOk, IfSome, IfNone, OnOk, OnErr, List};
 ghost use Rattle.outside_api.specs.Disk.{FileState, put, written, spoiled, cut_to, synced, unsettled, empty_file};
 ghost use Rattle.outside_mem.specs.Places.{Finds};
-ghost use Rattle.outside_mem.specs.MemFile.{file_in, ChangesFile, IsFirst, IsAbsent};
+ghost use Rattle.outside_mem.specs.MemFile.{file_in, ChangesFile, LosesFile, IsFirst, IsAbsent};
 
 use crate::calling::Leaving;
 use crate::mem_file::MemFile;
@@ -158,8 +158,7 @@ impl Files {
 
     /// A sync of a file that fails: what isn't durable may be lost. A file that was never written stays as it is.
     pub fn lose(&mut self, number: u64)
-        ensures { ((k : ℕ) → file_in self.new k ≡ file_in self.old k)
-            ⊎ ChangesFile (file_in self.old) (file_in self.new) number (unsettled (file_in self.old number)) }
+        ensures { LosesFile (file_in self.old) (file_in self.new) number }
     {
         if let Some(i) = place_of(&self.places, self.entries.as_slice(), number) {
             self.entries[i].file.lose();

@@ -2,7 +2,7 @@
 ghost use Rattle.std.specs.Prelude.{◌≡◌, ◌<◌, ◌≤◌, ◌+◌, ◌^◌, [], ◌∷◌, Option, None, Some, IfOk, OnOk, OnErr, IsTrue, length, take, drop};
 ghost use Rattle.outside_api.specs.Counts.{counted};
 ghost use Rattle.outside_mem.specs.MemFile.{file_in};
-ghost use Rattle.outside_mem.specs.MemDisk.{new_disk, shown_by, next_calling, PlaysOn, AreLeft};
+ghost use Rattle.outside_mem.specs.MemDisk.{new_disk, shown_by, next_calling, part_written, PlaysOn, AreLeft};
 
 use crate::calling::{Calling, Leaving};
 use crate::files::Files;
@@ -149,7 +149,7 @@ impl MemDisk {
 
 impl Disk for MemDisk {
     ghost use Rattle.outside_api.specs.Disk.{Counts, Looks, Changes, IsWithin, Writing, Cutting, Syncing};
-    ghost use Rattle.outside_mem.specs.MemDisk.{Goes, GoesFreely};
+    ghost use Rattle.outside_mem.specs.MemDisk.{Goes, GoesFreely, Writes, Cuts, Syncs};
 
     ghost shown = { shown_by };
 
@@ -195,6 +195,7 @@ impl Disk for MemDisk {
         ensures counts { Counts (shown_by self.old) (shown_by self.new) result }
         ensures plays { PlaysOn self.old self.new }
         ensures goes { Goes self.old self.new result }
+        ensures writes { Writes self.old self.new file at bytes.now }
     {
         let calling = self.next();
         self.past.push(&self.files);
@@ -224,6 +225,7 @@ impl Disk for MemDisk {
         ensures counts { Counts (shown_by self.old) (shown_by self.new) result }
         ensures plays { PlaysOn self.old self.new }
         ensures goes { GoesFreely self.old self.new result }
+        ensures cuts { Cuts self.old self.new file size }
     {
         let calling = self.next();
         self.past.push(&self.files);
@@ -242,6 +244,7 @@ impl Disk for MemDisk {
         ensures counts { Counts (shown_by self.old) (shown_by self.new) result }
         ensures plays { PlaysOn self.old self.new }
         ensures goes { GoesFreely self.old self.new result }
+        ensures syncs { Syncs self.old self.new file }
     {
         let calling = self.next();
         self.past.push(&self.files);
@@ -259,7 +262,8 @@ impl Disk for MemDisk {
 
 // What a write of these bytes that fails writes.
 fn part_of(calling: Calling, bytes: &[u8]) -> &[u8]
-    ensures { length result.now ≤ length bytes.now }
+    ensures part { result.now ≡ part_written calling bytes.now }
+    ensures short { length result.now ≤ length bytes.now }
 {
     match calling {
         Calling::FailsTorn(count) => &bytes[..bytes.len().min(count as usize)],

@@ -12,5 +12,5 @@ returns-clause-changes c tells =
     (ap (λ (d : MemDiskView). d.files) same) (ap (λ (d : MemDiskView). d.past) same)
     (ap (λ (d : MemDiskView). d.files) c.fault-2.ensures)
     (ap (λ (d : MemDiskView). d.past) c.fault-2.ensures ∙ c.push.ensures)
-    (omega (arith, c.requires tells)) c.part_of-part.ensures
+    (omega (arith, c.requires tells)) c.part_of-part.ensures.short
     (ok_of c.spoil.result _ (sym c.if-is_err-2.ensures.value) c.spoil.ensures.ok)
