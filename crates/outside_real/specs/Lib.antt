@@ -1,0 +1,4 @@
+pub mod Clock
+pub mod Folder
+pub mod FolderDisk
+pub mod Reading

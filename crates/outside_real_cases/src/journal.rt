@@ -1,0 +1,65 @@
+//! A journal on a real disk.
+ghost use Rattle.std.specs.Prelude.{◌≡◌, ◌<◌, length, IfOk};
+ghost use Rattle.gated_journal.specs.Journal.{HasLastGate};
+
+use crate::real::{fresh_path, made, opened};
+use gated_journal::{Journal, Payload, State};
+use outside_api::Disk;
+use q_values::NoMemory;
+use std::alloc::Global;
+use std::fs;
+use std::test::Fail;
+
+const FILE: u64 = 1_008_767;
+
+fn payload(alloc: Global) -> Result<Payload, NoMemory>
+    ensures { IfOk result (λ p. 0 < length p.bytes) }
+{
+    let mut payload = Payload::with_room(alloc, 80)?;
+    payload.fill(&[7; 80]);
+    Ok(payload)
+}
+
+/// Appends the payload `count` times; whether each append succeeded.
+fn append_all<D: Disk>(disk: &mut D, journal: &mut Journal, payload: &Payload, count: u64) -> bool
+    requires clean { journal.old.state ≡ State.Clean }
+    requires some { 0 < length payload.now.bytes }
+    requires has_gate { HasLastGate (D.shown disk.old) journal.old }
+{
+    for _ in 0..count {
+        if journal.append(disk, payload).is_err() {
+            return false;
+        }
+    }
+    true
+}
+
+fn fill<D: Disk>(alloc: Global, disk: &mut D, count: u64) -> Result<bool, NoMemory> {
+    let payload = payload(alloc)?;
+    let Ok(mut journal) = Journal::fresh(disk, FILE) else {
+        return Ok(false);
+    };
+    Ok(append_all(disk, &mut journal, &payload, count))
+}
+
+/// How many records there are, and whether the last is the payload.
+fn found<D: Disk>(alloc: Global, disk: &mut D) -> Option<(usize, bool)> {
+    let Ok((_journal, records)) = Journal::load(alloc, disk, FILE) else {
+        return None;
+    };
+    let last = records.len().checked_sub(1)?;
+    Some((records.len(), records.get(last)? == [7; 80].as_slice()))
+}
+
+#[test]
+fn thousand_records_are_found_again(rt: HostRuntime) -> Result<(), Fail> {
+    let path = fresh_path(&rt, "journal")?;
+    let mut disk = made(&rt, path.as_str())?;
+    assert!(rt; fill(rt.alloc(), &mut disk, 1_000)?);
+    drop(disk);
+    let mut disk = opened(&rt, path.as_str())?;
+    assert_eq!(rt; found(rt.alloc(), &mut disk), Some((1_000, true)));
+    assert_eq!(rt; disk.faults(), 0);
+    fs::remove_dir_all(&rt, path.as_str())?;
+    Ok(())
+}

@@ -1,0 +1,25 @@
+//! Tests of `outside_real` through its public calls.
+//!
+//! They stand in a crate of their own, since a crate with tests in it is proved twice. Contracts say little of a real
+//! device, so these tests say what the devices do:
+//!
+//! ```text
+//! a planned folder   which calls a disk makes, and in what order; short writes, signals, a full disk, a failed sync
+//! a real folder      what was written is found again; faults; the lock; more files than are kept open
+//! a journal          a thousand records, found again
+//! a clock            known times, one that isn't given, the ends of the range; the machine's
+//! a file             read whole, and refused
+//! ```
+//!
+//! Each real folder stands in the machine's folder for temporary files, under a name that has the process's number,
+//! and is removed at the end.
+#![tactic(auto)]
+
+#[cfg(test)]
+mod journal;
+#[cfg(test)]
+mod planned;
+#[cfg(test)]
+mod readings;
+#[cfg(test)]
+mod real;
