@@ -1,16 +1,16 @@
 -- The parts of a chunk, and that they are read in one way.
-use Rattle.std.proofs.Common.{◌≡◌, ℕ, zero, suc, ◌+◌, ◌-◌, ◌<◌, ◌≤◌, ◌^◌, List, [], ◌∷◌, ◌++◌, length, drop, map, Some, refl, sym, ap, ◌∙◌, subst, append_assoc, arith, All}
+use Rattle.std.proofs.Common.{◌≡◌, ℕ, suc, ◌+◌, ◌<◌, ◌≤◌, List, [], ◌∷◌, ◌++◌, length, drop, map, Some, refl, sym, ap, ◌∙◌, subst, append_assoc, arith}
 use Rattle.std.specs.Prelude.{slice_get}
 use Rattle.std.specs.List.{AllByRecursion, flat_map}
-use Rattle.std.proofs.lemmas.List.{append-nil, append_cancel_left, drop_at, length-append, length-map}
+use Rattle.std.proofs.lemmas.List.{append-nil, append_cancel_left, drop_at, length-map}
 use Rattle.std.proofs.lemmas.Grind.{flat_map-append}
 use Rattle.byteorder.specs.Endian.{little_bytes, little_number}
 use Rattle.byteorder.specs.Numbers.{little_number-reads_back, length-bytes_low_first}
 use Rattle.q_values.specs.Contents.{Contents}
 use Rattle.q_values.specs.Table.{rows_of}
-use Rattle.q_values.specs.Tree.{Tree, atom, vector, list, items_of}
+use Rattle.q_values.specs.Tree.{vector, list, items_of}
 use Rattle.q_values.specs.declared.kind.Kind.{Kind}
-use Rattle.day_rows.specs.Day.{AreColumns, entry_rows}
+use Rattle.day_rows.specs.Day.{AreColumns}
 use Rattle.day_rows.specs.Schema.{IsSchema}
 use Rattle.day_rows.specs.declared.entry.Entry.{Entry}
 use Rattle.day_rows.specs.declared.entry.Entry.TheVariants as e
@@ -19,7 +19,7 @@ use Rattle.ipc_codec.specs.Canonical.{IsWritable, BeginsWith, BeginsWithNone}
 use Rattle.ipc_codec.specs.Reading.{number_of_items}
 use Rattle.ipc_codec.specs.Written.{written, written_items, head, vector_bytes}
 use Rattle.ipc_codec.proofs.CanonicalLemmas.{begins_once}
-use Rattle.tick_log.specs.Chunk.{chunk_bytes, update_tree, most_rows, no_pass, AreLoggable, SpellsChunk, IsChunk}
+use Rattle.tick_log.specs.Chunk.{chunk_bytes, update_tree, most_rows, no_pass, SpellsChunk, IsChunk}
 use Rattle.tick_log.specs.Reading.{BeginsWithPass, BeginsWithTable, AreVectors, AreLogged, opening}
 use Rattle.tick_log.proofs.Tables.{name_once, table_once, word_no_nul, shape_at}
 

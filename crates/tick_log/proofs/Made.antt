@@ -1,5 +1,5 @@
 -- The chunk that is made of an update: its bytes and their number.
-use Rattle.std.proofs.Common.{◌≡◌, ℕ, zero, suc, ◌+◌, ◌<◌, ◌≤◌, List, [], ◌∷◌, ◌++◌, length, get_or, drop, Some, refl, sym, ap, ◌∙◌, subst, append_assoc, arith, All}
+use Rattle.std.proofs.Common.{◌≡◌, ℕ, zero, suc, ◌+◌, ◌<◌, ◌≤◌, List, [], ◌∷◌, ◌++◌, length, get_or, drop, Some, sym, ap, ◌∙◌, subst, append_assoc, arith, All}
 use Rattle.std.specs.Prelude.{slice_get, nat_le, true}
 use Rattle.std.proofs.lemmas.Bool.{leb-true, le-leb}
 use Rattle.ipc_codec.specs.Lengths.{saturated}

@@ -1,15 +1,15 @@
 -- Records, read as chunks one after another.
-use Rattle.std.proofs.Common.{◌≡◌, ℕ, zero, suc, ◌+◌, ◌<◌, ◌≤◌, List, [], ◌∷◌, ◌++◌, length, take, Some, refl, sym, ap, ◌∙◌, subst, arith}
+use Rattle.std.proofs.Common.{◌≡◌, ℕ, zero, suc, ◌+◌, ◌<◌, List, [], ◌∷◌, ◌++◌, max, take, Some, refl, sym, ap, ◌∙◌, subst, arith}
 use Rattle.std.specs.Prelude.{slice_get}
-use Rattle.std.specs.List.{sum_by}
 use Rattle.std.proofs.lemmas.List.Sums.{sum_by-append}
 use Rattle.day_rows.specs.Day.{entry_rows, total_rows}
 use Rattle.day_rows.specs.Schema.{IsSchema}
 use Rattle.day_rows.specs.declared.entry.Entry.{Entry}
+use Rattle.day_rows.specs.declared.entry.Entry.TheVariants as e
 use Rattle.day_rows.specs.declared.schema.Shape.{Shape}
-use Rattle.tick_log.specs.Chunk.{IsChunk}
+use Rattle.tick_log.specs.Chunk.{IsChunk, no_pass}
 use Rattle.tick_log.specs.Laws.{OneEntry, OneReplay, NeverBoth}
-use Rattle.tick_log.specs.Replay.{AreChunks, NoChunkAt}
+use Rattle.tick_log.specs.Replay.{AreChunks, by_of, top_by}
 use Rattle.tick_log.proofs.Chunks.{chunk_once}
 
 total-first : (x : Entry) (xs : List Entry) → total_rows (x ∷ xs) ≡ entry_rows x + total_rows xs
@@ -37,6 +37,16 @@ take_next (y ∷ ys) zero x e = let same : y ≡ x = cc in ap (λ z. z ∷ []) s
 take_next (y ∷ ys) (suc i) x e =
     let n : suc i + 1 ≡ suc (i + 1) = omega arith in
     rw n (ap (λ l. y ∷ l) (take_next ys i x e))
+
+pub top_by-push : (xs : List Entry) (x : Entry) → top_by (xs ++ x ∷ []) ≡ max (top_by xs) (by_of x)
+top_by-push [] x = omega arith
+top_by-push (y ∷ ys) x = let h = top_by-push ys x in omega arith
+
+-- the pass of a chunk has a number
+pub chunk-pass : (schema : List Shape) (before : ℕ) (bytes : List ℕ) (x : Entry) → IsChunk schema before bytes x → by_of x < no_pass
+chunk-pass schema before bytes (e.Upd by table columns) is = is.2.pass
+chunk-pass schema before bytes (e.Roll by date) is = absurd is
+chunk-pass schema before bytes (e.Fault by) is = absurd is
 
 replays_once : (schema : List Shape) (before : ℕ) (payloads : List (List ℕ)) (xs ys : List Entry) → IsSchema schema → AreChunks schema before payloads xs → AreChunks schema before payloads ys → xs ≡ ys
 replays_once schema before [] [] [] lawful h i = refl

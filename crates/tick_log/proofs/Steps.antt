@@ -1,21 +1,20 @@
 -- Steps of the readers of a chunk.
-use Rattle.std.proofs.Common.{nat_eq, ◌≡◌, ℕ, ◌+◌, ◌≤◌, Bool, true, false, List, [], ◌∷◌, ◌++◌, length, take, drop, Option, Some, None, Result, Ok, Err, refl, sym, ap, ◌∙◌, subst, append_assoc, arith, Bor}
-use Rattle.std.specs.Prelude.{IfOk, IfNone, slice_get}
+use Rattle.std.proofs.Common.{◌≡◌, ℕ, ◌+◌, true, false, List, [], ◌++◌, length, take, drop, Option, Some, None, Result, Ok, Err, refl, sym, ap, ◌∙◌, subst, Bor}
+use Rattle.std.specs.Prelude.{IfOk, IfNone}
 use Rattle.std.specs.Option.{IfSome, MatchOption}
 use Rattle.std.specs.Str.{bytes_eq}
 use Rattle.std.specs.List.{flat_map}
-use Rattle.std.proofs.lemmas.List.{take_at, take-append-drop, append_cancel_left, append-nil}
+use Rattle.std.proofs.lemmas.List.{take_at, take-append-drop, append_cancel_left}
 use Rattle.std.proofs.lemmas.Slice.Eq.{bytes_eq-Decides}
 use Rattle.q_values.specs.Contents.{Contents}
 use Rattle.q_values.specs.declared.kind.Kind.{Kind}
-use Rattle.day_rows.specs.declared.schema.Shape.{Shape}
 use Rattle.ipc_codec.specs.Canonical.{IfNotCanonical}
 use Rattle.ipc_codec.specs.Written.{head, vector_bytes}
 use Rattle.ipc_codec.specs.declared.vectors.VectorFault.{VectorFault}
 use Rattle.ipc_codec.specs.declared.vectors.VectorFault.TheVariants as v
 use Rattle.tick_log.specs.Chunk.{AreLoggable}
 use Rattle.tick_log.specs.Fault.{fault_of}
-use Rattle.tick_log.specs.Reading.{IfNoChunk, BeginsWithTable, AreVectors, AreLogged, opening}
+use Rattle.tick_log.specs.Reading.{IfNoChunk, AreVectors, AreLogged}
 use Rattle.tick_log.specs.declared.refusal.ChunkFault.{ChunkFault}
 use Rattle.tick_log.specs.declared.refusal.ChunkFault.TheVariants as c
 use Rattle.tick_log.proofs.Chunks.{vectors_once, columns_of_kinds}

@@ -1,10 +1,9 @@
 -- The parts of a chunk, as they are read one after another.
-use Rattle.std.specs.Prelude.{◌≡◌, ◌<◌, ℕ, List, [], ◌∷◌, ◌++◌, length, Result, Ok, Err, ⊤, Some, slice_get}
+use Rattle.std.specs.Prelude.{◌≡◌, ◌<◌, ℕ, List, [], ◌∷◌, ◌++◌, length, Result, Ok, Err, ⊤}
 use Rattle.std.specs.List.{AllByRecursion, flat_map}
 use Rattle.byteorder.specs.Endian.{little_bytes}
 use Rattle.q_values.specs.Contents.{Contents}
 use Rattle.q_values.specs.declared.kind.Kind.{Kind}
-use Rattle.day_rows.specs.declared.schema.Shape.{Shape}
 use Rattle.ipc_codec.specs.Canonical.{IsWritable}
 use Rattle.ipc_codec.specs.Written.{head, vector_bytes}
 use Rattle.tick_log.specs.Chunk.{update_word, no_pass, AreLoggable}

@@ -8,7 +8,8 @@
 //! - [`chunk_of`] makes the chunk of an update: its columns are encoded straight into the payload. [`chunk_into`] reuses the
 //!   memory of an older chunk.
 //! - [`replay`] gives the updates of a log's records, or [`ReplayRefusal::Corrupt`] with the offset of the first record that
-//!   is no chunk. [`replay_into`] adds them to a day as they are read, so that no list of them is kept.
+//!   is no chunk. [`replay_into`] adds them to a day as they are read, so that no list of them is kept, and counts them
+//!   ([`Replayed`]).
 //! - [`count_valid`] tells how many chunks of a file are good, and whether a fault follows them.
 //!
 //! ```text
@@ -36,7 +37,7 @@ mod refusal;
 
 pub use chunk::{Chunk, chunk_into, chunk_length, chunk_of, is_loggable};
 pub use count::{CountRefusal, Valid, count_valid};
-pub use day::replay_into;
+pub use day::{Replayed, replay_into};
 pub use laws::a_log_is_read_in_one_way;
 pub use records::replay;
 pub use refusal::ReplayRefusal;

@@ -126,7 +126,7 @@ pub enum Found {
 fn found_in_a_day(alloc: Global, schema: &Schema, records: &Records) -> Result<Found, NoMemory> {
     let mut day = OpenDay::new(alloc, schema, 8_767)?;
     match replay_into(alloc, schema, records, &mut day) {
-        Ok(()) => Ok(Found::Entries(day.updates(alloc)?.len())),
+        Ok(_counts) => Ok(Found::Entries(day.updates(alloc)?.len())),
         Err(ReplayRefusal::Corrupt { chunks, bytes }) => Ok(Found::NoChunk(chunks, bytes)),
         Err(ReplayRefusal::NoMemory) => Err(NoMemory),
     }

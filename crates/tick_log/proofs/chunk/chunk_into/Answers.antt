@@ -1,4 +1,4 @@
-use Rattle.std.proofs.Common.{◌≡◌, List, length, ap, sym, ◌∙◌}
+use Rattle.std.proofs.Common.{List, length, ap, sym, ◌∙◌}
 use Rattle.q_values.specs.Contents.{Contents}
 use Rattle.day_rows.specs.declared.entry.Entry.TheVariants as e
 use Rattle.tick_log.proofs.Made.{made}

@@ -1,6 +1,5 @@
 use Rattle.std.proofs.Common.{◌≡◌, ◌+◌, ◌∷◌, ◌++◌, [], List, ℕ, take, subst, sym, ap, ◌∙◌, arith}
 use Rattle.day_rows.specs.Day.{entry_rows, total_rows}
-use Rattle.day_rows.specs.declared.entry.Entry.{Entry}
 use Rattle.tick_log.specs.Chunk.{IsChunk}
 use Rattle.tick_log.specs.Replay.{AreChunks}
 use Rattle.tick_log.proofs.Replays.{chunks_more, take_next, total-more}

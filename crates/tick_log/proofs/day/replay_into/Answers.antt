@@ -1,9 +1,10 @@
-use Rattle.std.proofs.Common.{◌≡◌, ◌+◌, ◌∷◌, ◌++◌, [], List, ℕ, take, subst, sym, ap, ◌∙◌, arith}
+use Rattle.std.proofs.Common.{◌≡◌, ◌+◌, ◌∷◌, ◌++◌, [], List, ℕ, length, max, take, subst, sym, ap, ◌∙◌, arith}
+use Rattle.std.proofs.lemmas.List.{length-append}
 use Rattle.day_rows.specs.Day.{entry_rows, total_rows}
 use Rattle.day_rows.specs.declared.entry.Entry.{Entry}
 use Rattle.tick_log.specs.Chunk.{IsChunk}
-use Rattle.tick_log.specs.Replay.{AreChunks}
-use Rattle.tick_log.proofs.Replays.{chunks_more, take_next, total-more}
+use Rattle.tick_log.specs.Replay.{AreChunks, top_by}
+use Rattle.tick_log.proofs.Replays.{chunks_more, take_next, total-more, top_by-push, chunk-pass}
 use Rattle.tick_log.proofs.day.replay_into.Goals as goal
 
 pub loop-i-preserved : goal.loop-i-preserved
@@ -25,4 +26,14 @@ loop-i-preserved c =
       date_is = ap (λ day. day.date) added ∙ i.date_is;
       rows_are = c.in-Ok.ensures.rows ∙ ap (λ (n : ℕ). n + entry_rows entry) i.rows_are ∙ sym (total-more entries entry) ∙ ap total_rows (sym updates);
       bounded = c.in-Ok.ensures.bounded;
+      number_is = ap length updates ∙ length-append entries (entry ∷ []) ∙ omega (arith, i.number_is);
+      greatest = c.max-top_by.ensures ∙ ap (λ (n : ℕ). max n c.maker_of-by.result) i.greatest
+          ∙ ap (max (top_by entries)) c.maker_of-by.ensures ∙ sym (top_by-push entries entry) ∙ ap top_by (sym updates);
+      below = omega (
+        arith,
+        c.max-top_by.ensures,
+        c.maker_of-by.ensures,
+        i.below,
+        chunk-pass schema c.loop-i.rows payload entry c.in-Ok.ensures.found,
+      );
     }
