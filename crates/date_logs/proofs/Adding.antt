@@ -1,7 +1,6 @@
 -- What an append and an opened date leave.
 use Rattle.std.proofs.Common.{◌≡◌, ◌≢◌, ◌⊎◌, inl, inr, ℕ, ℤ, ◌<ℤ◌, List, [], ◌∷◌, ◌++◌, Option, Some, None, IsTrue, refl, sym, ap, ◌∙◌, subst}
-use Rattle.outside_api.specs.Disk.{FileState, IsImage, DiskView, Passes}
-use Rattle.gated_journal.specs.Format.{Reads}
+use Rattle.outside_api.specs.Disk.{DiskView, Passes}
 use Rattle.gated_journal.specs.Journal.{JournalView, Holds, MayRead, Keeps, HasLastGate, late_of}
 use Rattle.gated_journal.specs.Steps.{OthersStay}
 use Rattle.gated_journal.specs.declared.state.State.{State}
@@ -17,7 +16,7 @@ use Rattle.partition_set.specs.Manifest.{ManifestView}
 use Rattle.partition_set.specs.Records.{payload_of, payloads_of, IsManifest, IsRecord, MayFollow}
 use Rattle.partition_set.specs.declared.record.ManifestRecord.{ManifestRecord}
 use Rattle.partition_set.specs.declared.record.ManifestRecord.TheVariants as m
-use Rattle.date_logs.specs.Restart.{log_file, open_rows}
+use Rattle.date_logs.specs.Restart.{IsFound, log_file, open_rows}
 use Rattle.date_logs.specs.Moments.{Throughout, RestartsAs}
 use Rattle.date_logs.specs.Stores.{DateLogsView, IsWhole, IsReady, late_record, IsLateChunk, OpensEmpty, StoresIn, Stores, left_of}
 use Rattle.date_logs.proofs.Dates.{rows-open}
@@ -175,7 +174,7 @@ module _ (before after : DiskView) (tells : after.tells ≡ before.tells) (manif
   told' = subst IsTrue tells
 
   opens : IsTrue before.tells → OpensEmpty before.now manifest.records (Some (e.Roll by date))
-  opens t = (lawful, λ image is. (empty t).images image (subst (λ (k : ℕ). IsImage (before.now k) image) (sym log_is) is))
+  opens t = (lawful, λ found is. storing.found-read log' (before.now log'.file) [] None (empty t) found (subst (λ (k : ℕ). IsFound (before.now k) found) (sym log_is) is))
 
   module _ (schema : List Shape) (first : ℤ) (entries : List Entry) (stores : Stores before logs schema first entries None) where
     opened' : IsTrue before.tells → StoresIn before.now old' schema first entries None

@@ -1,5 +1,5 @@
 -- A plant without dates, and its first date.
-use Rattle.std.proofs.Common.{◌≡◌, ◌≢◌, ◌⊎◌, inl, inr, ⊎_elim, ℕ, zero, suc, ℤ, drop, List, [], ◌∷◌, ◌++◌, map, Option, Some, None, IsTrue, refl, sym, ap, ◌∙◌, subst}
+use Rattle.std.proofs.Common.{◌≡◌, ◌≢◌, ⊎_elim, ℕ, zero, suc, ℤ, drop, List, [], ◌∷◌, ◌++◌, map, Some, None, IsTrue, refl, sym, ap, ◌∙◌, subst}
 use Rattle.std.specs.List.{AllByRecursion}
 use Rattle.day_rows.specs.Sorted.{IsAscending}
 use Rattle.std.proofs.lemmas.List.{append-nil, map-append}
@@ -7,16 +7,15 @@ use Rattle.outside_api.specs.Disk.{FileState, IsImage, DiskView, Passes}
 use Rattle.gated_journal.specs.Format.{Reads}
 use Rattle.gated_journal.specs.Journal.{JournalView, Holds, MayRead, Keeps, HasLastGate}
 use Rattle.gated_journal.specs.Steps.{OthersStay}
-use Rattle.day_rows.specs.declared.entry.Entry.{Entry}
 use Rattle.day_rows.specs.declared.schema.Shape.{Shape}
 use Rattle.partition_set.specs.Manifest as partition
 use Rattle.partition_set.specs.Manifest.{ManifestView}
 use Rattle.partition_set.specs.Records.{payload_of, payloads_of, IsManifest, IsRecord, IsOpened, MayFollow}
 use Rattle.partition_set.specs.declared.record.ManifestRecord.{ManifestRecord}
 use Rattle.partition_set.specs.declared.record.ManifestRecord.TheVariants as m
-use Rattle.date_logs.specs.Restart.{IsImageOf, log_file, manifest_of, AreDates, Restarts}
-use Rattle.date_logs.specs.Moments.{Throughout, RestartsAs}
-use Rattle.date_logs.specs.Stores.{DateLogsView, IsWhole, IsReady, StoresIn, Stores}
+use Rattle.date_logs.specs.Restart.{IsFound, log_file, AreDates, Restarts}
+use Rattle.date_logs.specs.Moments.{Throughout, RestartsAs, RestartsFrom}
+use Rattle.date_logs.specs.Stores.{IsWhole, IsReady, Stores}
 use Rattle.date_logs.proofs.Files.{log-not-zero, own-last}
 use Rattle.date_logs.proofs.Mending.{gate-stays}
 use Rattle.date_logs.proofs.Moments.{Files, throughout-join, throughout-passes}
@@ -50,6 +49,17 @@ restarts-undated schema first image lawful reads = record {
 
 pub undated : (schema : List Shape) (first : ℤ) (files : Files) → IsManifest (map m.Shape schema) → ((image : List ℕ) → IsImage (files 0) image → Reads image (payloads_of (map m.Shape schema))) → RestartsAs schema first [] None files
 undated schema first files lawful reads = λ image is. restarts-undated schema first image lawful (reads (image 0) (is 0))
+
+-- the same of whatever is found of the manifest's file
+pub undated-found : (schema : List Shape) (first : ℤ) (files : Files) → IsManifest (map m.Shape schema) → ((found : List ℕ) → IsFound (files 0) found → Reads found (payloads_of (map m.Shape schema))) → RestartsFrom schema first [] None files
+undated-found schema first files lawful reads = λ found is. restarts-undated schema first found lawful (reads (found 0) (is 0))
+
+-- the bytes of a manifest's file
+pub bytes-read : (files : Files) (manifest : ManifestView) (records : List ManifestRecord) → manifest.records ≡ records → manifest.journal.file ≡ 0 → Holds manifest.journal (files manifest.journal.file) (payloads_of manifest.records) None
+    → Reads (files 0).bytes (payloads_of records)
+bytes-read files manifest records same file holds =
+    let there : Reads (files manifest.journal.file).bytes (payloads_of manifest.records) = holds.reads in
+    subst (λ (k : ℕ). Reads (files k).bytes (payloads_of records)) file (subst (λ (l : List ManifestRecord). Reads (files manifest.journal.file).bytes (payloads_of l)) same there)
 
 are-first : (schema : List Shape) (by : ℕ) (date : ℤ) → IsManifest (map m.Shape schema ++ m.Opened by date ∷ []) → AreDates schema date (opened by date ∷ []) []
 are-first schema by date lawful = record { lawful = lawful; begins = refl; spelled = refl }

@@ -1,8 +1,8 @@
 -- What the repairs leave.
-use Rattle.std.proofs.Common.{◌≡◌, ◌≢◌, ◌⊎◌, inl, inr, ℕ, ℤ, List, [], ◌∷◌, ◌++◌, Option, Some, None, Result, Ok, Err, IsTrue, refl, sym, ap, ◌∙◌, subst, ◌+◌, ◌≤◌, length}
+use Rattle.std.proofs.Common.{◌≡◌, ◌≢◌, ◌⊎◌, inl, inr, ℕ, ℤ, List, Option, Some, None, Result, Ok, Err, IsTrue, refl, sym, ◌∙◌, subst, ◌+◌, ◌≤◌, length}
 use Rattle.std.specs.Result.{OnOk, OnErr}
 use Rattle.outside_api.specs.declared.disk.DiskFault.{DiskFault}
-use Rattle.outside_api.specs.Disk.{FileState, IsImage, DiskView, Passes}
+use Rattle.outside_api.specs.Disk.{FileState, DiskView, Passes}
 use Rattle.gated_journal.specs.Format.{before_gate}
 use Rattle.gated_journal.specs.Journal.{JournalView, Stands, Holds, MayRead, Keeps, HasLastGate}
 use Rattle.gated_journal.specs.Steps.{OthersStay}
@@ -12,14 +12,13 @@ use Rattle.day_rows.specs.declared.entry.Entry.TheVariants as e
 use Rattle.day_rows.specs.declared.schema.Shape.{Shape}
 use Rattle.partition_set.specs.Manifest as partition
 use Rattle.partition_set.specs.Manifest.{ManifestView}
-use Rattle.partition_set.specs.Records.{payload_of, payloads_of, IsManifest}
+use Rattle.partition_set.specs.Records.{payloads_of, IsManifest}
 use Rattle.partition_set.specs.declared.record.ManifestRecord.{ManifestRecord}
 use Rattle.partition_set.specs.declared.record.ManifestRecord.TheVariants as m
-use Rattle.date_logs.specs.Restart.{log_file}
 use Rattle.date_logs.specs.Moments.{Throughout, RestartsAs}
 use Rattle.date_logs.specs.Stores.{DateLogsView, IsWhole, IsReady, late_record, IsLateChunk, OpensEmpty, StoresIn, Stores, without_update, without_roll}
 use Rattle.date_logs.proofs.Files.{log-not-zero, own-last}
-use Rattle.date_logs.proofs.Moments.{Files, throughout-none, throughout-passes}
+use Rattle.date_logs.proofs.Moments.{Files, throughout-passes}
 use Rattle.date_logs.proofs.Storing as storing
 use Rattle.date_logs.proofs.Storing.{Spares}
 

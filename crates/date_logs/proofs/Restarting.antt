@@ -2,7 +2,7 @@
 use Rattle.std.proofs.Common.{◌≡◌, ◌⊎◌, inl, inr, ⊎_elim, ℕ, ◌+◌, ℤ, List, [], ◌∷◌, ◌++◌, map, Option, Some, None, refl, sym, ap, ◌∙◌, subst, arith}
 use Rattle.std.specs.List.{AllByRecursion}
 use Rattle.std.proofs.lemmas.List.{map-append}
-use Rattle.outside_api.specs.Disk.{IsImage}
+use Rattle.outside_api.specs.Disk.{FileState}
 use Rattle.gated_journal.specs.Format.{Reads}
 use Rattle.gated_journal.specs.Journal.{MayRead}
 use Rattle.day_rows.proofs.DayLemmas.{all-append}
@@ -15,8 +15,7 @@ use Rattle.tick_log.specs.Replay.{AreChunks}
 use Rattle.tick_log.proofs.Replays.{chunks_more}
 use Rattle.partition_set.specs.Records.{payload_of, payloads_of, IsManifest}
 use Rattle.partition_set.specs.declared.record.ManifestRecord.TheVariants as m
-use Rattle.date_logs.specs.Restart.{IsImageOf, log_file, Dated, opening, manifest_of, BeginsAt, AreDates, LogHolds, Restarts}
-use Rattle.date_logs.specs.Moments.{RestartsAs}
+use Rattle.date_logs.specs.Restart.{IsFound, IsFoundOf, log_file, Dated, opening, manifest_of, BeginsAt, AreDates, LogHolds, Restarts, MayRestart}
 use Rattle.date_logs.specs.Stores.{late_record, IsLateChunk, OpensEmpty, IsLogOf}
 use Rattle.date_logs.proofs.Files.{manifest-grown}
 use Rattle.date_logs.proofs.Dates.{entries-next, entries-more, more}
@@ -80,14 +79,14 @@ map-all : {X : Type 0} (P Q : X → Type 0) (xs : List X) → ((x : X) → P x �
 map-all P Q [] f h = tt
 map-all P Q (x ∷ xs) f h = (f x h.0, map-all P Q xs f h.1)
 
--- the images of the files of some dates, the manifest and the open log
-pub record Found (schema : List Shape) (ended : List Dated) (last : Dated) (late : Option Entry) (files : Files) : Type 0 where
+-- what is found of the files of some dates, the manifest and the open log, where this says what may be found
+pub record Found (Is : FileState → List ℕ → Type 0) (schema : List Shape) (ended : List Dated) (last : Dated) (late : Option Entry) (files : Files) : Type 0 where
   pub logs : AllByRecursion (λ d. IsLogOf schema (files (log_file d.date)) d.updates) ended
-  pub manifest : (image : List ℕ) → IsImage (files 0) image → MayRead (payloads_of (manifest_of schema (ended ++ last ∷ []))) (late_record late) image
-  pub log : (image : List ℕ) → IsImage (files (log_file last.date)) image → MayHold schema last.updates late image
+  pub manifest : (image : List ℕ) → Is (files 0) image → MayRead (payloads_of (manifest_of schema (ended ++ last ∷ []))) (late_record late) image
+  pub log : (image : List ℕ) → Is (files (log_file last.date)) image → MayHold schema last.updates late image
   pub opens : OpensEmpty files (manifest_of schema (ended ++ last ∷ [])) late
 
-module _ (schema : List Shape) (first : ℤ) (entries : List Entry) (ended : List Dated) (last : Dated) (are : AreDates schema first (ended ++ last ∷ []) entries) (files : Files) (image : ℕ → List ℕ) (is : IsImageOf files image)
+module _ (schema : List Shape) (first : ℤ) (entries : List Entry) (ended : List Dated) (last : Dated) (are : AreDates schema first (ended ++ last ∷ []) entries) (files : Files) (image : ℕ → List ℕ) (is : IsFoundOf files image)
     (logs : AllByRecursion (λ d. IsLogOf schema (files (log_file d.date)) d.updates) ended) where
   ended_hold : AllByRecursion (λ d. LogHolds schema (image (log_file d.date)) d.updates) ended
   ended_hold = map-all (λ (d : Dated). IsLogOf schema (files (log_file d.date)) d.updates) (λ (d : Dated). LogHolds schema (image (log_file d.date)) d.updates) ended
@@ -125,23 +124,23 @@ module _ (schema : List Shape) (first : ℤ) (entries : List Entry) (ended : Lis
             (record { records = []; reads = empty; chunks = tt }, tt);
       }
 
--- each image restarts as the entries, or as these and the late one
-pub found-restarts : (schema : List Shape) (first : ℤ) (entries : List Entry) (ended : List Dated) (last : Dated) (late : Option Entry) (files : Files) → AreDates schema first (ended ++ last ∷ []) entries
-    → Found schema ended last late files → RestartsAs schema first entries late files
-found-restarts schema first entries ended last None files are found = λ image is.
-    as-before schema first entries ended last are files image is found.logs (found.manifest (image 0) (is 0)) (found.log (image (log_file last.date)) (is (log_file last.date)))
-found-restarts schema first entries ended last (Some (e.Upd by table columns)) files are found = λ image is.
+-- whatever is found restarts as the entries, or as these and the late one
+pub found-restarts : (Is : FileState → List ℕ → Type 0) → ((file : FileState) (image : List ℕ) → Is file image → IsFound file image) → (schema : List Shape) (first : ℤ) (entries : List Entry) (ended : List Dated) (last : Dated) (late : Option Entry) (files : Files) → AreDates schema first (ended ++ last ∷ []) entries
+    → Found Is schema ended last late files → (image : ℕ → List ℕ) → ((k : ℕ) → Is (files k) (image k)) → MayRestart schema first image entries late
+found-restarts Is known schema first entries ended last None files are found image is =
+    as-before schema first entries ended last are files image (λ k. known (files k) (image k) (is k)) found.logs (found.manifest (image 0) (is 0)) (found.log (image (log_file last.date)) (is (log_file last.date)))
+found-restarts Is known schema first entries ended last (Some (e.Upd by table columns)) files are found image is =
     let manifest = found.manifest (image 0) (is 0) in
     ⊎_elim
-    (λ (old : LogHolds schema (image (log_file last.date)) last.updates). inl (as-before schema first entries ended last are files image is found.logs manifest old))
-    (λ (new : LogHolds schema (image (log_file last.date)) (last.updates ++ e.Upd by table columns ∷ [])). inr (with-update schema first entries ended last are files image is found.logs (e.Upd by table columns) manifest new))
+    (λ (old : LogHolds schema (image (log_file last.date)) last.updates). inl (as-before schema first entries ended last are files image (λ k. known (files k) (image k) (is k)) found.logs manifest old))
+    (λ (new : LogHolds schema (image (log_file last.date)) (last.updates ++ e.Upd by table columns ∷ [])). inr (with-update schema first entries ended last are files image (λ k. known (files k) (image k) (is k)) found.logs (e.Upd by table columns) manifest new))
     (found.log (image (log_file last.date)) (is (log_file last.date)))
-found-restarts schema first entries ended last (Some (e.Roll by date)) files are found = λ image is.
+found-restarts Is known schema first entries ended last (Some (e.Roll by date)) files are found image is =
     let log = found.log (image (log_file last.date)) (is (log_file last.date)) in
     ⊎_elim
-    (λ (old : Reads (image 0) (payloads_of (manifest_of schema (ended ++ last ∷ [])))). inl (as-before schema first entries ended last are files image is found.logs old log))
+    (λ (old : Reads (image 0) (payloads_of (manifest_of schema (ended ++ last ∷ [])))). inl (as-before schema first entries ended last are files image (λ k. known (files k) (image k) (is k)) found.logs old log))
     (λ (new : Reads (image 0) (payloads_of (manifest_of schema (ended ++ last ∷ [])) ++ payload_of (m.Opened by date) ∷ [])).
-    inr (with-roll schema first entries ended last are files image is found.logs by date found.opens.0 new log (found.opens.1 (image (log_file date)) (is (log_file date)))))
+    inr (with-roll schema first entries ended last are files image (λ k. known (files k) (image k) (is k)) found.logs by date found.opens.0 new log (found.opens.1 (image (log_file date)) (known (files (log_file date)) (image (log_file date)) (is (log_file date))))))
     (found.manifest (image 0) (is 0))
-found-restarts schema first entries ended last (Some (e.Fault by)) files are found = λ image is.
-    inl (as-before schema first entries ended last are files image is found.logs (found.manifest (image 0) (is 0)) (found.log (image (log_file last.date)) (is (log_file last.date))))
+found-restarts Is known schema first entries ended last (Some (e.Fault by)) files are found image is =
+    inl (as-before schema first entries ended last are files image (λ k. known (files k) (image k) (is k)) found.logs (found.manifest (image 0) (is 0)) (found.log (image (log_file last.date)) (is (log_file last.date))))

@@ -1,5 +1,5 @@
 -- How what a disk stores changes with its files.
-use Rattle.std.proofs.Common.{◌≡◌, ◌≢◌, ℕ, ◌+◌, ℤ, List, [], ◌∷◌, ◌++◌, Option, Some, None, refl, sym, ap, ◌∙◌, subst, arith}
+use Rattle.std.proofs.Common.{◌≡◌, ◌≢◌, inl, ⊎_elim, ℕ, ◌+◌, ℤ, List, [], ◌∷◌, ◌++◌, Option, Some, None, refl, sym, ap, ◌∙◌, subst, arith}
 use Rattle.std.specs.List.{AllByRecursion}
 use Rattle.outside_api.specs.Disk.{FileState, IsImage}
 use Rattle.gated_journal.specs.Journal.{JournalView, Holds, MayRead}
@@ -14,8 +14,8 @@ use Rattle.partition_set.specs.Manifest.{ManifestView}
 use Rattle.partition_set.specs.Records.{payloads_of, IsManifest}
 use Rattle.partition_set.specs.declared.record.ManifestRecord.{ManifestRecord}
 use Rattle.partition_set.specs.declared.record.ManifestRecord.TheVariants as m
-use Rattle.date_logs.specs.Restart.{log_file, Dated, manifest_of}
-use Rattle.date_logs.specs.Moments.{RestartsAs}
+use Rattle.date_logs.specs.Restart.{IsFound, log_file, Dated, manifest_of}
+use Rattle.date_logs.specs.Moments.{RestartsAs, RestartsFrom}
 use Rattle.date_logs.specs.Stores.{DateLogsView, late_record, IsLateChunk, OpensEmpty, IsLogOf, StoresIn}
 use Rattle.date_logs.proofs.Files.{all-back, earlier-apart, none-zero, last-not-zero, manifest-grown}
 use Rattle.date_logs.proofs.Dates.{more}
@@ -25,6 +25,15 @@ use Rattle.date_logs.proofs.Restarting.{found-restarts, MayHold, may-hold, opene
 all-front : {X : Type 0} (P : X → Type 0) (xs ys : List X) → AllByRecursion P (xs ++ ys) → AllByRecursion P xs
 all-front P [] ys h = tt
 all-front P (x ∷ xs) ys h = (h.0, all-front P xs ys h.1)
+
+-- a journal's records are read from whatever is found of its file
+pub found-read : (journal : JournalView) (file : FileState) (records : List (List ℕ)) (late : Option (List ℕ)) → Holds journal file records late → (found : List ℕ) → IsFound file found → MayRead records late found
+found-read journal file records late h found is =
+    ⊎_elim (λ (image : IsImage file found). h.images found image) (λ (same : found ≡ file.bytes). subst (λ (f : List ℕ). MayRead records late f) (sym same) h.reads) is
+
+-- an image may be found
+pub found-image : (file : FileState) (image : List ℕ) → IsImage file image → IsFound file image
+found-image file image is = inl is
 
 -- the other files are as they were
 abbrev pub Spares : Files → Files → ℕ → Type 0
@@ -47,7 +56,7 @@ opens-stay : (old files : Files) (file : ℕ) (records : List ManifestRecord) (l
 opens-stay old files file records None spares away h = tt
 opens-stay old files file records (Some (e.Upd by table columns)) spares away h = tt
 opens-stay old files file records (Some (e.Roll by date)) spares away h =
-    (h.0, λ image is. h.1 image (subst (λ (f : FileState). IsImage f image) (spares (log_file date) away) is))
+    (h.0, λ found is. h.1 found (subst (λ (f : FileState). IsFound f found) (spares (log_file date) away) is))
 opens-stay old files file records (Some (e.Fault by)) spares away h = tt
 
 module _ (old : Files) (logs : DateLogsView) (schema : List Shape) (first : ℤ) (entries : List Entry) (late : Option Entry) (s : StoresIn old logs schema first entries late) where
@@ -98,42 +107,45 @@ module _ (old : Files) (logs : DateLogsView) (schema : List Shape) (first : ℤ)
   away-zero (Some (e.Roll by date)) h = next-not-zero by date h.0
   away-zero (Some (e.Fault by)) h = tt
 
-  manifest-images : (files : Files) (late' : Option Entry) → ((image : List ℕ) → IsImage (files 0) image → MayRead (payloads_of logs.manifest.records) (late_record late') image)
-      → (image : List ℕ) → IsImage (files 0) image → MayRead (payloads_of (manifest_of schema (ended ++ last ∷ []))) (late_record late') image
-  manifest-images files late' images image is = subst (λ l. MayRead (payloads_of l) (late_record late') image) s.records (images image is)
+  manifest-images : (Is : FileState → List ℕ → Type 0) (files : Files) (late' : Option Entry) → ((image : List ℕ) → Is (files 0) image → MayRead (payloads_of logs.manifest.records) (late_record late') image)
+      → (image : List ℕ) → Is (files 0) image → MayRead (payloads_of (manifest_of schema (ended ++ last ∷ []))) (late_record late') image
+  manifest-images Is files late' images image is = subst (λ l. MayRead (payloads_of l) (late_record late') image) s.records (images image is)
 
-  log-images : (files : Files) (late' : Option Entry) (chunk' : Option (List ℕ)) → IsLateChunk schema (total_rows last.updates) late' chunk'
-      → ((image : List ℕ) → IsImage (files logs.log.file) image → MayRead s.payloads chunk' image) → (image : List ℕ) → IsImage (files (log_file last.date)) image → MayHold schema last.updates late' image
-  log-images files late' chunk' is' images image is =
-      may-hold schema last.updates late' s.payloads chunk' image s.chunks is' (images image (subst (λ (k : ℕ). IsImage (files k) image) (sym s.log_file) is))
+  log-images : (Is : FileState → List ℕ → Type 0) (files : Files) (late' : Option Entry) (chunk' : Option (List ℕ)) → IsLateChunk schema (total_rows last.updates) late' chunk'
+      → ((image : List ℕ) → Is (files logs.log.file) image → MayRead s.payloads chunk' image) → (image : List ℕ) → Is (files (log_file last.date)) image → MayHold schema last.updates late' image
+  log-images Is files late' chunk' is' images image is =
+      may-hold schema last.updates late' s.payloads chunk' image s.chunks is' (images image (subst (λ (k : ℕ). Is (files k) image) (sym s.log_file) is))
 
   -- now
-  pub restarts-now : RestartsAs schema first entries late old
-  restarts-now = found-restarts schema first entries ended last late old s.are (record {
+  pub restarts-from : RestartsFrom schema first entries late old
+  restarts-from = found-restarts IsFound (λ file found is. is) schema first entries ended last late old s.are (record {
     logs = s.ended_logs;
-    manifest = manifest-images old late s.manifest.images;
-    log = log-images old late s.late_chunk s.is_late s.log.images;
+    manifest = manifest-images IsFound old late (found-read logs.manifest.journal (old 0) (payloads_of logs.manifest.records) (late_record late) s.manifest);
+    log = log-images IsFound old late s.late_chunk s.is_late (found-read logs.log (old logs.log.file) s.payloads s.late_chunk s.log);
     opens = subst (λ l. OpensEmpty old l late) s.records s.opens;
   })
+
+  pub restarts-now : RestartsAs schema first entries late old
+  restarts-now = λ image is. restarts-from image (λ k. found-image (old k) (image k) (is k))
 
   module _ (files : Files) (late' : Option Entry) where
     -- while the log's file changes
     pub restarts-log : (chunk' : Option (List ℕ)) → Spares old files logs.log.file → late_record late ≡ late_record late' → IsLateChunk schema (total_rows last.updates) late' chunk'
         → OpensEmpty old logs.manifest.records late' → ((image : List ℕ) → IsImage (files logs.log.file) image → MayRead s.payloads chunk' image) → RestartsAs schema first entries late' files
-    restarts-log chunk' spares same is' opens images = found-restarts schema first entries ended last late' files s.are (record {
+    restarts-log chunk' spares same is' opens images = found-restarts IsImage found-image schema first entries ended last late' files s.are (record {
       logs = logs-stay schema old files logs.log.file ended spares apart-log s.ended_logs;
-      manifest = manifest-images files late' (λ image is. subst (λ l. MayRead (payloads_of logs.manifest.records) l image) same (s.manifest.images image (subst (λ (f : FileState). IsImage f image) (spares 0 zero-not-log) is)));
-      log = log-images files late' chunk' is' images;
+      manifest = manifest-images IsImage files late' (λ image is. subst (λ l. MayRead (payloads_of logs.manifest.records) l image) same (s.manifest.images image (subst (λ (f : FileState). IsImage f image) (spares 0 zero-not-log) is)));
+      log = log-images IsImage files late' chunk' is' images;
       opens = subst (λ l. OpensEmpty files l late') s.records (opens-stay old files logs.log.file logs.manifest.records late' spares (away-log late' opens) opens);
     })
 
     -- while the manifest's file changes
     pub restarts-manifest : Spares old files 0 → IsLateChunk schema (total_rows last.updates) late' s.late_chunk → OpensEmpty old logs.manifest.records late'
         → ((image : List ℕ) → IsImage (files 0) image → MayRead (payloads_of logs.manifest.records) (late_record late') image) → RestartsAs schema first entries late' files
-    restarts-manifest spares is' opens images = found-restarts schema first entries ended last late' files s.are (record {
+    restarts-manifest spares is' opens images = found-restarts IsImage found-image schema first entries ended last late' files s.are (record {
       logs = logs-stay schema old files 0 ended spares some s.ended_logs;
-      manifest = manifest-images files late' images;
-      log = log-images files late' s.late_chunk is' (λ image is. s.log.images image (subst (λ (f : FileState). IsImage f image) (spares logs.log.file log-not-zero) is));
+      manifest = manifest-images IsImage files late' images;
+      log = log-images IsImage files late' s.late_chunk is' (λ image is. s.log.images image (subst (λ (f : FileState). IsImage f image) (spares logs.log.file log-not-zero) is));
       opens = subst (λ l. OpensEmpty files l late') s.records (opens-stay old files 0 logs.manifest.records late' spares (away-zero late' opens) opens);
     })
 
@@ -228,9 +240,9 @@ module _ (old : Files) (logs : DateLogsView) (schema : List Shape) (first : ℤ)
   ended-log : Spares old files 0 → IsLogOf schema (files (log_file s.open_date.date)) s.open_date.updates
   ended-log spares = λ image is.
       let file : logs.log.file ≡ log_file s.open_date.date = s.log_file in
-      let here : IsImage (files logs.log.file) image = subst (λ (k : ℕ). IsImage (files k) image) (sym file) is in
-      let there : IsImage (old logs.log.file) image = subst (λ (f : FileState). IsImage f image) (spares logs.log.file (log-not-zero old logs schema first entries None s)) here in
-      may-hold schema s.open_date.updates None s.payloads s.late_chunk image s.chunks s.is_late (s.log.images image there)
+      let here : IsFound (files logs.log.file) image = subst (λ (k : ℕ). IsFound (files k) image) (sym file) is in
+      let there : IsFound (old logs.log.file) image = subst (λ (f : FileState). IsFound f image) (spares logs.log.file (log-not-zero old logs schema first entries None s)) here in
+      may-hold schema s.open_date.updates None s.payloads s.late_chunk image s.chunks s.is_late (found-read logs.log (old logs.log.file) s.payloads s.late_chunk s.log image there)
 
   pub date-grown : (by : ℕ) (date : ℤ) (manifest' : ManifestView) (log' : JournalView) → Spares old files 0 → IsManifest (logs.manifest.records ++ m.Opened by date ∷ [])
       → manifest'.records ≡ logs.manifest.records ++ m.Opened by date ∷ [] → manifest'.journal.file ≡ 0 → Holds manifest'.journal (files 0) (payloads_of manifest'.records) None

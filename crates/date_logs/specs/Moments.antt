@@ -4,7 +4,7 @@ use Rattle.std.specs.List.{AllByRecursion}
 use Rattle.outside_api.specs.Disk.{FileState, DiskView}
 use Rattle.day_rows.specs.declared.entry.Entry.{Entry}
 use Rattle.day_rows.specs.declared.schema.Shape.{Shape}
-use Rattle.date_logs.specs.Restart.{IsImageOf, MayRestart}
+use Rattle.date_logs.specs.Restart.{IsImageOf, IsFoundOf, MayRestart}
 
 -- at each moment since the old view the files are so
 pub record Throughout (old new : DiskView) (P : (ℕ → FileState) → Type 0) : Type 0 where
@@ -16,7 +16,11 @@ pub record Throughout (old new : DiskView) (P : (ℕ → FileState) → Type 0) 
 abbrev pub RestartsAs : List Shape → ℤ → List Entry → Option Entry → (ℕ → FileState) → Type 0
 RestartsAs schema first entries late files = (image : ℕ → List ℕ) → IsImageOf files image → MayRestart schema first image entries late
 
--- the same, where one of two entries may be late
+-- the same of all that a restart may find of them, after a crash or without one
+abbrev pub RestartsFrom : List Shape → ℤ → List Entry → Option Entry → (ℕ → FileState) → Type 0
+RestartsFrom schema first entries late files = (found : ℕ → List ℕ) → IsFoundOf files found → MayRestart schema first found entries late
+
+-- the same of each image, where one of two entries may be late
 abbrev pub RestartsEither : List Shape → ℤ → List Entry → Option Entry → Option Entry → (ℕ → FileState) → Type 0
 RestartsEither schema first entries late other files =
     (image : ℕ → List ℕ) → IsImageOf files image → MayRestart schema first image entries late ⊎ MayRestart schema first image entries other

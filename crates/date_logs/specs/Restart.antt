@@ -17,6 +17,13 @@ use Rattle.partition_set.specs.declared.record.ManifestRecord.TheVariants as m
 abbrev pub IsImageOf : (ℕ → FileState) → (ℕ → List ℕ) → Type 0
 IsImageOf files image = (k : ℕ) → IsImage (files k) (image k)
 
+-- what a restart finds of a file: after a crash an image, else what reads give
+abbrev pub IsFound : FileState → List ℕ → Type 0
+IsFound file found = IsImage file found ⊎ (found ≡ file.bytes)
+
+abbrev pub IsFoundOf : (ℕ → FileState) → (ℕ → List ℕ) → Type 0
+IsFoundOf files found = (k : ℕ) → IsFound (files k) (found k)
+
 -- the number of the file of a date's log: 1,000,000 and the date
 abbrev pub log_file : ℤ → ℕ
 log_file (pos n) = 1000000 + n

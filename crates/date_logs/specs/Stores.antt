@@ -1,7 +1,7 @@
 -- What a disk holds of the manifest and the dates' logs, by the states of its files.
 use Rattle.std.specs.Prelude.{◌≡◌, ◌⊎◌, ℕ, ℤ, IsTrue, List, [], ◌∷◌, ◌++◌, Option, Some, None}
 use Rattle.std.specs.List.{AllByRecursion}
-use Rattle.outside_api.specs.Disk.{FileState, IsImage, DiskView}
+use Rattle.outside_api.specs.Disk.{FileState, DiskView}
 use Rattle.gated_journal.specs.Format.{Reads}
 use Rattle.gated_journal.specs.Journal.{JournalView, Holds, HasLastGate}
 use Rattle.gated_journal.specs.declared.state.State.{State}
@@ -16,7 +16,7 @@ use Rattle.partition_set.specs.Manifest.{ManifestView}
 use Rattle.partition_set.specs.Records.{payload_of, payloads_of, IsManifest}
 use Rattle.partition_set.specs.declared.record.ManifestRecord.{ManifestRecord}
 use Rattle.partition_set.specs.declared.record.ManifestRecord.TheVariants as m
-use Rattle.date_logs.specs.Restart.{log_file, Dated, manifest_of, AreDates, LogHolds}
+use Rattle.date_logs.specs.Restart.{IsFound, log_file, Dated, manifest_of, AreDates, LogHolds}
 
 -- what the logs are seen as: the manifest, and the journal of the open date
 pub record DateLogsView : Type 0 where
@@ -48,20 +48,22 @@ late_record (Some (e.Fault by)) = None
 -- the chunk that may count beside the others of a log with this many rows
 abbrev pub IsLateChunk : List Shape → ℕ → Option Entry → Option (List ℕ) → Type 0
 IsLateChunk schema before None chunk = chunk ≡ None
-IsLateChunk schema before (Some (e.Upd by table columns)) chunk = (payload : List ℕ) × (chunk ≡ Some payload) × IsChunk schema before payload (e.Upd by table columns)
+IsLateChunk schema before (Some (e.Upd by table columns)) chunk =
+    (payload : List ℕ) × (chunk ≡ Some payload) × IsChunk schema before payload (e.Upd by table columns)
 IsLateChunk schema before (Some (e.Roll by date)) chunk = chunk ≡ None
 IsLateChunk schema before (Some (e.Fault by)) chunk = ⊥
 
--- a date that may count as opened is one that may come next, and its log has no records in any image
+-- a date that may count as opened is one that may come next, and no records are found in its log
 abbrev pub OpensEmpty : (ℕ → FileState) → List ManifestRecord → Option Entry → Type 0
 OpensEmpty files records None = Unit {0}
 OpensEmpty files records (Some (e.Upd by table columns)) = Unit {0}
-OpensEmpty files records (Some (e.Roll by date)) = IsManifest (records ++ m.Opened by date ∷ []) × ((image : List ℕ) → IsImage (files (log_file date)) image → Reads image [])
+OpensEmpty files records (Some (e.Roll by date)) =
+    IsManifest (records ++ m.Opened by date ∷ []) × ((found : List ℕ) → IsFound (files (log_file date)) found → Reads found [])
 OpensEmpty files records (Some (e.Fault by)) = Unit {0}
 
--- in each image the file is the log of these updates
+-- whatever is found of the file is the log of these updates
 abbrev pub IsLogOf : List Shape → FileState → List Entry → Type 0
-IsLogOf schema file updates = (image : List ℕ) → IsImage file image → LogHolds schema image updates
+IsLogOf schema file updates = (found : List ℕ) → IsFound file found → LogHolds schema found updates
 
 -- the files hold these entries, and maybe a late one after them
 pub record StoresIn (files : ℕ → FileState) (logs : DateLogsView) (schema : List Shape) (first : ℤ) (entries : List Entry) (late : Option Entry) : Type 0 where

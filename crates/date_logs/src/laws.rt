@@ -9,7 +9,8 @@ pub fn files_restart_once()
     tick_log::a_log_is_read_in_one_way();
 }
 
-/// From each image of a disk that stores entries, a plant restarts as these entries, or as these and the late one.
+/// From whatever is found of a disk that stores entries, after a crash or without one, a plant restarts as these entries, or
+/// as these and the late one.
 pub fn stored_entries_restart()
     ensures { StoredRestarts }
 {}

@@ -1,9 +1,11 @@
 //! Making the files of a plant.
-ghost use Rattle.std.specs.Prelude.{◌≡◌, ◌≢◌, [], None, List, ℕ, ℤ, IsTrue, length, OnOk};
+ghost use Rattle.std.specs.Prelude.{◌≡◌, ◌≢◌, [], None, List, ℕ, ℤ, IsTrue, length, map, OnOk};
 ghost use Rattle.outside_api.specs.Disk.{IsImage};
 ghost use Rattle.gated_journal.specs.Format.{Reads};
 ghost use Rattle.date_logs.specs.Format.{IsMadeFrom, IfMade, FormatCounts};
-ghost use Rattle.date_logs.specs.Moments.{RestartsAs};
+ghost use Rattle.partition_set.specs.Records.{payloads_of};
+ghost use Rattle.partition_set.specs.declared.record.ManifestRecord.TheVariants as m;
+ghost use Rattle.date_logs.specs.Moments.{RestartsFrom};
 
 use crate::refusal::FormatRefusal;
 use day_rows::Schema;
@@ -25,7 +27,9 @@ pub fn format<D: Disk>(alloc: Global, disk: &mut D, schema: &Schema) -> Result<(
     ensures unchanged { IfMade result (IsTrue (D.shown disk.old).tells
         → (D.shown disk.new).now ≡ (D.shown disk.old).now) }
     ensures restarts { OnOk result (IsTrue (D.shown disk.old).tells → (first : ℤ)
-        → RestartsAs schema.now first [] None (D.shown disk.new).now) }
+        → RestartsFrom schema.now first [] None (D.shown disk.new).now) }
+    ensures manifest { OnOk result (IsTrue (D.shown disk.old).tells
+        → Reads ((D.shown disk.new).now 0).bytes (payloads_of (map m.Shape schema.now))) }
     ensures names { OnOk result (IsTrue (D.shown disk.old).tells → (image : List ℕ)
         → IsImage ((D.shown disk.new).now 1) image → Reads image []) }
     ensures others { IsTrue (D.shown disk.old).tells → (k : ℕ) → k ≢ 0 → k ≢ 1

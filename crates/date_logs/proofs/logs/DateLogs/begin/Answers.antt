@@ -1,4 +1,4 @@
-use Rattle.std.proofs.Common.{rules, ◌≡◌, ℕ, ℤ, Some, None, IsTrue, List, [], ◌∷◌, ◌++◌, subst, sym, ap, ◌∙◌}
+use Rattle.std.proofs.Common.{rules, ◌≡◌, ℕ, ℤ, Some, None, IsTrue, [], ◌∷◌, ◌++◌, subst, ap, ◌∙◌}
 use Rattle.std.specs.Int.{w32}
 use Rattle.std.proofs.lemmas.Int.{to_z-of_z}
 use Rattle.outside_api.specs.Disk.{Passes}
@@ -7,8 +7,7 @@ use Rattle.partition_set.specs.Manifest.{Keeps}
 use Rattle.partition_set.specs.Records.{payload_of, payloads_of}
 use Rattle.partition_set.specs.declared.record.ManifestRecord.TheVariants as m
 use Rattle.date_logs.specs.Restart.{log_file}
-use Rattle.date_logs.proofs.Files.{own-last}
-use Rattle.date_logs.proofs.Beginning.{begin-fresh-moment, begin-gate, begin-moment, begin-stored, begin-ready, begin-whole}
+use Rattle.date_logs.proofs.Beginning.{begin-fresh-moment, begin-gate, begin-moment, begin-stored, begin-ready}
 use Rattle.date_logs.proofs.logs.DateLogs.begin.Goals as goal
 
 pub returns-in_err-log-clause-any_moment : goal.returns-in_err-log-clause-any_moment

@@ -1,4 +1,4 @@
-use Rattle.std.proofs.Common.{rules, ◌≡◌, ℤ, Some, None, IsTrue, List, [], ◌∷◌, ◌++◌, subst, sym, ap}
+use Rattle.std.proofs.Common.{rules, ◌≡◌, ℤ, Some, None, IsTrue, [], ◌∷◌, ◌++◌, subst, sym}
 use Rattle.std.specs.Int.{w32}
 use Rattle.std.proofs.lemmas.Int.{to_z-of_z}
 use Rattle.outside_api.specs.Disk.{Passes}
