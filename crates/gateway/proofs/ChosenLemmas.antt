@@ -12,7 +12,7 @@ use Rattle.q_values.specs.Table.{rows_of}
 use Rattle.q_values.specs.declared.kind.Kind.{Kind}
 use Rattle.day_rows.specs.Rows.{Row, column_of, field}
 use Rattle.day_rows.specs.declared.schema.Shape.{Shape}
-use Rattle.plant_core.specs.Plant.{HasColumn}
+use Rattle.plant_memory.specs.Memory.{HasColumn}
 use Rattle.qsql_values.specs.Beside.{beside}
 use Rattle.qsql_values.specs.Frames.{AreColumns, frame_of}
 use Rattle.qsql_values.proofs.FrameLemmas.{Even, column-lent, kind-lent}

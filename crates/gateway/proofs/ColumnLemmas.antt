@@ -14,8 +14,8 @@ use Rattle.day_rows.specs.Chronicle.{view, date_of}
 use Rattle.day_rows.specs.Rows.{Row, column_of, field}
 use Rattle.day_rows.specs.declared.entry.Entry.{Entry}
 use Rattle.day_rows.specs.declared.entry.Entry.TheVariants as e
-use Rattle.plant_core.proofs.ItemsLemmas.{map-replicate}
-use Rattle.plant_core.specs.Chronicle.{dates_of, on_date, date_at, rows_at}
+use Rattle.plant_memory.proofs.ItemsLemmas.{map-replicate}
+use Rattle.plant_memory.specs.Chronicle.{dates_of, on_date, date_at, rows_at}
 use Rattle.q_values.specs.Contents.{Contents}
 use Rattle.q_values.specs.declared.atom.Atom.{Atom}
 use Rattle.q_values.specs.declared.atom.Atom.TheVariants as a

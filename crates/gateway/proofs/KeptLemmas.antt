@@ -11,9 +11,9 @@ use Rattle.day_rows.specs.Chronicle.{view, DatesAscend}
 use Rattle.day_rows.specs.Rows.{Row, column_of, field}
 use Rattle.day_rows.specs.declared.entry.Entry.{Entry}
 use Rattle.day_rows.specs.declared.schema.Shape.{Shape}
-use Rattle.plant_core.specs.Chronicle.{dates_of, date_at, on_date, rows_at}
-use Rattle.plant_core.proofs.ItemsLemmas.{map-replicate}
-use Rattle.plant_core.proofs.LawLemmas.{view-by_dates}
+use Rattle.plant_memory.specs.Chronicle.{dates_of, date_at, on_date, rows_at}
+use Rattle.plant_memory.proofs.ItemsLemmas.{map-replicate}
+use Rattle.plant_memory.proofs.LawLemmas.{view-by_dates}
 use Rattle.q_values.specs.Contents.{Contents}
 use Rattle.q_values.specs.declared.atom.Atom.{Atom}
 use Rattle.q_values.specs.declared.atom.Atom.TheVariants as a

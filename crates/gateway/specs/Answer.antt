@@ -7,7 +7,7 @@ use Rattle.q_values.specs.declared.atom.Atom.TheVariants as a
 use Rattle.day_rows.specs.Chronicle.{date_of}
 use Rattle.day_rows.specs.declared.entry.Entry.{Entry}
 use Rattle.day_rows.specs.declared.schema.Shape.{Shape}
-use Rattle.plant_core.specs.Chronicle.{today, update_count}
+use Rattle.plant_memory.specs.Chronicle.{today, update_count}
 use Rattle.qsql_request.specs.Forms.{QueryForm, AjForm, RequestForm, query_form, aj_form, count_form, day_form, sub_form}
 use Rattle.qsql_parse.specs.Verdicts.{Verdict, IsVerdict, asks, too_much, no_request, not_built}
 use Rattle.qsql_eval.specs.Judgement.{Judgement, unknown, mistyped, fits, judgement, all_columns}

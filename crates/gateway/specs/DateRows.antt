@@ -5,7 +5,7 @@ use Rattle.q_values.specs.Contents.{Contents}
 use Rattle.day_rows.specs.Rows.{Row}
 use Rattle.day_rows.specs.declared.entry.Entry.{Entry}
 use Rattle.day_rows.specs.declared.schema.Shape.{Shape}
-use Rattle.plant_core.specs.Chronicle.{dates_of, date_at, rows_at}
+use Rattle.plant_memory.specs.Chronicle.{dates_of, date_at, rows_at}
 use Rattle.qsql_request.specs.Forms.{Form}
 use Rattle.qsql_dates.specs.Dates.{keeps}
 use Rattle.gateway.specs.TableRows.{dates_of_rows, numbers_on, columns_from, every_date}

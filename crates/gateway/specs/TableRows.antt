@@ -10,7 +10,7 @@ use Rattle.day_rows.specs.Chronicle.{view}
 use Rattle.day_rows.specs.Rows.{Row, column_of}
 use Rattle.day_rows.specs.declared.entry.Entry.{Entry}
 use Rattle.day_rows.specs.declared.schema.Shape.{Shape}
-use Rattle.plant_core.specs.Chronicle.{dates_of, rows_at}
+use Rattle.plant_memory.specs.Chronicle.{dates_of, rows_at}
 use Rattle.qsql_request.specs.Forms.{Form}
 use Rattle.qsql_values.specs.ByRow.{frame_where}
 use Rattle.qsql_values.specs.Frames.{Frame, frame_of}

@@ -1,7 +1,7 @@
 //! The answers to requests over a snapshot.
 ghost use Rattle.std.specs.Prelude.{◌≡◌, pos, IfOk};
 ghost use Rattle.day_rows.specs.Chronicle.{date_of};
-ghost use Rattle.plant_core.specs.Chronicle.{today, update_count};
+ghost use Rattle.plant_memory.specs.Chronicle.{today, update_count};
 ghost use Rattle.q_values.specs.Tree.{tree, atom};
 ghost use Rattle.q_values.specs.declared.atom.Atom.TheVariants as a;
 ghost use Rattle.qsql_request.specs.Views.{query_of, request_of};
@@ -12,7 +12,7 @@ ghost use Rattle.gateway.specs.Shaped.{IsShaped};
 use crate::joining::answer_join;
 use crate::values::{value_of_typed, wrong_value};
 use day_rows::Schema;
-use plant_core::Snapshot;
+use plant_memory::Snapshot;
 use q_values::{Atom, NoMemory, Value};
 use qsql_eval::{CheckRefusal, check};
 use qsql_request::{Query, Request};

@@ -2,12 +2,12 @@
 ghost use Rattle.std.specs.Prelude.{◌≡◌, ◌<◌, ◌++◌, pos, length, map, replicate, OnOk, IfOk};
 ghost use Rattle.std.specs.List.{range_with_len};
 ghost use Rattle.day_rows.specs.Rows.{column_of};
-ghost use Rattle.plant_core.specs.Chronicle.{dates_of, rows_at};
-ghost use Rattle.plant_core.specs.Plant.{HasColumn};
+ghost use Rattle.plant_memory.specs.Chronicle.{dates_of, rows_at};
+ghost use Rattle.plant_memory.specs.Memory.{HasColumn};
 ghost use Rattle.gateway.specs.DateRows.{AreDates, rows_on};
 ghost use Rattle.gateway.specs.TableRows.{dates_of_rows, numbers_on};
 
-use plant_core::Snapshot;
+use plant_memory::Snapshot;
 use q_values::{Column, IntegerKind, Kind, LongKind, NoMemory, Vector};
 use std::alloc::Global;
 

@@ -3,7 +3,7 @@ ghost use Rattle.std.specs.Prelude.{◌≡◌, ◌++◌, ◌∷◌, [], if◌the
 ghost use Rattle.qsql_request.specs.Views.{query_of};
 ghost use Rattle.gateway.specs.DateRows.{kept_dates, AreDates};
 
-use plant_core::Snapshot;
+use plant_memory::Snapshot;
 use q_values::NoMemory;
 use qsql_eval::Typed;
 use qsql_needs::Reads;

@@ -13,7 +13,7 @@ use crate::rest::without_phrases;
 use crate::values::{kept_rows_of_typed, rows_of_typed, wrong_value};
 use asof_join::{AjRefusal, AjTyped, aj, check_aj, table_of_side};
 use day_rows::Schema;
-use plant_core::Snapshot;
+use plant_memory::Snapshot;
 use q_values::{NoMemory, TableValue, Value};
 use qsql_eval::Typed;
 use qsql_request::AjQuery;

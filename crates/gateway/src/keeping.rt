@@ -15,7 +15,7 @@ ghost use Rattle.gateway.specs.Kept.{IsPhraseOf, table_rows_on};
 use crate::table::{Part, rows_of_part};
 use crate::wanted::Wanted;
 use day_rows::Shape;
-use plant_core::Snapshot;
+use plant_memory::Snapshot;
 use q_filter::places_where;
 use q_values::NoMemory;
 use qsql_eval::{Rows, Typed};

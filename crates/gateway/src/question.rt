@@ -10,7 +10,7 @@ ghost use Rattle.gateway.specs.Views.{verdict_of};
 use crate::answering::answer_request;
 use crate::values::wrong_value;
 use day_rows::Schema;
-use plant_core::Snapshot;
+use plant_memory::Snapshot;
 use q_values::{NoMemory, Value};
 use qsql_parse::{ParseRefusal, parse};
 use qsql_request::Request;

@@ -2,7 +2,7 @@
 ghost use Rattle.std.specs.Prelude.{◌≡◌, ◌<◌, ◌≤◌, ◌++◌, ◌∷◌, [], if◌then◌else◌, length, map, codes, slice_get, Some, All, OnOk, IfOk, option_copied};
 ghost use Rattle.std.specs.List.{filter};
 ghost use Rattle.day_rows.specs.Rows.{column_of};
-ghost use Rattle.plant_core.specs.Plant.{HasColumn};
+ghost use Rattle.plant_memory.specs.Memory.{HasColumn};
 ghost use Rattle.q_values.specs.Bytes.{HasNoNul};
 ghost use Rattle.qsql_values.specs.Frames.{AreWithin};
 ghost use Rattle.gateway.specs.DateRows.{AreDates, rows_on};
@@ -13,7 +13,7 @@ ghost use Rattle.gateway.specs.TableRows.{dates_of_rows, numbers_on};
 use crate::columns::{date_column, number_column, whole_column};
 use crate::wanted::Wanted;
 use day_rows::Shape;
-use plant_core::Snapshot;
+use plant_memory::Snapshot;
 use q_values::{Columns, Kind, Names, NoMemory, Sym, Vector};
 use qsql_eval::Rows;
 use std::alloc::Global;

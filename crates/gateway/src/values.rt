@@ -18,7 +18,7 @@ use crate::rest::without_phrases;
 use crate::table::{Part, rows_at_places, rows_of_part};
 use crate::wanted::Wanted;
 use day_rows::Schema;
-use plant_core::Snapshot;
+use plant_memory::Snapshot;
 use q_values::{NoMemory, Text, Value};
 use qsql_eval::{Rows, Typed, eval};
 use std::alloc::Global;

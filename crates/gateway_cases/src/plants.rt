@@ -2,7 +2,7 @@
 ghost use Rattle.std.specs.Prelude.{◌≡◌, ◌<ℤ◌, pos, true, false, [], ◌∷◌};
 ghost use Rattle.day_rows.specs.Chronicle.{date_of};
 
-use plant_core::{Plant, Prepared, UpdRequest};
+use plant_memory::{Memory, Prepared, UpdRequest};
 use q_values::{
     Column, Limits, LongKind, NANOSECONDS_PER_DAY, NoMemory, Sym, Symbols, Value, Values, Vector,
 };
@@ -58,44 +58,44 @@ fn columns_of(alloc: Global, update: &Update) -> Result<Values, Fail> {
     Ok(items)
 }
 
-// Logs an update that the pass 1 has prepared, after the roll where one is due.
-fn log_prepared(alloc: Global, plant: &mut Plant, update: Prepared) -> Result<(), NoMemory>
-    requires own { update.by ≡ 1 }
-    requires frame { update.frame ≡ plant.old.frame }
-    requires same { update.entries ≡ plant.old.entries }
-    requires room { update.rolls ≡ false → plant.old.room ≡ update.entry ∷ [] }
-    requires date { update.rolls ≡ true → date_of plant.old.frame.first plant.old.entries <ℤ pos 106751 }
+// Commits a prepared update, after the roll where one is due.
+fn log_prepared(alloc: Global, memory: &mut Memory, update: Prepared) -> Result<(), NoMemory>
+    requires frame { update.frame ≡ memory.old.frame }
+    requires same { update.entries ≡ memory.old.entries }
+    requires room { update.rolls ≡ false → memory.old.room ≡ update.entry ∷ [] }
+    requires date { update.rolls ≡ true → date_of memory.old.frame.first memory.old.entries <ℤ pos 106751 }
 {
     if !update.rolls() {
-        let _place = plant.commit(update);
+        let _place = memory.commit(update);
         return Ok(());
     }
-    let roll = plant.prepare_roll(alloc, 1)?;
-    let _rolled = plant.commit_roll(roll);
-    let _place = plant.commit(update);
+    let next = memory.date() + 1;
+    let roll = memory.prepare_roll(alloc, update.by(), next)?;
+    let _rolled = memory.commit_roll(roll);
+    let _place = memory.commit(update);
     Ok(())
 }
 
 // Logs an update.
-fn log(alloc: Global, plant: &mut Plant, update: &Update) -> Result<(), Fail> {
+fn log(alloc: Global, memory: &mut Memory, update: &Update) -> Result<(), Fail> {
     let table = Sym::of(alloc, update.table)?;
     let items = columns_of(alloc, update)?;
     let request = UpdRequest { table, items };
     let now = NOW.wrapping_add(update.day.wrapping_mul(NANOSECONDS_PER_DAY));
-    match plant.prepare(alloc, 1, &request, now) {
-        Ok(prepared) => Ok(log_prepared(alloc, plant, prepared)?),
+    match memory.prepare(alloc, 1, &request, now) {
+        Ok(prepared) => Ok(log_prepared(alloc, memory, prepared)?),
         Err(_) => Err(Fail::from("an update was refused")),
     }
 }
 
 /// A plant over the built-in schema that began on 2024.01.02, with these updates.
-pub(crate) fn plant_of(alloc: Global, updates: &[Update]) -> Result<Plant, Fail> {
+pub(crate) fn memory_of(alloc: Global, updates: &[Update]) -> Result<Memory, Fail> {
     let schema = built_in_schema(alloc)?;
-    let mut plant = Plant::begin(alloc, schema, DATE, &Limits::standard())?;
+    let mut memory = Memory::begin(alloc, schema, DATE, &Limits::standard())?;
     for update in updates {
-        log(alloc, &mut plant, update)?;
+        log(alloc, &mut memory, update)?;
     }
-    Ok(plant)
+    Ok(memory)
 }
 
 // The numbers from 0 to below this one.
@@ -116,9 +116,9 @@ fn letters_in_turn(alloc: Global, count: u32) -> Result<Vec<u8>, Fail> {
     Ok(letters)
 }
 
-/// A plant with this many rows of `trade` on 2024.01.02, and as many again on 2024.01.03 with as many of `quote`. The symbols
-/// are `b` and `a` in turn, and all other columns count the rows of their update from 0.
-pub(crate) fn many_rows(alloc: Global, count: u32) -> Result<Plant, Fail> {
+/// A plant with this many rows of `trade` on 2024.01.02, and as many again on 2024.01.03 with as many of `quote`. The
+/// symbols are `b` and `a` in turn, and all other columns count the rows of their update from 0.
+pub(crate) fn many_rows(alloc: Global, count: u32) -> Result<Memory, Fail> {
     let numbers = numbers_to(alloc, count)?;
     let symbols = letters_in_turn(alloc, count)?;
     let columns: [&[i64]; 4] = [&numbers, &numbers, &numbers, &numbers];
@@ -143,5 +143,5 @@ pub(crate) fn many_rows(alloc: Global, count: u32) -> Result<Plant, Fail> {
         symbols: &symbols,
         others: &columns,
     };
-    plant_of(alloc, &[first, second, quotes])
+    memory_of(alloc, &[first, second, quotes])
 }

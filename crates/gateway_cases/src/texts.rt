@@ -1,8 +1,8 @@
 //! Texts over plants, with their answers.
 
-use crate::plants::{Update, many_rows, plant_of};
+use crate::plants::{Update, many_rows, memory_of};
 use gateway::{Question, answer};
-use plant_core::Plant;
+use plant_memory::Memory;
 use q_shown::push_value;
 use q_values::{Column, LongKind, NoMemory, Value};
 use std::alloc::Global;
@@ -104,10 +104,10 @@ const TIED_QUOTES: [Update<'static>; 4] = [
 ];
 
 // The answer to a text, as text: an error is a quote and its text.
-fn shown(alloc: Global, plant: &Plant, text: &[u8]) -> Result<Vec<u8>, Fail> {
+fn shown(alloc: Global, memory: &Memory, text: &[u8]) -> Result<Vec<u8>, Fail> {
     let mut out = Vec::new(alloc);
-    let snapshot = plant.snapshot(alloc)?;
-    match answer(alloc, &snapshot, plant.schema(), text)? {
+    let snapshot = memory.snapshot(alloc)?;
+    match answer(alloc, &snapshot, memory.schema(), text)? {
         Value::Wrong(text) => {
             out.extend_from_slice(b"'")?;
             out.extend_from_slice(text.as_slice())?;
@@ -121,12 +121,12 @@ fn shown(alloc: Global, plant: &Plant, text: &[u8]) -> Result<Vec<u8>, Fail> {
 fn assert_answers(
     rt: &impl Abort,
     alloc: Global,
-    plant: &Plant,
+    memory: &Memory,
     cases: &[(&[u8], &[u8])],
 ) -> Result<(), Fail> {
     let mut case = 0usize;
     for (text, wanted) in cases {
-        let found = shown(alloc, plant, text)?;
+        let found = shown(alloc, memory, text)?;
         assert!(rt; found.as_slice() == *wanted, "case {case}");
         case = case.saturating_add(1);
     }
@@ -140,8 +140,8 @@ fn assert_over(
     updates: &[Update],
     cases: &[(&[u8], &[u8])],
 ) -> Result<(), Fail> {
-    let plant = plant_of(alloc, updates)?;
-    assert_answers(rt, alloc, &plant, cases)
+    let memory = memory_of(alloc, updates)?;
+    assert_answers(rt, alloc, &memory, cases)
 }
 
 const TWO_DATES: [(&[u8], &[u8]); 14] = [
@@ -388,9 +388,9 @@ const MANY: [(&[u8], &[u8]); 9] = [
 #[test]
 fn many_trades(rt: HostRuntime) -> Result<(), Fail> {
     let alloc = rt.alloc();
-    let plant = many_rows(alloc, 100_000)?;
-    assert_answers(&rt, alloc, &plant, &MANY)?;
-    assert_answers(&rt, alloc, &plant, &MANY)
+    let memory = many_rows(alloc, 100_000)?;
+    assert_answers(&rt, alloc, &memory, &MANY)?;
+    assert_answers(&rt, alloc, &memory, &MANY)
 }
 
 // Whether the longs count from 0 to below this number.
@@ -422,18 +422,18 @@ fn is_counted(value: &Value, count: usize) -> bool {
 }
 
 // The answer to a text.
-fn answer_to(alloc: Global, plant: &Plant, text: &[u8]) -> Result<Value, NoMemory> {
-    let snapshot = plant.snapshot(alloc)?;
-    answer(alloc, &snapshot, plant.schema(), text)
+fn answer_to(alloc: Global, memory: &Memory, text: &[u8]) -> Result<Value, NoMemory> {
+    let snapshot = memory.snapshot(alloc)?;
+    answer(alloc, &snapshot, memory.schema(), text)
 }
 
 #[test]
 fn join_of_many_rows(rt: HostRuntime) -> Result<(), Fail> {
     let alloc = rt.alloc();
-    let plant = many_rows(alloc, 100_000)?;
+    let memory = many_rows(alloc, 100_000)?;
     let text =
         b"aj[`sym`time;select time,sym from trade where date=2024.01.03;select time,sym,bid from quote]";
-    let joined = answer_to(alloc, &plant, text)?;
+    let joined = answer_to(alloc, &memory, text)?;
     assert!(rt; is_counted(&joined, 100_000));
     Ok(())
 }

@@ -8,8 +8,10 @@ use Rattle.std.proofs.lemmas.List.Elements.{All-head}
 use Rattle.outside_api.specs.Link.{LinkView}
 use Rattle.plant_cli.specs.Program.{Sits, IsNewPlant, solo_of}
 use Rattle.plant_core.specs.Access.{AccessView}
-use Rattle.plant_core.specs.Chronicle.{moment_date}
-use Rattle.plant_core.specs.Plant.{PlantView}
+use Rattle.plant_memory.specs.Chronicle.{moment_date}
+use Rattle.mem_plant.specs.New.{IsNew}
+use Rattle.plant_memory.specs.Frame.{Frame}
+use Rattle.plant_memory.specs.Memory.{MemoryView}
 use Rattle.q_values.specs.declared.limits.Limits.{Limits}
 use Rattle.q_values.specs.declared.turn.Turn.{Turn}
 use Rattle.session.specs.Run.{world}
@@ -23,7 +25,7 @@ steady_first m k all more a s =
     in subst (λ v. All (λ r. r ≡ v) all) (sym h) s
 
 -- a session over a new plant, whose clock was read once before
-pub sits : (m : ℤ) (k : ℤ) (limits : Limits) (plant : PlantView) (l l' : LinkView) (first all more : List ℤ) (n n' : Option (List Turn)) (a a' : AccessView) (end : End)
+pub sits : (m : ℤ) (k : ℤ) (limits : Limits) (plant : MemoryView) (l l' : LinkView) (first all more : List ℤ) (n n' : Option (List Turn)) (a a' : AccessView) (end : End)
     → IsNewPlant limits (moment_date m) plant → first ≡ m ∷ [] → a ≡ solo_of plant
     → IsSession limits (world l (Some first) n a) (world l' (Some all) n' a') end
     → all ≡ first ++ more → All (λ r. r ≡ k) all
@@ -33,12 +35,12 @@ sits m k limits plant l l' first all more n n' a a' end new y z session grows st
     in let s2 = subst (λ v. IsSession limits (world l (Some (m ∷ [])) n v) (world l' (Some all) n' a') end) z s1
     in record { plant = plant; new = new; access = a'; readings = all; steady = steady_first m k all more (subst (λ f. all ≡ f ++ more) y grows) steady; session = s2 }
 
--- a plant that was begun with the built-in tables
-pub new_is : (r : Result PlantView NoMemory) (schema : List Shape) (limits : Limits) (date : ℤ) → schema ≡ built_in_tables → IfOk r (λ plant. plant ≡ record { frame = record { schema = schema; first = date; limits = limits }; entries = []; room = []; spare = true }) → IfOk r (λ plant. IsNewPlant limits date plant)
-new_is (Ok plant) schema limits date tables is = record {
-  tables = ap (λ (v : PlantView). v.frame.schema) is ∙ tables;
-  first = ap (λ (v : PlantView). v.frame.first) is;
-  limits_are = ap (λ (v : PlantView). v.frame.limits) is;
-  empty = ap (λ (v : PlantView). v.entries) is;
+-- a new plant of the built-in tables
+pub new_is : {T : Type 0} (shown : T → MemoryView) (r : Result T NoMemory) (schema : List Shape) (limits : Limits) (date : ℤ) → schema ≡ built_in_tables → IfOk r (λ plant. IsNew schema date limits (shown plant)) → IfOk r (λ plant. IsNewPlant limits date (shown plant))
+new_is shown (Ok plant) schema limits date tables is = record {
+  tables = ap (λ (f : Frame). f.schema) is.frame ∙ tables;
+  first = ap (λ (f : Frame). f.first) is.frame;
+  limits_are = ap (λ (f : Frame). f.limits) is.frame;
+  empty = is.entries;
 }
-new_is (Err why) schema limits date tables is = tt
+new_is shown (Err why) schema limits date tables is = tt

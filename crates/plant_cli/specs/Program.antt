@@ -11,8 +11,8 @@ use Rattle.q_values.specs.declared.limits.Limits.{Limits}
 use Rattle.q_values.specs.declared.turn.Turn.{Turn}
 use Rattle.plant_cli.specs.Usage.{usage_fault, usage_told}
 use Rattle.plant_core.specs.Access.{AccessView}
-use Rattle.plant_core.specs.Chronicle.{moment_date, top_by}
-use Rattle.plant_core.specs.Plant.{PlantView}
+use Rattle.plant_memory.specs.Chronicle.{moment_date, top_by}
+use Rattle.plant_memory.specs.Memory.{MemoryView}
 use Rattle.schema_text.specs.BuiltIn.{built_in_tables}
 use Rattle.session.specs.Run.{world}
 use Rattle.session.specs.Session.{IsSession}
@@ -65,11 +65,11 @@ abbrev pub Concludes : End → OutsideView → OutsideView → ℕ → Type 0
 Concludes end old new status = (status ≡ status_of end) × (new ≡ printed old (line_of end))
 
 -- what a plant shows to the one session that has it, before that session made anything
-abbrev pub solo_of : PlantView → AccessView
+abbrev pub solo_of : MemoryView → AccessView
 solo_of plant = record { by = top_by plant.entries + 1; frame = plant.frame; alone = true; seen = plant.entries; mine = []; snapshots = 0; ticks = 0 }
 
 -- a plant of the built-in tables that has logged nothing
-pub record IsNewPlant (limits : Limits) (date : ℤ) (plant : PlantView) : Type 0 where
+pub record IsNewPlant (limits : Limits) (date : ℤ) (plant : MemoryView) : Type 0 where
   pub tables : plant.frame.schema ≡ built_in_tables
   pub first : plant.frame.first ≡ date
   pub limits_are : plant.frame.limits ≡ limits
@@ -78,7 +78,7 @@ pub record IsNewPlant (limits : Limits) (date : ℤ) (plant : PlantView) : Type 
 -- a session over a new plant, which it alone uses and which is open at the date of the clock; all readings are one moment
 pub record Sits (limits : Limits) (moment : ℤ) (link_old link_new : LinkView)
     (notes_old notes_new : Option (List Turn)) (end : End) : Type 0 where
-  pub plant : PlantView
+  pub plant : MemoryView
   pub new : IsNewPlant limits (moment_date moment) plant
   pub access : AccessView
   pub readings : List ℤ

@@ -1,14 +1,16 @@
 //! What the program does with its arguments.
 ghost use Rattle.std.specs.Prelude.{◌≡◌, ◌⊎◌, ◌≤ℤ◌, negsuc, pos, IfOk, map, string_bytes};
 ghost use Rattle.plant_cli.specs.Program.{Runs, RunsOnce, Sits, SitsNot, Concludes, IsNewPlant, number_of, bad_message};
-ghost use Rattle.plant_core.specs.Chronicle.{moment_date};
+ghost use Rattle.plant_memory.specs.Chronicle.{moment_date};
 ghost use Rattle.outside_api.specs.Outside.{warned_of};
 ghost use Rattle.q_values.specs.Limits.{AreLimits};
 
 use crate::usage::{usage_fault, warn_of_usage};
 use arrayvec::ArrayString;
 use itoa::Buffer;
+use mem_plant::new_plant;
 use outside_api::{Clock, Gate, Link, Outside, Recorder};
+use outside_mem::MemDisk;
 use plant_core::{Plant, Solo};
 use plant_edge::{SteadyClock, clock_of};
 use q_values::{Limits, NANOSECONDS_PER_DAY, NoMemory};
@@ -73,7 +75,7 @@ fn sit<L: Link, G: Gate, N: Recorder, R: Wait>(
 {
     let mut clock = SteadyClock::new(moment);
     let first = clock.now();
-    match new_plant(alloc, open_date(first), limits) {
+    match begun(alloc, open_date(first), limits) {
         Ok(plant) => {
             let report = serve_session(
                 rt,
@@ -92,15 +94,15 @@ fn sit<L: Link, G: Gate, N: Recorder, R: Wait>(
     }
 }
 
-/// A plant of the built-in tables, open at this date, that has logged nothing.
-fn new_plant(alloc: Global, date: i32, limits: &Limits) -> Result<Plant, NoMemory>
+/// A plant of the built-in tables over a disk in memory, open at this date, that has logged nothing.
+fn begun(alloc: Global, date: i32, limits: &Limits) -> Result<Plant<MemDisk>, NoMemory>
     requires limits { AreLimits limits.now }
     requires first { negsuc 106751 ≤ℤ date }
     requires last { date ≤ℤ pos 106751 }
-    ensures { IfOk result (λ plant. IsNewPlant limits.now date plant) }
+    ensures { IfOk result (λ plant. IsNewPlant limits.now date plant.memory) }
 {
     let schema = built_in_schema(alloc)?;
-    Plant::begin(alloc, schema, date, limits)
+    new_plant(alloc, schema, date, limits)
 }
 
 /// The date of a moment, in days since 2000.01.01.

@@ -1,10 +1,5 @@
-pub mod CauseLemmas
-pub mod FaultLemmas
-pub mod HistoryLemmas
-pub mod ItemsLemmas
-pub mod JudgeLemmas
-pub mod LawLemmas
-pub mod MadeLemmas
+pub mod LoadLemmas
+pub mod LogLemmas
+pub mod ManifestLemmas
 pub mod PlantLemmas
-pub mod ShownLemmas
 pub mod SoloLemmas

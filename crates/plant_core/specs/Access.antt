@@ -5,17 +5,18 @@ use Rattle.q_values.specs.declared.refusal.NoMemory.{NoMemory}
 use Rattle.day_rows.specs.Chronicle.{date_of}
 use Rattle.day_rows.specs.declared.entry.Entry.{Entry}
 use Rattle.day_rows.specs.declared.entry.Entry.TheVariants as e
-use Rattle.plant_core.specs.Chronicle.{last_fault}
-use Rattle.plant_core.specs.Frame.{Frame}
-use Rattle.plant_core.specs.Plant.{PlantView, SnapshotView, next_roll, roll_place}
-use Rattle.plant_core.specs.Turns.{IsRefusal}
-use Rattle.plant_core.specs.Verdict.{accepts, is_next_day, verdict}
+use Rattle.plant_memory.specs.Chronicle.{last_fault}
+use Rattle.plant_memory.specs.Frame.{Frame}
+use Rattle.plant_memory.specs.Memory.{MemoryView, SnapshotView, next_roll}
+use Rattle.plant_core.specs.Adds.{roll_place}
+use Rattle.plant_memory.specs.Turns.{IsRefusal}
+use Rattle.plant_memory.specs.Verdict.{accepts, is_next_day, verdict}
 use Rattle.plant_core.specs.declared.access.TickTurn.{TickTurn}
 use Rattle.plant_core.specs.declared.access.TickTurn.TheVariants as t
 use Rattle.plant_core.specs.declared.access.UpdTurn.{UpdTurn}
 use Rattle.plant_core.specs.declared.access.UpdTurn.TheVariants.{Logged, Refused, Failed}
-use Rattle.plant_core.specs.declared.refusal.UpdRefusal.{UpdRefusal}
-use Rattle.plant_core.specs.declared.request.UpdRequest.{UpdRequest}
+use Rattle.plant_memory.specs.declared.refusal.UpdRefusal.{UpdRefusal}
+use Rattle.plant_memory.specs.declared.request.UpdRequest.{UpdRequest}
 
 -- what an access shows
 pub record AccessView : Type 0 where
@@ -138,7 +139,7 @@ Snaps old new (Ok snapshot) = Asks old new × (snapshot ≡ record { frame = old
 Snaps old new (Err _) = Asks old new
 
 -- what a plant shows to the one pass that holds it, which began when the plant had `began` entries
-abbrev pub access_of : PlantView → ℕ → ℕ → ℕ → ℕ → AccessView
+abbrev pub access_of : MemoryView → ℕ → ℕ → ℕ → ℕ → AccessView
 access_of plant by began snapshots ticks = record {
   by = by;
   frame = plant.frame;
@@ -151,7 +152,7 @@ access_of plant by began snapshots ticks = record {
 
 -- the pass has a number of its own, and began when the plant had no more entries than now; its last fault, if there is one, has the
 -- index `latest`
-pub record IsSolo (plant : PlantView) (by began latest : ℕ) : Type 0 where
+pub record IsSolo (plant : MemoryView) (by began latest : ℕ) : Type 0 where
   pub few : by + 1 < 2 ^ 64
   pub within : began ≤ length plant.entries
   pub latest_is : (place : ℕ) → last_fault by plant.entries ≡ Some place → latest ≡ place

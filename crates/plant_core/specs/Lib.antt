@@ -1,12 +1,5 @@
 pub mod Access
-pub mod Causes
-pub mod Chronicle
-pub mod Faults
-pub mod Frame
-pub mod History
-pub mod Items
-pub mod Laws
-pub mod Limit
+pub mod Adds
+pub mod Load
 pub mod Plant
-pub mod Turns
-pub mod Verdict
+pub mod Progress

@@ -1,125 +1,82 @@
--- What a plant shows, and what its calls change.
-use Rattle.std.specs.Prelude.{◌≡◌, ◌<◌, ◌≤◌, ◌+◌, ◌^◌, ◌+ℤ◌, ◌<ℤ◌, ℕ, ℤ, pos, Bool, true, if◌then◌else◌, List, [], ◌∷◌, ◌++◌, length, map, Option, Some, None}
-use Rattle.q_values.specs.Limits.{AreLimits}
-use Rattle.q_values.specs.Tree.{Tree}
-use Rattle.q_values.specs.declared.kind.Kind.{Kind}
-use Rattle.q_values.specs.declared.limits.Limits.{Limits}
-use Rattle.day_rows.specs.Chronicle.{date_of}
-use Rattle.day_rows.specs.Day.{Opened, IsUpdate, entry_rows, opened_of}
+-- What a plant shows: its entries in memory, and what its disk holds of them.
+use Rattle.std.specs.Prelude.{◌≡◌, ◌≤◌, ◌+◌, ℕ, ℤ, IsTrue, List, [], ◌∷◌, ◌++◌, Option, Some}
+use Rattle.outside_api.specs.Counts.{counted}
+use Rattle.outside_api.specs.Disk.{DiskView}
+use Rattle.date_loading.specs.Loading.{AreSettled}
+use Rattle.day_rows.specs.Chronicle.{date_of, log, DatesAscend}
 use Rattle.day_rows.specs.declared.entry.Entry.{Entry}
 use Rattle.day_rows.specs.declared.entry.Entry.TheVariants as e
-use Rattle.day_rows.specs.declared.schema.Shape.{Shape}
-use Rattle.tick_log.specs.Chunk.{IsChunk}
-use Rattle.plant_core.specs.Chronicle.{by_of}
-use Rattle.plant_core.specs.Frame.{Frame}
-use Rattle.plant_core.specs.History.{HistoryView, IsColumn}
-use Rattle.plant_core.specs.Verdict.{accepts, roll_due, verdict}
+use Rattle.partition_set.specs.Records.{IsManifest}
+use Rattle.partition_set.specs.declared.record.ManifestRecord.{ManifestRecord}
+use Rattle.partition_set.specs.declared.record.ManifestRecord.TheVariants as m
+use Rattle.date_logs.specs.Moments.{Throughout, RestartsFrom, RestartsEither}
+use Rattle.date_logs.specs.Stores.{DateLogsView, Stores, Leaves, IsReady}
+use Rattle.plant_memory.specs.Memory.{MemoryView}
 
--- a plant: what no call changes, the chronicle, the update that room was made for, and whether there is room for a fault
-pub record PlantView : Type 0 where
-  pub frame : Frame
-  pub entries : List Entry
-  pub room : List Entry
-  pub spare : Bool
+-- a plant: its entries in memory, its logs and their disk, and the disk as it was when the plant was loaded
+pub record PlantView (D : Type 0) : Type 0 where
+  pub memory : MemoryView
+  pub logs : DateLogsView
+  pub disk : D
+  pub origin : D
 
--- a prepared update: the plant's frame and chronicle when it was prepared, whether a roll is due before it, the pass that
--- asked for it, and its entry
-pub record PreparedView : Type 0 where
-  pub frame : Frame
-  pub entries : List Entry
-  pub rolls : Bool
-  pub by : ℕ
-  pub entry : Entry
+-- the same, by what its disk shows
+pub record ShownPlant : Type 0 where
+  pub memory : MemoryView
+  pub logs : DateLogsView
+  pub disk : DiskView
+  pub origin : DiskView
 
--- a prepared roll: the plant's frame and chronicle when it was prepared, and the pass that asked for it
-pub record PreparedRollView : Type 0 where
-  pub frame : Frame
-  pub entries : List Entry
-  pub by : ℕ
+abbrev pub shown_by : {D : Type 0} → (D → DiskView) → PlantView D → ShownPlant
+shown_by shown plant = record { memory = plant.memory; logs = plant.logs; disk = shown plant.disk; origin = shown plant.origin }
 
--- a snapshot of a plant
-pub record SnapshotView : Type 0 where
-  pub frame : Frame
-  pub entries : List Entry
+-- the disk stores the log, which is the chronicle without its faults; and maybe a late entry, which may count after it
+abbrev pub StoresLog : ShownPlant → Option Entry → Type 0
+StoresLog plant late = Stores plant.disk plant.logs plant.memory.frame.schema plant.memory.frame.first (log plant.memory.entries) late
 
--- the kinds of each table's columns
-abbrev pub kinds_of : List Shape → List (List Kind)
-kinds_of schema = map (λ shape. shape.kinds) schema
+-- after a call that failed at this entry: the log, and what might count before it, nothing, or this entry
+abbrev pub LeavesLog : ShownPlant → Option Entry → Entry → Type 0
+LeavesLog plant late entry = Leaves plant.disk plant.logs plant.memory.frame.schema plant.memory.frame.first (log plant.memory.entries) late entry
 
--- the roll that is due before a prepared update
-abbrev pub due : PreparedView → List Entry
-due update = roll_due update.rolls update.by (date_of update.frame.first update.entries)
+-- at each moment of a call each image of the disk restarts as the log from before it, alone or with one of these entries at its end
+abbrev pub RestartsAllAlong : ShownPlant → ShownPlant → Option Entry → Entry → Type 0
+RestartsAllAlong old new late entry =
+    IsTrue old.disk.tells
+    → Throughout old.disk new.disk (RestartsEither old.memory.frame.schema old.memory.frame.first (log old.memory.entries) late (Some entry))
 
--- the roll that a pass adds at the end of a chronicle: to the next date
-abbrev pub next_roll : ℤ → List Entry → ℕ → Entry
-next_roll first entries by = e.Roll by (date_of first entries +ℤ pos 1)
+-- the number of faults
+abbrev pub fault_count : List Entry → ℕ
+fault_count [] = 0
+fault_count (e.Upd by table columns ∷ entries) = fault_count entries
+fault_count (e.Roll by date ∷ entries) = fault_count entries
+fault_count (e.Fault by ∷ entries) = fault_count entries + 1
 
--- a request's update is prepared: the verdict accepts a roll, where one is due, followed by this update
-pub record Prepares (old new : PlantView) (by : ℕ) (table : List ℕ) (items : List Tree) (now : ℤ) (update : PreparedView) : Type 0 where
-  pub accepted : verdict old.frame by old.entries table items now ≡ accepts (due update ++ update.entry ∷ [])
-  pub frame : update.frame ≡ old.frame
-  pub entries : update.entries ≡ old.entries
-  pub own : update.by ≡ by
-  pub early : update.rolls ≡ true → date_of old.frame.first old.entries <ℤ pos 106751
-  pub after : new ≡ record old { room = if update.rolls then old.room else update.entry ∷ []; spare = true }
+-- what holds of each plant
+pub record IsSound (plant : ShownPlant) : Type 0 where
+  -- each roll opens a later date
+  pub ascend : DatesAscend plant.memory.frame.first plant.memory.entries
+  -- whatever a restart finds is the log, or the log and one late entry; where no sync had failed before the plant was loaded
+  pub restarts :
+      AreSettled plant.origin → IsTrue plant.disk.tells
+      → (late : Option Entry) × RestartsFrom plant.memory.frame.schema plant.memory.frame.first (log plant.memory.entries) late plant.disk.now
+  -- there are no more faults than the disk has counted since then
+  pub faults : counted plant.origin.faults (fault_count plant.memory.entries) ≤ plant.disk.faults
 
--- the index of the roll, if the entries, the first of which has the index `place`, begin with one
-abbrev pub roll_place : ℕ → List Entry → Option ℕ
-roll_place place [] = None
-roll_place place (e.Upd by table columns ∷ entries) = None
-roll_place place (e.Roll by date ∷ entries) = Some place
-roll_place place (e.Fault by ∷ entries) = None
+-- the manifest's last date is this one
+abbrev pub IsOpenDate : List ManifestRecord → ℤ → Type 0
+IsOpenDate records date = (front : List ManifestRecord) × (by : ℕ) × (records ≡ front ++ m.Opened by date ∷ [])
 
--- entries were added; a roll, if they begin with one, has the index `rolled`, and the last of them the index `place`
-pub record Adds (old new : PlantView) (entries : List Entry) (rolled : Option ℕ) (place : ℕ) : Type 0 where
-  pub frame : new.frame ≡ old.frame
-  pub whole : new.entries ≡ old.entries ++ entries
-  pub rolled_is : rolled ≡ roll_place (length old.entries) entries
-  pub last : place + 1 ≡ length (old.entries ++ entries)
+-- what the memory, the logs and the disk say of each other
+pub record IsPlant (plant : ShownPlant) : Type 0 where
+  pub ascend : DatesAscend plant.memory.frame.first plant.memory.entries
+  pub stored : AreSettled plant.origin → (late : Option Entry) × StoresLog plant late
+  pub ready : IsReady plant.disk plant.logs
+  pub lawful : IsManifest plant.logs.manifest.records
+  pub latest : IsOpenDate plant.logs.manifest.records (date_of plant.memory.frame.first plant.memory.entries)
+  pub faults : counted plant.origin.faults (fault_count plant.memory.entries) ≤ plant.disk.faults
 
--- a plant, seen from its dates
-abbrev pub frame_of : List Shape → Limits → HistoryView → Frame
-frame_of schema limits history = record { schema = schema; first = history.first; limits = limits }
-
-abbrev pub plant_of : List Shape → Limits → HistoryView → PlantView
-plant_of schema limits history = record {
-  frame = frame_of schema limits history;
-  entries = history.entries;
-  room = history.room;
-  spare = history.spare;
-}
-
--- the dates are of the schema's tables
-pub record IsPlant (schema : List Shape) (limits : Limits) (history : HistoryView) : Type 0 where
-  pub limits_are : AreLimits limits
-  pub kinds_are : history.kinds ≡ kinds_of schema
-
--- what a prepared update holds: its entry, its log record, and the next date with room for it where a roll is due
-pub record IsPrepared (of : PlantView) (by : ℕ) (entry : Entry) (fresh : Option Opened) (chunk : List ℕ) : Type 0 where
-  pub few : length of.entries < 2 ^ 63
-  pub own : by_of entry ≡ by
-  pub by_few : by + 1 < 2 ^ 64
-  pub update : IsUpdate (kinds_of of.frame.schema) entry
-  pub chunk_is : (before : ℕ) → before + entry_rows entry ≤ 4294967295 → IsChunk of.frame.schema before chunk entry
-  pub fresh_is :
-      (opened : Opened) → fresh ≡ Some opened
-      → opened ≡ opened_of (date_of of.frame.first of.entries +ℤ pos 1) (kinds_of of.frame.schema) [] (entry ∷ [])
-
--- what a prepared roll holds: the dates as they are after it
-pub record IsPreparedRoll (of : PlantView) (by : ℕ) (next : HistoryView) : Type 0 where
-  pub few : length of.entries < 2 ^ 63
-  pub next_is : next ≡ record {
-    first = of.frame.first;
-    kinds = kinds_of of.frame.schema;
-    entries = of.entries ++ next_roll of.frame.first of.entries by ∷ [];
-    room = [];
-    spare = true;
-  }
-
--- a table of the schema has a column with this index, of this kind
-abbrev pub HasColumn : List Shape → ℕ → ℕ → Kind → Type 0
-HasColumn schema = IsColumn (kinds_of schema)
-
--- the dates of a snapshot are of the schema's tables
-pub record IsSnapshot (schema : List Shape) (history : HistoryView) : Type 0 where
-  pub kinds_are : history.kinds ≡ kinds_of schema
+-- nothing changed on the disk, and at most the room for a date of the manifest
+pub record LeavesDisk (old new : ShownPlant) : Type 0 where
+  pub disk : new.disk ≡ old.disk
+  pub origin : new.origin ≡ old.origin
+  pub logs : new.logs ≡ record old.logs { manifest = record old.logs.manifest { room = new.logs.manifest.room } }

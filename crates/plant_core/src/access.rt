@@ -1,11 +1,9 @@
 //! How a session reaches the plant: the trait [`Access`] and what its calls answer.
 ghost use Rattle.std.specs.Prelude.{◌≡◌, ℕ, Some};
-ghost use Rattle.plant_core.specs.Chronicle.{last_fault};
+ghost use Rattle.plant_memory.specs.Chronicle.{last_fault};
 
-use crate::refusal::UpdRefusal;
-use crate::request::UpdRequest;
-use crate::snapshot::Snapshot;
 use day_rows::Schema;
+use plant_memory::{Snapshot, UpdRefusal, UpdRequest};
 use q_values::NoMemory;
 use std::alloc::Global;
 use std::sync::Wait;

@@ -1,14 +1,13 @@
 //! A plant that one pass holds alone.
 ghost use Rattle.std.specs.Prelude.{◌≡◌, ◌<◌, ◌+◌, ◌^◌, true, []};
-ghost use Rattle.plant_core.specs.Chronicle.{top_by};
+ghost use Rattle.plant_memory.specs.Chronicle.{top_by};
 
 use crate::access::{Access, TickTurn, UpdTurn};
-use crate::judge::is_next_day;
+use crate::commits::Logging;
 use crate::plant::Plant;
-use crate::refusal::UpdRefusal;
-use crate::request::UpdRequest;
-use crate::snapshot::Snapshot;
 use day_rows::Schema;
+use outside_api::Disk;
+use plant_memory::{Snapshot, UpdRefusal, UpdRequest, is_next_day};
 use q_values::NoMemory;
 use std::alloc::Global;
 use std::marker::Model;
@@ -16,9 +15,9 @@ use std::sync::Wait;
 
 /// A plant, and the one pass that makes its entries.
 #[derive(Drop)]
-pub struct Solo {
+pub struct Solo<D: Disk> {
     // the plant, to which nobody else has access
-    plant: Plant,
+    plant: Plant<D>,
     // the number of the pass; it and its successor fit 64 bits
     by: u64,
     // the number of entries that the plant had when the pass began
@@ -31,25 +30,25 @@ pub struct Solo {
     latest: u64,
 }
 
-impl Model for Solo {
+impl<D: Disk> Model for Solo<D> {
     ghost use Rattle.plant_core.specs.Access.{AccessView, IsSolo, access_of};
 
     ghost Value = { AccessView };
 
-    ghost view = { λ s. access_of s.plant s.by s.began s.snapshots s.ticks };
+    ghost view = { λ s. access_of s.plant.memory s.by s.began s.snapshots s.ticks };
 
-    ghost invariant = { λ s. IsSolo s.plant s.by s.began s.latest };
+    ghost invariant = { λ s. IsSolo s.plant.memory s.by s.began s.latest };
 }
 
-impl Solo {
+impl<D: Disk> Solo<D> {
     /// The pass with the plant's next number. It has seen the plant's whole chronicle, and takes no memory.
-    pub fn new(plant: Plant) -> Solo
-        requires { top_by plant.entries + 2 < 2 ^ 64 }
+    pub fn new(plant: Plant<D>) -> Solo<D>
+        requires { top_by plant.memory.entries + 2 < 2 ^ 64 }
         ensures { result ≡ record {
-          by = top_by plant.entries + 1;
-          frame = plant.frame;
+          by = top_by plant.memory.entries + 1;
+          frame = plant.memory.frame;
           alone = true;
-          seen = plant.entries;
+          seen = plant.memory.entries;
           mine = [];
           snapshots = 0;
           ticks = 0;
@@ -64,9 +63,18 @@ impl Solo {
             latest: 0,
         }
     }
+
+    /// The plant, whose chronicle is what the pass has seen. It takes no memory.
+    pub fn into_plant(self) -> Plant<D>
+        ensures frame { result.memory.frame ≡ self.frame }
+        ensures entries { result.memory.entries ≡ self.seen }
+    {
+        let Solo { plant, .. } = self;
+        plant
+    }
 }
 
-impl Access for Solo {
+impl<D: Disk> Access for Solo<D> {
     ghost shown = { λ s. s };
 
     fn by(&self) -> u64 {
@@ -84,8 +92,12 @@ impl Access for Solo {
             Err(why) => return UpdTurn::Refused { length, why },
         };
         match self.plant.log(alloc, update) {
-            Ok((rolled, place)) => UpdTurn::Logged { rolled, place },
-            Err(_) => UpdTurn::Refused {
+            Logging::Logged { rolled, place } => UpdTurn::Logged { rolled, place },
+            Logging::Failed { rolled, place } => {
+                self.latest = place;
+                UpdTurn::Failed { rolled, place }
+            }
+            Logging::NoMemory => UpdTurn::Refused {
                 length,
                 why: UpdRefusal::NoMemory,
             },
@@ -94,16 +106,19 @@ impl Access for Solo {
 
     fn tick<R: Wait>(&mut self, _rt: &R, alloc: Global, now: i64) -> TickTurn {
         self.ticks = self.ticks.saturating_add(1);
+        let length = self.plant.length();
         if !is_next_day(self.plant.date(), now) {
-            return TickTurn::Quiet {
-                length: self.plant.length(),
-            };
+            return TickTurn::Quiet { length };
         }
-        match self.plant.prepare_roll(alloc, self.by) {
-            Ok(roll) => TickTurn::Rolled {
-                place: self.plant.commit_roll(roll),
-            },
-            Err(_) => TickTurn::NoMemory,
+        let Ok(roll) = self.plant.prepare_roll(alloc, self.by) else {
+            return TickTurn::NoMemory;
+        };
+        match self.plant.commit_roll(roll) {
+            Ok(place) => TickTurn::Rolled { place },
+            Err(_) => {
+                self.latest = length;
+                TickTurn::Failed { place: length }
+            }
         }
     }
 

@@ -1,26 +1,22 @@
-//! Tests of `plant_core`, through its public calls.
+//! Tests of `plant_core` over a disk in memory, through its public calls.
 //!
-//! `plants` begins a plant over the built-in schema, on 2024.01.02, and logs updates of its `trade`: atoms that are spread
-//! to columns, a time that is left out, updates that are refused, a clock that is a day or two ahead, the order of rows
-//! before and after a date ends, and a pass that has the plant to itself. `faults` notes a disk fault between updates, and
-//! `records` compares the limit of log records with a record's length, counted by hand. The expected values come from the documented
-//! order and the error texts of kdb+, not from the contracts.
-//!
-//! One of the cases: after updates of `b`, `a` and `b`, the symbols are read as
+//! `plants` formats, loads and feeds plants over the built-in schema, on 2024.01.02, and reads columns of `trade` from
+//! their snapshots. `passes` goes through the calls of a pass that has a plant to itself; `sizes` logs many rows and
+//! many updates, and loads them again.
 //!
 //! ```text
-//! b a b    while the date is open, by arrival
-//! a b b    once it has ended, by symbol and arrival
+//! new_solo    a plant on a new disk, held by one pass
+//! logs        one update of one row
+//! load        the plant that a disk stands for
 //! ```
 //!
-//! The tests are in a crate of their own since a crate with tests is proved twice, with and without them. They test what
-//! no contract says: that a call doesn't run out of memory where there is enough, and that the definitions mean what
-//! kdb+ means. Nothing else is in this crate.
+//! The tests are in a crate of their own since a crate with tests is proved twice, with and without them. Nothing
+//! else is in this crate.
 #![tactic(auto)]
 
 #[cfg(test)]
-mod faults;
+mod passes;
 #[cfg(test)]
 mod plants;
 #[cfg(test)]
-mod records;
+mod sizes;

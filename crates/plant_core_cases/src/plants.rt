@@ -1,123 +1,141 @@
-//! Plants over the built-in schema: which updates are logged, and what is read afterwards.
-ghost use Rattle.std.specs.Prelude.{◌≡◌, ◌<ℤ◌, pos, true, false, [], ◌∷◌};
-ghost use Rattle.day_rows.specs.Chronicle.{date_of};
+//! Plants over a disk in memory: updates of `trade` by one pass, and what a snapshot shows of them.
+ghost use Rattle.std.specs.Prelude.{◌≡◌, ◌≤ℤ◌, negsuc, pos};
 
-use plant_core::{
-    Access, Plant, Prepared, Snapshot, Solo, TickTurn, UpdRefusal, UpdRequest, UpdTurn,
-};
-use q_values::{
-    Atom, Column, Kind, Limits, LongKind, NANOSECONDS_PER_DAY, NoMemory, Sym, Value, Values, Vector,
-};
-use schema_text::{BUILT_IN, read_schema};
+use date_loading::LoadRefusal;
+use day_rows::Schema;
+use outside_mem::MemDisk;
+use plant_core::{Access, LoadFailure, Plant, Solo, UpdTurn};
+use plant_memory::{Snapshot, UpdRequest};
+use q_values::{Atom, Column, Limits, NoMemory, Sym, Value, Values, Vector};
+use schema_text::built_in_schema;
 use std::alloc::Global;
 use std::sync::Wait;
-use std::test::Fail;
 
-/// 2024.01.02, in days since 2000.01.01.
-pub(crate) const DATE: i32 = 8_767;
+/// 2024.01.02, in days since 2000.01.01: the first date.
+pub(crate) const FIRST: i32 = 8_767;
 
-/// The index of `trade` in the schema.
-const TRADE: u32 = 1;
+/// The index of `trade` in the built-in schema.
+pub(crate) const TRADE: u32 = 1;
 
 /// `0D09:30`, in nanoseconds.
-pub(crate) const HALF_PAST_NINE: i64 = 34_200_000_000_000;
-
-/// A minute, in nanoseconds.
-const MINUTE: i64 = 60_000_000_000;
+pub(crate) const NINE_THIRTY: i64 = 34_200_000_000_000;
 
 /// 2024.01.02D09:30, in nanoseconds since 2000.01.01.
 pub(crate) const NOW: i64 = 757_503_000_000_000_000;
 
-pub(crate) fn begun(alloc: Global) -> Result<Option<Plant>, NoMemory> {
-    match read_schema(alloc, BUILT_IN) {
-        Ok(schema) => Ok(Some(Plant::begin(alloc, schema, DATE, &Limits::standard())?)),
+/// One row of `trade`: its time, symbol, price and size.
+pub(crate) type Row = (i64, &'static str, i64, i64);
+
+/// A symbol of this name.
+pub(crate) fn symbol(alloc: Global, name: &str) -> Result<Sym, NoMemory> {
+    match Sym::of(alloc, name.as_bytes()) {
+        Ok(symbol) => Ok(symbol),
+        Err(_) => Err(NoMemory),
+    }
+}
+
+/// An update of one row.
+pub(crate) fn request_of(alloc: Global, row: Row) -> Result<UpdRequest, NoMemory> {
+    let (time, name, price, size) = row;
+    let mut items = Values::new(alloc);
+    items.push(Value::Atom(Atom::Timespan(time)))?;
+    items.push(Value::Atom(Atom::Symbol(symbol(alloc, name)?)))?;
+    items.push(Value::Atom(Atom::Long(price)))?;
+    items.push(Value::Atom(Atom::Long(size)))?;
+    Ok(UpdRequest {
+        table: symbol(alloc, "trade")?,
+        items,
+    })
+}
+
+/// What becomes of an update of one row.
+pub(crate) fn sent<R: Wait>(
+    rt: &R,
+    alloc: Global,
+    solo: &mut Solo<MemDisk>,
+    row: Row,
+    now: i64,
+) -> Result<UpdTurn, NoMemory> {
+    let request = request_of(alloc, row)?;
+    Ok(solo.upd(rt, alloc, &request, now))
+}
+
+/// Whether an update of one row is logged.
+pub(crate) fn logs<R: Wait>(
+    rt: &R,
+    alloc: Global,
+    solo: &mut Solo<MemDisk>,
+    row: Row,
+    now: i64,
+) -> Result<bool, NoMemory> {
+    Ok(matches!(sent(rt, alloc, solo, row, now)?, UpdTurn::Logged { .. }))
+}
+
+/// A disk with the built-in tables, where there is memory for one.
+pub(crate) fn formatted(alloc: Global) -> Result<Option<MemDisk>, NoMemory> {
+    let mut disk = MemDisk::new(alloc);
+    let schema = built_in_schema(alloc)?;
+    match Plant::<MemDisk>::format(alloc, &mut disk, &schema) {
+        Ok(()) => Ok(Some(disk)),
         Err(_) => Ok(None),
     }
 }
 
-fn symbol(alloc: Global, name: &[u8]) -> Result<Atom, NoMemory> {
-    match Sym::of(alloc, name) {
-        Ok(symbol) => Ok(Atom::Symbol(symbol)),
-        Err(_) => Err(NoMemory),
-    }
-}
-
-fn longs(alloc: Global, kind: LongKind, items: &[i64]) -> Result<Value, NoMemory> {
-    let items = Vec::from_slice(alloc, items)?;
-    Ok(Value::Vector(Vector::from_column(Column::Longs(kind, items))))
-}
-
-fn asked(alloc: Global, table: &[u8], items: Values) -> Result<UpdRequest, NoMemory> {
-    match Sym::of(alloc, table) {
-        Ok(table) => Ok(UpdRequest { table, items }),
-        Err(_) => Err(NoMemory),
-    }
-}
-
-// One row of `trade`.
-pub(crate) fn trade(
+/// The plant of this disk, which has the built-in tables.
+pub(crate) fn load(
     alloc: Global,
-    time: i64,
-    name: &[u8],
-    price: i64,
-    size: i64,
-) -> Result<UpdRequest, NoMemory> {
-    let mut items = Values::new(alloc);
-    items.push(Value::Atom(Atom::Timespan(time)))?;
-    items.push(Value::Atom(symbol(alloc, name)?))?;
-    items.push(Value::Atom(Atom::Long(price)))?;
-    items.push(Value::Atom(Atom::Long(size)))?;
-    asked(alloc, b"trade", items)
-}
-
-// Logs an update that the pass 1 has prepared, after the roll where one is due.
-fn log(alloc: Global, plant: &mut Plant, update: Prepared) -> Result<(), NoMemory>
-    requires own { update.by ≡ 1 }
-    requires frame { update.frame ≡ plant.old.frame }
-    requires same { update.entries ≡ plant.old.entries }
-    requires room { update.rolls ≡ false → plant.old.room ≡ update.entry ∷ [] }
-    requires date { update.rolls ≡ true → date_of plant.old.frame.first plant.old.entries <ℤ pos 106751 }
+    disk: MemDisk,
+    date: i32,
+) -> Result<Plant<MemDisk>, LoadFailure<MemDisk>>
+    requires first { negsuc 106751 ≤ℤ date }
+    requires last { date ≤ℤ pos 106751 }
 {
-    if !update.rolls() {
-        let _place = plant.commit(update);
-        return Ok(());
-    }
-    let roll = plant.prepare_roll(alloc, 1)?;
-    let _rolled = plant.commit_roll(roll);
-    let _place = plant.commit(update);
-    Ok(())
-}
-
-// The refusal of an update, or none where it was logged.
-pub(crate) fn refusal_of(
-    alloc: Global,
-    plant: &mut Plant,
-    request: &UpdRequest,
-    now: i64,
-) -> Result<Option<UpdRefusal>, NoMemory> {
-    match plant.prepare(alloc, 1, request, now) {
-        Ok(update) => {
-            log(alloc, plant, update)?;
-            Ok(None)
-        }
-        Err(UpdRefusal::NoMemory) => Err(NoMemory),
-        Err(why) => Ok(Some(why)),
+    match built_in_schema(alloc) {
+        Ok(schema) => Plant::load(alloc, disk, schema, date, &Limits::standard()),
+        Err(_) => Err(LoadFailure {
+            disk,
+            why: LoadRefusal::NoMemory,
+        }),
     }
 }
 
-fn is_logged(
-    alloc: Global,
-    plant: &mut Plant,
-    request: &UpdRequest,
-    now: i64,
-) -> Result<bool, NoMemory> {
-    Ok(refusal_of(alloc, plant, request, now)?.is_none())
+/// The pass that has the plant to itself, if a number is left for it.
+pub(crate) fn alone(plant: Plant<MemDisk>) -> Option<Solo<MemDisk>> {
+    if plant.next_by() == u64::MAX {
+        return None;
+    }
+    Some(Solo::new(plant))
 }
 
-// A column of `trade` on the date with the index `k`.
-fn shown(alloc: Global, plant: &Plant, k: usize, column: u32) -> Result<Option<Vector>, NoMemory> {
-    let snapshot = plant.snapshot(alloc)?;
-    let schema = plant.schema();
+/// The pass that has a plant on this disk to itself, if the plant is loaded.
+pub(crate) fn solo_at(alloc: Global, disk: MemDisk, date: i32) -> Option<Solo<MemDisk>>
+    requires first { negsuc 106751 ≤ℤ date }
+    requires last { date ≤ℤ pos 106751 }
+{
+    match load(alloc, disk, date) {
+        Ok(plant) => alone(plant),
+        Err(_) => None,
+    }
+}
+
+/// The pass that has a new plant to itself, at the first date.
+pub(crate) fn new_solo(alloc: Global) -> Result<Option<Solo<MemDisk>>, NoMemory> {
+    match formatted(alloc)? {
+        Some(disk) => Ok(solo_at(alloc, disk, FIRST)),
+        None => Ok(None),
+    }
+}
+
+/// A column of `trade` on the date with the index `k`, if they exist.
+pub(crate) fn shown(
+    alloc: Global,
+    snapshot: &Snapshot,
+    schema: &Schema,
+    k: usize,
+    column: u32,
+) -> Result<Option<Vector>, NoMemory>
+    requires { snapshot.now.frame.schema ≡ schema.now }
+{
     if schema.len() <= TRADE as usize || k >= snapshot.dates() {
         return Ok(None);
     }
@@ -131,7 +149,8 @@ fn shown(alloc: Global, plant: &Plant, k: usize, column: u32) -> Result<Option<V
     Ok(Some(part))
 }
 
-fn are_symbols(column: &Vector, names: &[&str]) -> bool {
+/// Whether the column has these symbols.
+pub(crate) fn are_symbols(column: &Vector, names: &[&str]) -> bool {
     match column.column() {
         Column::Symbols(symbols) if symbols.len() == names.len() => {
             (0..names.len()).all(|i| symbols.at(i) == names[i].as_bytes())
@@ -140,346 +159,10 @@ fn are_symbols(column: &Vector, names: &[&str]) -> bool {
     }
 }
 
-fn are_longs(column: &Vector, items: &[i64]) -> bool {
+/// Whether the column has these numbers.
+pub(crate) fn are_longs(column: &Vector, items: &[i64]) -> bool {
     match column.column() {
         Column::Longs(_, own) => own.as_slice() == items,
         _ => false,
     }
-}
-
-pub(crate) fn shows_symbols(
-    alloc: Global,
-    plant: &Plant,
-    k: usize,
-    names: &[&str],
-) -> Result<bool, NoMemory> {
-    match shown(alloc, plant, k, 1)? {
-        Some(column) => Ok(are_symbols(&column, names)),
-        None => Ok(false),
-    }
-}
-
-fn shows_longs(
-    alloc: Global,
-    plant: &Plant,
-    k: usize,
-    column: u32,
-    items: &[i64],
-) -> Result<bool, NoMemory> {
-    match shown(alloc, plant, k, column)? {
-        Some(found) => Ok(are_longs(&found, items)),
-        None => Ok(false),
-    }
-}
-
-// Two rows, the symbol of which is one atom.
-fn two_rows(alloc: Global) -> Result<UpdRequest, NoMemory> {
-    let mut items = Values::new(alloc);
-    let times = [HALF_PAST_NINE, HALF_PAST_NINE + MINUTE];
-    items.push(longs(alloc, LongKind::Timespan, &times)?)?;
-    items.push(Value::Atom(symbol(alloc, b"a")?))?;
-    items.push(longs(alloc, LongKind::Long, &[1, 2])?)?;
-    items.push(longs(alloc, LongKind::Long, &[3, 4])?)?;
-    asked(alloc, b"trade", items)
-}
-
-fn two_items(alloc: Global) -> Result<UpdRequest, NoMemory> {
-    let mut items = Values::new(alloc);
-    items.push(Value::Atom(symbol(alloc, b"KX")?))?;
-    items.push(Value::Atom(Atom::Long(1)))?;
-    asked(alloc, b"trade", items)
-}
-
-fn integer_size(alloc: Global) -> Result<UpdRequest, NoMemory> {
-    let mut items = Values::new(alloc);
-    items.push(Value::Atom(Atom::Timespan(HALF_PAST_NINE)))?;
-    items.push(Value::Atom(symbol(alloc, b"KX")?))?;
-    items.push(Value::Atom(Atom::Long(10)))?;
-    items.push(Value::Atom(Atom::Integer(200)))?;
-    asked(alloc, b"trade", items)
-}
-
-fn empty_columns(alloc: Global) -> Result<UpdRequest, NoMemory> {
-    let mut items = Values::new(alloc);
-    items.push(longs(alloc, LongKind::Timespan, &[])?)?;
-    items.push(Value::Vector(Vector::new(alloc, Kind::Symbol)))?;
-    items.push(longs(alloc, LongKind::Long, &[])?)?;
-    items.push(longs(alloc, LongKind::Long, &[])?)?;
-    asked(alloc, b"trade", items)
-}
-
-fn without_time(alloc: Global) -> Result<UpdRequest, NoMemory> {
-    let mut items = Values::new(alloc);
-    items.push(Value::Atom(symbol(alloc, b"KX")?))?;
-    items.push(Value::Atom(Atom::Long(10_050)))?;
-    items.push(Value::Atom(Atom::Long(200)))?;
-    asked(alloc, b"trade", items)
-}
-
-pub(crate) fn logs_trade(
-    alloc: Global,
-    plant: &mut Plant,
-    time: i64,
-    name: &[u8],
-    price: i64,
-    now: i64,
-) -> Result<bool, NoMemory> {
-    let request = trade(alloc, time, name, price, 1)?;
-    is_logged(alloc, plant, &request, now)
-}
-
-fn spreads(alloc: Global, plant: &mut Plant) -> Result<bool, NoMemory> {
-    let request = two_rows(alloc)?;
-    is_logged(alloc, plant, &request, NOW)
-}
-
-fn shows_two_rows(alloc: Global, plant: &Plant) -> Result<bool, NoMemory> {
-    if !shows_symbols(alloc, plant, 0, &["a", "a"])? {
-        return Ok(false);
-    }
-    if !shows_longs(alloc, plant, 0, 2, &[1, 2])? {
-        return Ok(false);
-    }
-    shows_longs(alloc, plant, 0, 3, &[3, 4])
-}
-
-fn atom_is_spread(alloc: Global) -> Result<bool, NoMemory> {
-    match begun(alloc)? {
-        Some(mut plant) => Ok(spreads(alloc, &mut plant)? && shows_two_rows(alloc, &plant)?),
-        None => Ok(false),
-    }
-}
-
-#[test]
-fn atom_spread_to_columns(rt: HostRuntime) -> Result<(), Fail> {
-    assert!(rt; atom_is_spread(rt.alloc())?);
-    Ok(())
-}
-
-fn is_past(alloc: Global, plant: &mut Plant) -> Result<bool, NoMemory> {
-    let request = trade(alloc, HALF_PAST_NINE, b"b", 10, 100)?;
-    match refusal_of(alloc, plant, &request, NOW + 2 * NANOSECONDS_PER_DAY)? {
-        Some(UpdRefusal::MoreThanOneDay) => Ok(plant.length() == 0 && plant.next_by() == 1),
-        _ => Ok(false),
-    }
-}
-
-fn is_kept_back(alloc: Global, plant: &mut Plant) -> Result<bool, NoMemory> {
-    let logged = logs_trade(
-        alloc,
-        plant,
-        HALF_PAST_NINE,
-        b"b",
-        10,
-        NOW - NANOSECONDS_PER_DAY,
-    )?;
-    let stays = plant.date() == DATE && plant.opened_at() == 0;
-    Ok(logged && stays && plant.length() == 1 && plant.next_by() == 2)
-}
-
-fn clock_is_judged(alloc: Global) -> Result<bool, NoMemory> {
-    match begun(alloc)? {
-        Some(mut plant) => Ok(is_past(alloc, &mut plant)? && is_kept_back(alloc, &mut plant)?),
-        None => Ok(false),
-    }
-}
-
-#[test]
-fn clock_beyond_one_day(rt: HostRuntime) -> Result<(), Fail> {
-    assert!(rt; clock_is_judged(rt.alloc())?);
-    Ok(())
-}
-
-fn is_no_table(alloc: Global, plant: &mut Plant) -> Result<bool, NoMemory> {
-    let request = asked(alloc, b"foo", Values::new(alloc))?;
-    match refusal_of(alloc, plant, &request, NOW)? {
-        Some(UpdRefusal::NoTable(table)) => Ok(table.bytes() == b"foo".as_slice()),
-        _ => Ok(false),
-    }
-}
-
-fn is_length(alloc: Global, plant: &mut Plant) -> Result<bool, NoMemory> {
-    let request = two_items(alloc)?;
-    match refusal_of(alloc, plant, &request, NOW)? {
-        Some(UpdRefusal::Length) => Ok(true),
-        _ => Ok(false),
-    }
-}
-
-fn is_type(alloc: Global, plant: &mut Plant) -> Result<bool, NoMemory> {
-    let request = integer_size(alloc)?;
-    match refusal_of(alloc, plant, &request, NOW)? {
-        Some(UpdRefusal::WrongType { column }) => Ok(column == 3),
-        _ => Ok(false),
-    }
-}
-
-fn is_limit(alloc: Global, plant: &mut Plant) -> Result<bool, NoMemory> {
-    let request = trade(alloc, HALF_PAST_NINE, &[b'x'; 257], 1, 1)?;
-    match refusal_of(alloc, plant, &request, NOW)? {
-        Some(UpdRefusal::Limit) => Ok(plant.limits().symbol == 256 && plant.length() == 0),
-        _ => Ok(false),
-    }
-}
-
-fn logs_no_row(alloc: Global, plant: &mut Plant) -> Result<bool, NoMemory> {
-    let request = empty_columns(alloc)?;
-    is_logged(alloc, plant, &request, NOW)
-}
-
-fn updates_today(alloc: Global, plant: &Plant) -> Result<u64, NoMemory> {
-    Ok(plant.snapshot(alloc)?.updates_today())
-}
-
-fn refuses_in_turn(alloc: Global, plant: &mut Plant) -> Result<bool, NoMemory> {
-    if !is_no_table(alloc, plant)? || !is_length(alloc, plant)? {
-        return Ok(false);
-    }
-    if !is_type(alloc, plant)? || !is_limit(alloc, plant)? {
-        return Ok(false);
-    }
-    if !logs_no_row(alloc, plant)? || updates_today(alloc, plant)? != 1 {
-        return Ok(false);
-    }
-    shows_symbols(alloc, plant, 0, &[])
-}
-
-fn updates_are_judged(alloc: Global) -> Result<bool, NoMemory> {
-    match begun(alloc)? {
-        Some(mut plant) => refuses_in_turn(alloc, &mut plant),
-        None => Ok(false),
-    }
-}
-
-#[test]
-fn refused_updates(rt: HostRuntime) -> Result<(), Fail> {
-    assert!(rt; updates_are_judged(rt.alloc())?);
-    Ok(())
-}
-
-// Three updates, and a fourth on the next date.
-fn logs_four(alloc: Global, plant: &mut Plant) -> Result<bool, NoMemory> {
-    let first = logs_trade(alloc, plant, HALF_PAST_NINE, b"b", 10, NOW)?;
-    let second = logs_trade(alloc, plant, HALF_PAST_NINE + MINUTE, b"a", 20, NOW)?;
-    let third = logs_trade(alloc, plant, HALF_PAST_NINE + 2 * MINUTE, b"b", 11, NOW)?;
-    let arrived = shows_symbols(alloc, plant, 0, &["b", "a", "b"])?;
-    let fourth = logs_trade(
-        alloc,
-        plant,
-        HALF_PAST_NINE,
-        b"c",
-        30,
-        NOW + NANOSECONDS_PER_DAY,
-    )?;
-    Ok(first && second && third && arrived && fourth)
-}
-
-fn has_dates(snapshot: &Snapshot, dates: &[i32]) -> bool {
-    if snapshot.dates() != dates.len() {
-        return false;
-    }
-    for k in 0..dates.len() {
-        if snapshot.date_at(k) != dates[k] {
-            return false;
-        }
-    }
-    true
-}
-
-fn is_counted(alloc: Global, plant: &Plant) -> Result<bool, NoMemory> {
-    let snapshot = plant.snapshot(alloc)?;
-    let counted = snapshot.length() == 5 && snapshot.updates_today() == 1;
-    Ok(counted && plant.opened_at() == 4 && has_dates(&snapshot, &[8_767, 8_768]))
-}
-
-fn shows_both_dates(alloc: Global, plant: &Plant) -> Result<bool, NoMemory> {
-    let symbols = shows_symbols(alloc, plant, 0, &["a", "b", "b"])?;
-    let prices = shows_longs(alloc, plant, 0, 2, &[20, 10, 11])?;
-    let symbol = shows_symbols(alloc, plant, 1, &["c"])?;
-    let price = shows_longs(alloc, plant, 1, 2, &[30])?;
-    Ok(symbols && prices && symbol && price)
-}
-
-fn is_ordered(alloc: Global, plant: &mut Plant) -> Result<bool, NoMemory> {
-    let logged = logs_four(alloc, plant)?;
-    let counted = is_counted(alloc, plant)?;
-    let both = shows_both_dates(alloc, plant)?;
-    Ok(logged && counted && both)
-}
-
-fn dates_are_ordered(alloc: Global) -> Result<bool, NoMemory> {
-    match begun(alloc)? {
-        Some(mut plant) => is_ordered(alloc, &mut plant),
-        None => Ok(false),
-    }
-}
-
-#[test]
-fn symbol_order_after_roll(rt: HostRuntime) -> Result<(), Fail> {
-    assert!(rt; dates_are_ordered(rt.alloc())?);
-    Ok(())
-}
-
-fn puts_time(alloc: Global, plant: &mut Plant) -> Result<bool, NoMemory> {
-    let request = without_time(alloc)?;
-    if !is_logged(alloc, plant, &request, NOW)? {
-        return Ok(false);
-    }
-    shows_longs(alloc, plant, 0, 0, &[HALF_PAST_NINE])
-}
-
-fn time_is_put(alloc: Global) -> Result<bool, NoMemory> {
-    match begun(alloc)? {
-        Some(mut plant) => puts_time(alloc, &mut plant),
-        None => Ok(false),
-    }
-}
-
-#[test]
-fn time_put_first(rt: HostRuntime) -> Result<(), Fail> {
-    assert!(rt; time_is_put(rt.alloc())?);
-    Ok(())
-}
-
-fn solo(alloc: Global) -> Result<Option<Solo>, NoMemory> {
-    match begun(alloc)? {
-        Some(plant) if plant.next_by() == 1 => Ok(Some(Solo::new(plant))),
-        _ => Ok(None),
-    }
-}
-
-// The indices of the roll and of the update, where an update of one row was logged.
-fn places<R: Wait>(
-    rt: &R,
-    alloc: Global,
-    solo: &mut Solo,
-    now: i64,
-) -> Result<Option<(Option<u64>, u64)>, NoMemory> {
-    let request = trade(alloc, HALF_PAST_NINE, b"b", 10, 100)?;
-    match solo.upd(rt, alloc, &request, now) {
-        UpdTurn::Logged { rolled, place } => Ok(Some((rolled, place))),
-        UpdTurn::Refused { .. } | UpdTurn::Failed { .. } => Ok(None),
-    }
-}
-
-fn passes<R: Wait>(rt: &R, alloc: Global, solo: &mut Solo) -> Result<bool, NoMemory> {
-    let first = places(rt, alloc, solo, NOW)? == Some((None, 0));
-    let quiet = solo.tick(rt, alloc, NOW) == TickTurn::Quiet { length: 1 };
-    let rolled = solo.tick(rt, alloc, NOW + NANOSECONDS_PER_DAY) == TickTurn::Rolled { place: 1 };
-    let second = places(rt, alloc, solo, NOW + 2 * NANOSECONDS_PER_DAY)? == Some((Some(2), 3));
-    let length = solo.snapshot(rt, alloc)?.length();
-    Ok(first && quiet && rolled && second && length == 4 && solo.by() == 1)
-}
-
-fn passes_alone<R: Wait>(rt: &R, alloc: Global) -> Result<bool, NoMemory> {
-    match solo(alloc)? {
-        Some(mut solo) => Ok(solo.schema().len() == 2 && passes(rt, alloc, &mut solo)?),
-        None => Ok(false),
-    }
-}
-
-#[test]
-fn one_pass_alone(rt: HostRuntime) -> Result<(), Fail> {
-    assert!(rt; passes_alone(&rt, rt.alloc())?);
-    Ok(())
 }

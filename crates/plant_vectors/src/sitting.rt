@@ -3,7 +3,10 @@ ghost use Rattle.std.specs.Prelude.{◌≡◌};
 ghost use Rattle.q_values.specs.Limits.{AreLimits};
 
 use crate::bytes::GREETING;
-use outside_mem::{MemClock, MemLink, MemRecorder, NoGate, Piece, Pieces, Taking, Takings};
+use mem_plant::new_plant;
+use outside_mem::{
+    MemClock, MemDisk, MemLink, MemRecorder, NoGate, Piece, Pieces, Taking, Takings,
+};
 use plant_core::{Plant, Solo};
 use q_values::{Limits, NoMemory, Sequence, Text, Turn};
 use schema_text::{BUILT_IN, read_schema};
@@ -51,13 +54,13 @@ fn serve_over<R: Wait>(
     rt: &R,
     alloc: Global,
     limits: &Limits,
-    plant: Plant,
+    plant: Plant<MemDisk>,
     clock: &mut MemClock,
     link: &mut MemLink,
     recorder: &mut MemRecorder,
 ) -> Option<End>
     requires limits { AreLimits limits.now }
-    requires same { plant.frame.limits ≡ limits.now }
+    requires same { plant.memory.frame.limits ≡ limits.now }
 {
     if plant.next_by() != 1 {
         return None;
@@ -83,7 +86,7 @@ fn serve<R: Wait>(
 {
     match read_schema(alloc, BUILT_IN) {
         Ok(schema) => {
-            let plant = Plant::begin(alloc, schema, TODAY, limits)?;
+            let plant = new_plant(alloc, schema, TODAY, limits)?;
             Ok(serve_over(rt, alloc, limits, plant, clock, link, recorder))
         }
         Err(_) => Ok(None),

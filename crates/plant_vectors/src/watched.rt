@@ -4,9 +4,11 @@ ghost use Rattle.q_values.specs.Limits.{AreLimits};
 
 use crate::sitting::TODAY;
 use day_rows::Schema;
+use mem_plant::new_plant;
 use outside_api::{Gate, Got, Link, LinkFault, Point, Recorder};
-use outside_mem::{MemClock, MemLink, MemRecorder};
-use plant_core::{Access, Plant, Snapshot, Solo, TickTurn, UpdRequest, UpdTurn};
+use outside_mem::{MemClock, MemDisk, MemLink, MemRecorder};
+use plant_core::{Access, Plant, Solo, TickTurn, UpdTurn};
+use plant_memory::{Snapshot, UpdRequest};
 use q_values::{Limits, NoMemory, Turn};
 use schema_text::{BUILT_IN, read_schema};
 use session::serve_session;
@@ -134,7 +136,7 @@ impl Recorder for WatchedRecorder {
 #[derive(Drop)]
 struct WatchedAccess {
     calls: Calls,
-    solo: Solo,
+    solo: Solo<MemDisk>,
 }
 
 impl Access for WatchedAccess {
@@ -173,12 +175,12 @@ fn watch<R: Wait>(
     rt: &R,
     alloc: Global,
     limits: &Limits,
-    plant: Plant,
+    plant: Plant<MemDisk>,
     link: MemLink,
     clock: &mut MemClock,
 ) -> Result<Option<u64>, NoMemory>
     requires limits { AreLimits limits.now }
-    requires same { plant.frame.limits ≡ limits.now }
+    requires same { plant.memory.frame.limits ≡ limits.now }
 {
     if plant.next_by() != 1 {
         return Ok(None);
@@ -226,7 +228,7 @@ pub fn calls_of<R: Wait>(
     limits.idle = 3;
     match read_schema(alloc, BUILT_IN) {
         Ok(schema) => {
-            let plant = Plant::begin(alloc, schema, TODAY, &limits)?;
+            let plant = new_plant(alloc, schema, TODAY, &limits)?;
             watch(rt, alloc, &limits, plant, link, clock)
         }
         Err(_) => Ok(None),

@@ -4,7 +4,7 @@ use Rattle.std.proofs.lemmas.List.{append-nil}
 use Rattle.outside_api.specs.Link.{LinkView}
 use Rattle.outside_api.specs.Told.{Tells}
 use Rattle.plant_core.specs.Access.{AccessView}
-use Rattle.plant_core.specs.Frame.{Frame}
+use Rattle.plant_memory.specs.Frame.{Frame}
 use Rattle.ipc_frame.specs.Stream.{Message, built, unbuilt, moved, IsFrame, IsGreeting, whole, front_of}
 use Rattle.ipc_frame.specs.View.{FramerView, told_place}
 use Rattle.q_values.specs.Tree.{Tree, wrong}

@@ -6,7 +6,7 @@ use Rattle.std.proofs.lemmas.List.Sums.{sum_by-append}
 use Rattle.day_rows.specs.declared.entry.Entry.{Entry}
 use Rattle.ipc_frame.specs.Stream.{Content, built, unbuilt}
 use Rattle.plant_core.specs.Access.{AccessView}
-use Rattle.plant_core.specs.Frame.{Frame}
+use Rattle.plant_memory.specs.Frame.{Frame}
 use Rattle.q_values.specs.declared.limits.Limits.{Limits}
 use Rattle.q_values.specs.declared.turn.Turn.{Turn}
 use Rattle.session.specs.Chronicle.{IsFront}

@@ -3,10 +3,10 @@ use Rattle.std.proofs.Common.{◌≡◌, ◌+◌, ℕ, ℤ, List, [], ◌∷◌,
 use Rattle.std.proofs.lemmas.List.{length-append}
 use Rattle.day_rows.specs.declared.entry.Entry.{Entry}
 use Rattle.day_rows.specs.declared.entry.Entry.TheVariants as e
-use Rattle.plant_core.specs.Frame.{Frame}
-use Rattle.plant_core.specs.Plant.{roll_place}
-use Rattle.plant_core.specs.Verdict.{accepts, verdict}
-use Rattle.plant_core.proofs.MadeLemmas.{IsMade, verdict_made}
+use Rattle.plant_memory.specs.Frame.{Frame}
+use Rattle.plant_core.specs.Adds.{roll_place}
+use Rattle.plant_memory.specs.Verdict.{accepts, verdict}
+use Rattle.plant_memory.proofs.MadeLemmas.{IsMade, verdict_made}
 use Rattle.q_values.specs.Tree.{Tree}
 
 -- an update, and a roll before it where there is one, stand from a place on

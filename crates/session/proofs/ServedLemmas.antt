@@ -6,12 +6,12 @@ use Rattle.day_rows.specs.declared.entry.Entry.TheVariants as e
 use Rattle.outside_api.specs.Told.{told}
 use Rattle.day_rows.specs.declared.schema.Shape.{Shape}
 use Rattle.plant_core.specs.Access.{AccessView, SeesMore, Logs, Looks, Fails, Asks, Waits, Rolls, FailsRoll, Wants, next_count}
-use Rattle.plant_core.specs.Plant.{SnapshotView, next_roll}
-use Rattle.plant_core.specs.Turns.{IsRefusal}
-use Rattle.plant_core.specs.Frame.{Frame}
-use Rattle.plant_core.specs.Verdict.{Verdict, refuses, verdict}
-use Rattle.plant_core.specs.declared.refusal.UpdRefusal.{UpdRefusal}
-use Rattle.plant_core.specs.declared.refusal.UpdRefusal.TheVariants as r
+use Rattle.plant_memory.specs.Memory.{SnapshotView, next_roll}
+use Rattle.plant_memory.specs.Turns.{IsRefusal}
+use Rattle.plant_memory.specs.Frame.{Frame}
+use Rattle.plant_memory.specs.Verdict.{Verdict, refuses, verdict}
+use Rattle.plant_memory.specs.declared.refusal.UpdRefusal.{UpdRefusal}
+use Rattle.plant_memory.specs.declared.refusal.UpdRefusal.TheVariants as r
 use Rattle.q_values.specs.Tree.{Tree, identity, wrong}
 use Rattle.gateway.specs.Answer.{Subscribes, is_subscription, verdict_answer}
 use Rattle.qsql_parse.specs.Verdicts.{IsVerdict}

@@ -3,8 +3,8 @@ use Rattle.std.specs.Prelude.{◌≡◌, ◌⊎◌, ℕ, ℤ, Bool, List, [], �
 use Rattle.day_rows.specs.declared.entry.Entry.{Entry}
 use Rattle.outside_api.specs.Told.{told}
 use Rattle.plant_core.specs.Access.{AccessView}
-use Rattle.plant_core.specs.Frame.{Frame}
-use Rattle.plant_core.specs.declared.refusal.UpdRefusal.{UpdRefusal}
+use Rattle.plant_memory.specs.Frame.{Frame}
+use Rattle.plant_memory.specs.declared.refusal.UpdRefusal.{UpdRefusal}
 use Rattle.q_values.specs.Tree.{wrong}
 use Rattle.q_values.specs.declared.limits.Limits.{Limits}
 use Rattle.q_values.specs.declared.turn.Turn.{Turn}

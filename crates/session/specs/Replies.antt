@@ -1,7 +1,7 @@
 -- The responses of the code.
 use Rattle.std.specs.Prelude.{◌≡◌, ℕ, nat_lt, if◌then◌else◌, List, length, codes}
-use Rattle.plant_core.specs.declared.refusal.UpdRefusal.{UpdRefusal}
-use Rattle.plant_core.specs.declared.refusal.UpdRefusal.TheVariants as r
+use Rattle.plant_memory.specs.declared.refusal.UpdRefusal.{UpdRefusal}
+use Rattle.plant_memory.specs.declared.refusal.UpdRefusal.TheVariants as r
 use Rattle.q_values.specs.Tree.{wrong}
 use Rattle.q_values.specs.declared.limits.Limits.{Limits}
 use Rattle.session.specs.Reply.{response, reply}

@@ -2,8 +2,8 @@
 use Rattle.std.specs.Prelude.{ℕ, ◌+◌, Bool, nat_lt, if◌then◌else◌, List, [], ◌∷◌, ◌++◌, length, codes}
 use Rattle.std.specs.Int.{w32, to_le_bytes}
 use Rattle.ipc_codec.specs.Written.{written}
-use Rattle.plant_core.specs.declared.refusal.UpdRefusal.{UpdRefusal}
-use Rattle.plant_core.specs.declared.refusal.UpdRefusal.TheVariants as r
+use Rattle.plant_memory.specs.declared.refusal.UpdRefusal.{UpdRefusal}
+use Rattle.plant_memory.specs.declared.refusal.UpdRefusal.TheVariants as r
 use Rattle.q_values.specs.Tree.{Tree, wrong}
 use Rattle.q_values.specs.declared.limits.Limits.{Limits}
 

@@ -5,10 +5,10 @@ use Rattle.day_rows.specs.declared.entry.Entry.{Entry}
 use Rattle.day_rows.specs.declared.entry.Entry.TheVariants as e
 use Rattle.gateway.specs.Answer.{IsAnswer, Subscribes}
 use Rattle.ipc_frame.specs.Stream.{Content, Message, built, unbuilt}
-use Rattle.plant_core.specs.Frame.{Frame}
-use Rattle.plant_core.specs.Plant.{next_roll}
-use Rattle.plant_core.specs.Verdict.{accepts, refuses, verdict, is_next_day}
-use Rattle.plant_core.specs.declared.refusal.UpdRefusal.{UpdRefusal}
+use Rattle.plant_memory.specs.Frame.{Frame}
+use Rattle.plant_memory.specs.Memory.{next_roll}
+use Rattle.plant_memory.specs.Verdict.{accepts, refuses, verdict, is_next_day}
+use Rattle.plant_memory.specs.declared.refusal.UpdRefusal.{UpdRefusal}
 use Rattle.q_values.specs.Tree.{Tree, identity, wrong}
 use Rattle.q_values.specs.declared.turn.Turn.{Turn}
 use Rattle.q_values.specs.declared.turn.Turn.TheVariants as t

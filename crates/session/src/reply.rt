@@ -9,7 +9,7 @@ ghost use Rattle.q_values.specs.Bytes.{HasNoNul};
 ghost use Rattle.session.specs.Replies.{reply_bytes, fixed_reply, Refuses, NeedsMemory};
 
 use ipc_codec::{encode, encoded_length};
-use plant_core::UpdRefusal;
+use plant_memory::UpdRefusal;
 use q_values::{Limits, NoMemory, Text, Value};
 use std::alloc::Global;
 

@@ -5,7 +5,7 @@ ghost use Rattle.session.specs.Asked.{Asks, AreCharacters, AreParts};
 ghost use Rattle.session.specs.Request.{parts_request, vector_request, atom_request, request_of, character_of};
 ghost use Rattle.session.specs.Request.{call_of, update_of, function_of, symbol_of, items_in, is_upd};
 
-use plant_core::UpdRequest;
+use plant_memory::UpdRequest;
 use q_values::{Atom, ByteKind, Column, NoMemory, Sym, Symbols, Text, Value, Values, Vector};
 use std::alloc::Global;
 

@@ -1,5 +1,5 @@
 use Rattle.std.proofs.Common.{rules, ◌≡◌, arith, ap, ◌∙◌, ◌-◌, ℕ, w32, to_z, of_z}
-use Rattle.plant_core.specs.Chronicle.{date_at}
+use Rattle.plant_memory.specs.Chronicle.{date_at}
 use Rattle.gateway.proofs.ColumnLemmas.{some_dates, open_date}
 use Rattle.gateway.proofs.answering.open_date.Goals as goal
 

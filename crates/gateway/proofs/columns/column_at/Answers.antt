@@ -1,4 +1,4 @@
-use Rattle.plant_core.specs.Chronicle.{rows_at}
+use Rattle.plant_memory.specs.Chronicle.{rows_at}
 use Rattle.gateway.proofs.ColumnLemmas.{part_is}
 use Rattle.gateway.proofs.columns.column_at.Goals as goal
 

@@ -1,5 +1,5 @@
 use Rattle.std.proofs.Common.{rules, ◌≡◌, ◌<◌, arith, ◌∙◌, length, w32, to_z, of_z}
-use Rattle.plant_core.specs.Chronicle.{dates_of}
+use Rattle.plant_memory.specs.Chronicle.{dates_of}
 use Rattle.qsql_request.specs.Views.{query_of}
 use Rattle.gateway.proofs.KeptLemmas.{kept_next, kept_all, within_next}
 use Rattle.gateway.proofs.dates.kept_dates.Goals as goal

@@ -1,6 +1,6 @@
 use Rattle.std.proofs.Common.{◌≡◌}
 use Rattle.std.specs.List.{filter, range_with_len}
-use Rattle.plant_core.specs.Chronicle.{date_at}
+use Rattle.plant_memory.specs.Chronicle.{date_at}
 use Rattle.qsql_dates.specs.Dates.{keeps}
 use Rattle.qsql_request.specs.Views.{query_of}
 use Rattle.gateway.specs.DateRows.{AreDates}

@@ -1,5 +1,0 @@
-use Rattle.std.proofs.Common.{◌≡◌, take}
-use Rattle.plant_core.proofs.history.shared.Given as goal
-
-abbrev pub invariant-loop-day : goal.invariant-loop-day
-invariant-loop-day l = l.dates.items ≡ take l.day-index l.ended

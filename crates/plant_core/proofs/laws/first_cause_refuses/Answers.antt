@@ -1,5 +1,0 @@
-use Rattle.plant_core.proofs.CauseLemmas.{first_cause-refuses}
-use Rattle.plant_core.proofs.laws.first_cause_refuses.Goals as goal
-
-pub returns : goal.returns
-returns c = first_cause-refuses

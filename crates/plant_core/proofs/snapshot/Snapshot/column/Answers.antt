@@ -1,4 +1,0 @@
-use Rattle.plant_core.proofs.snapshot.Snapshot.column.Goals as goal
-
-pub returns : goal.returns
-returns c = rw (← c.self.view_is, ← c.self.invariant.kinds_are) c.column.ensures

@@ -1,0 +1,21 @@
+//! What holds of a plant that was closed and is loaded again.
+//!
+//! ```text
+//! let disk = plant.close();                                     // `IsSound`: what a restart finds of the disk
+//! let plant = Plant::load(alloc, disk, schema, date, &limits)?;    // `IsLoaded`: what the load makes of it
+//! found_again();                                                // so this is the former log
+//! ```
+//!
+//! The calls are `plant_core`'s. This crate joins their contracts; it has no code.
+#![tactic(auto)]
+
+ghost use Rattle.plant_laws.specs.Laws.{FoundAgain};
+
+/// A plant that was closed and is loaded again has the log of its former chronicle, or, only where a commit failed and
+/// isn't repaired, that with the one entry of this commit at its end; and then one roll by pass 0 where the new date is
+/// later.
+pub fn found_again()
+    ensures { FoundAgain }
+{
+    date_logs::files_restart_once();
+}

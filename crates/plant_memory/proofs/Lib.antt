@@ -1,0 +1,9 @@
+pub mod CauseLemmas
+pub mod FaultLemmas
+pub mod HistoryLemmas
+pub mod ItemsLemmas
+pub mod JudgeLemmas
+pub mod LawLemmas
+pub mod MadeLemmas
+pub mod MemoryLemmas
+pub mod ShownLemmas

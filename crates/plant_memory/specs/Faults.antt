@@ -1,0 +1,21 @@
+-- The faults of one date, between its updates.
+use Rattle.std.specs.Prelude.{ℕ, ◌+◌, Bool, List, [], ◌∷◌, ◌++◌, take, drop}
+use Rattle.day_rows.specs.declared.entry.Entry.{Entry}
+use Rattle.day_rows.specs.declared.entry.Entry.TheVariants as e
+use Rattle.plant_memory.specs.declared.faults.Mark.{Mark}
+
+-- the entries of a date: its updates, and its faults, each after as many updates as its gap says
+abbrev pub woven : List Mark → List Entry → List Entry
+woven [] updates = updates
+woven (mark ∷ marks) updates = take mark.gap updates ++ e.Fault mark.by ∷ woven marks (drop mark.gap updates)
+
+-- the number of updates before the last fault
+abbrev pub covered : List Mark → ℕ
+covered [] = 0
+covered (mark ∷ marks) = mark.gap + covered marks
+
+-- the faults of a date, the number of updates after the last one, and whether there is room for one more fault
+pub record FaultsView : Type 0 where
+  pub marks : List Mark
+  pub since : ℕ
+  pub spare : Bool

@@ -1,0 +1,11 @@
+pub mod Causes
+pub mod Chronicle
+pub mod Faults
+pub mod Frame
+pub mod History
+pub mod Items
+pub mod Laws
+pub mod Limit
+pub mod Memory
+pub mod Turns
+pub mod Verdict
