@@ -6,8 +6,10 @@
 //! [`Held::give`] puts the state back and counts the entries that were added. [`PlantLock::note`] and
 //! [`PlantLock::learn`] carry what one pass has seen to another, and [`PlantLock::pass`] draws a new number.
 //!
-//! The order of the holders is that of their tickets. No call but [`PlantLock::new`] takes memory. Nothing is claimed
-//! of waiting, of fairness or of freedom from deadlock.
+//! The order of the holders is that of their tickets. A taker draws a ticket where it is served at once; until then it
+//! waits without one, and after two sleeps it draws the next and keeps its place. A give wakes one thread: whoever has the
+//! next ticket, or one of those without. No call but [`PlantLock::new`] takes memory. No contract claims anything of
+//! waiting, of fairness or of freedom from deadlock.
 #![tactic(auto)]
 
 mod board;
@@ -16,6 +18,7 @@ mod held;
 mod lock;
 mod pass;
 mod plays;
+mod sleepers;
 mod steps;
 mod view;
 

@@ -1,5 +1,5 @@
 //! The lock.
-ghost use Rattle.std.specs.Prelude.{◌≡◌, ◌-◌, ◌<◌, ◌^◌, max, [], ◌∷◌, All, Some, IfOk, IfErr};
+ghost use Rattle.std.specs.Prelude.{◌≡◌, ◌-◌, ◌+◌, ◌<◌, ◌^◌, max, [], ◌∷◌, All, Some, IfOk, IfErr};
 ghost use mathlib.Core.List.{IsPrefix};
 ghost use Rattle.plant_lock.specs.Entries.{own, longer};
 
@@ -8,13 +8,13 @@ use crate::chronicle::Chronicle;
 use crate::held::Held;
 use crate::pass::{Note, Pass};
 use crate::plays::Daughter;
+use crate::sleepers::Sleepers;
 use crate::steps::{draw_number, learn_seat, queue, take_state};
 use atomic_table::{Refused, Table};
 use std::alloc::{AllocFailed, Global};
 use std::marker::Model;
 use std::snapshot::Snapshot;
 use std::sync::Wait;
-use std::sync::atomic::AtomicU64;
 
 /// A pass of a lock round `S`.
 pub type PassOf<S> = Pass<<S as Chronicle>::Entry>;
@@ -29,8 +29,8 @@ pub type NoteOf<S> = Note<<S as Chronicle>::Entry>;
 #[derive(Drop)]
 pub struct PlantLock<S: Chronicle> {
     pub(crate) table: Board<S>,
-    /// How many sleep until their ticket is served.
-    pub(crate) sleepers: AtomicU64,
+    /// The threads that sleep until they may take the state.
+    pub(crate) sleepers: Sleepers,
 }
 
 impl<S: Chronicle> Model for PlantLock<S> {
@@ -114,7 +114,7 @@ impl<S: Chronicle> PlantLock<S> {
         );
         match made {
             Ok((table, seat)) => {
-                let sleepers = AtomicU64::new(0);
+                let sleepers = Sleepers::none();
                 Ok((PlantLock { table, sleepers }, Pass::of_seat(seat, first)))
             }
             Err(Refused { slots }) => Err(NewFailure {
@@ -130,6 +130,7 @@ impl<S: Chronicle> PlantLock<S> {
         ensures mother { result.0 ≡ record mother { latest = result.1.number } }
         ensures daughter { result.1 ≡ record mother { number = result.1.number; latest = result.1.number; mine = [] } }
         ensures differ { (mother.number < result.1.number) × (mother.latest < result.1.number) }
+        ensures few { result.1.number + 1 < 2 ^ 64 }
         ensures undrawn { All (λ e. S.by e < result.1.number) mother.seen }
         ensures own { own S.by result.1.number result.1.seen ≡ result.1.mine }
     {

@@ -1,5 +1,5 @@
 //! The steps of the lock on its table, each over the seat of one pass.
-ghost use Rattle.std.specs.Prelude.{◌≡◌, ◌<◌, ◌++◌, [], ◌∷◌, length, max, true, false, drop, All, Some, None};
+ghost use Rattle.std.specs.Prelude.{◌≡◌, ◌<◌, ◌+◌, ◌^◌, ◌++◌, [], ◌∷◌, length, max, true, false, drop, All, Some, None};
 ghost use mathlib.Core.List.{IsPrefix};
 ghost use Rattle.plant_lock.specs.Entries.{own, IsExtendedBy, longer};
 ghost use Rattle.plant_lock.specs.Law.{turned};
@@ -9,54 +9,58 @@ ghost use Rattle.plant_lock.specs.declared.view.Stage.TheVariants.{Idle, Waits, 
 use crate::board::{ENTRIES, NUMBERS, Place, SERVING, TICKETS, Top};
 use crate::chronicle::Chronicle;
 use crate::plays::{Count, Framed, Learn, Look, Number, Serve, Settle, Take, Ticket};
+use crate::sleepers::Sleepers;
 use std::hint;
 use std::marker::Brand;
 use std::sync::Wait;
-use std::sync::atomic::AtomicU64;
-use std::sync::atomic::Ordering::SeqCst;
 
 // How often a seat looks before it sleeps.
-const LOOKS: u32 = 128;
+const LOOKS: u32 = 8;
 
-// Draws the next ticket.
-fn draw_ticket<S: Chronicle, R: Wait>(rt: &R, top: &Top<S>, seat: &mut Place<S>) -> u64
+// How often a seat sleeps before it draws a ticket that isn't served at once.
+const SLEEPS: u32 = 2;
+
+// Draws the next ticket. It waits until that ticket would be served at once, but not for ever: others may come first each
+// time, and a seat with a ticket can't be passed over.
+fn draw_ticket<S: Chronicle, R: Wait>(
+    rt: &R,
+    top: &Top<S>,
+    sleepers: &Sleepers,
+    seat: &mut Place<S>,
+) -> u64
     requires table { (seat.old.table_id ≡ top.now.table_id) × IsSized top.now.table_id }
     requires idle { seat.old.me.0.stage ≡ Idle }
     ensures same { IsSameSeat seat.old seat.new }
     ensures waits { seat.new.me ≡ (record seat.old.me.0 { stage = Waits result }, seat.old.me.1) }
 {
+    let mut looks: u32 = 0;
     for _ in rt.forever() {
         let next = top.peek(TICKETS);
-        if next < u64::MAX {
+        let slept = looks / LOOKS;
+        if next < u64::MAX && (slept >= SLEEPS || top.peek(SERVING) == next) {
             let found = top.compare_exchange::<Ticket>(seat, TICKETS, next, next + 1);
             if found == next {
+                if slept > 0 {
+                    sleepers.expect_more();
+                }
                 return next;
             }
         }
-        hint::spin_loop();
+        looks = looks.saturating_add(1);
+        if looks % LOOKS == 0 {
+            sleepers.sleep_while_held(rt, top);
+        } else {
+            hint::spin_loop();
+        }
     }
     unreachable!()
-}
-
-// Looks again at once, or sleeps until another ticket is served than the one that was found. It counts itself among the
-// sleepers first: who serves the next ticket later finds the count, and whoever served one before has changed the word.
-fn pause<S: Chronicle, R: Wait>(rt: &R, top: &Top<S>, sleepers: &AtomicU64, found: u64, looks: u32)
-    requires { IsSized top.now.table_id }
-{
-    if looks < LOOKS {
-        hint::spin_loop();
-    } else {
-        sleepers.fetch_add(1, SeqCst);
-        top.park(rt, SERVING, (found % 4294967296) as u32);
-        sleepers.fetch_sub(1, SeqCst);
-    }
 }
 
 // Waits until its ticket is served.
 fn wait_turn<S: Chronicle, R: Wait>(
     rt: &R,
     top: &Top<S>,
-    sleepers: &AtomicU64,
+    sleepers: &Sleepers,
     seat: &mut Place<S>,
     ticket: u64,
 )
@@ -72,7 +76,11 @@ fn wait_turn<S: Chronicle, R: Wait>(
             return;
         }
         looks = looks.saturating_add(1);
-        pause(rt, top, sleepers, found, looks);
+        if looks < LOOKS {
+            hint::spin_loop();
+        } else {
+            sleepers.sleep_until_served(rt, top, ticket);
+        }
     }
     unreachable!()
 }
@@ -81,7 +89,7 @@ fn wait_turn<S: Chronicle, R: Wait>(
 pub(crate) fn queue<S: Chronicle, R: Wait>(
     rt: &R,
     top: &Top<S>,
-    sleepers: &AtomicU64,
+    sleepers: &Sleepers,
     seat: &mut Place<S>,
 )
     requires table { (seat.old.table_id ≡ top.now.table_id) × IsSized top.now.table_id }
@@ -89,7 +97,7 @@ pub(crate) fn queue<S: Chronicle, R: Wait>(
     ensures same { IsSameSeat seat.old seat.new × (seat.new.me.1 ≡ seat.old.me.1) }
     ensures turned { turned S.by seat.old.me.0 seat.new.me.0 }
 {
-    let ticket = draw_ticket(rt, top, seat);
+    let ticket = draw_ticket(rt, top, sleepers, seat);
     wait_turn(rt, top, sleepers, seat, ticket);
 }
 
@@ -138,24 +146,22 @@ fn put_state<S: Chronicle>(top: &Top<S>, seat: &mut Place<S>, state: S)
     }
 }
 
-// Serves the next ticket, and wakes those who sleep. They sleep on one word, and it isn't known who has that ticket.
-fn serve_next<S: Chronicle>(top: &Top<S>, sleepers: &AtomicU64, seat: &mut Place<S>)
+// Serves the next ticket, and wakes the one thread that may take the state, if it sleeps.
+fn serve_next<S: Chronicle>(top: &Top<S>, sleepers: &Sleepers, seat: &mut Place<S>)
     requires table { (seat.old.table_id ≡ top.now.table_id) × IsSized top.now.table_id }
     requires holds { (x : S) × (seat.old.me.0.stage ≡ Holds) × (seat.old.me.1 ≡ (0, Some x) ∷ [])
         × (S.entries x ≡ seat.old.me.0.seen) × (S.frame x ≡ S.frame top.now.key.state.value) }
     ensures same { IsSameSeat seat.old seat.new }
     ensures served { seat.new.me ≡ (record seat.old.me.0 { stage = Idle }, []) }
 {
-    top.fetch_add::<Serve>(seat, SERVING, 1);
-    if sleepers.load(SeqCst) != 0 {
-        top.wake_all(SERVING);
-    }
+    let served = top.fetch_add::<Serve>(seat, SERVING, 1);
+    sleepers.wake_next(top, served.wrapping_add(1));
 }
 
 /// Puts the state back, counts the entries that were added, and serves the next ticket.
 pub(crate) fn give_state<S: Chronicle>(
     top: &Top<S>,
-    sleepers: &AtomicU64,
+    sleepers: &Sleepers,
     seat: &mut Place<S>,
     state: S,
     taken: u64,
@@ -183,6 +189,7 @@ pub(crate) fn draw_number<S: Chronicle, R: Wait>(rt: &R, top: &Top<S>, seat: &mu
     ensures same { IsSameSeat seat.old seat.new }
     ensures drawn { seat.new.me ≡ (record seat.old.me.0 { drawn = true; number = result; latest = result }, seat.old.me.1) }
     ensures above { seat.old.me.0.latest < result }
+    ensures few { result + 1 < 2 ^ 64 }
     ensures undrawn { All (λ e. S.by e < result) seat.old.me.0.seen }
 {
     for _ in rt.forever() {
