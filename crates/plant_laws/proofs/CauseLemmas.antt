@@ -148,7 +148,7 @@ module _ (restart : RestartsOnce) (one : OneManifest) (first-difference : OneDif
       by-log : IsDamagedAt disk schema date day chunks at → ⊥
       by-log bad =
           let split : map m.Shape schema ++ (map opening bad.before ++ m.Opened bad.by day ∷ bad.rest) ≡ map m.Shape schema ++ map opening restarts.dates =
-              sym (append_assoc (map m.Shape schema) (map opening bad.before) (m.Opened bad.by day ∷ bad.rest)) ∙ sym bad.split ∙ is-own bad.records bad.has in
+          sym (append_assoc (map m.Shape schema) (map opening bad.before) (m.Opened bad.by day ∷ bad.rest)) ∙ sym bad.split ∙ is-own bad.records bad.has in
           let found = log-of schema (files_of disk) bad.before restarts.dates bad.by day bad.rest restarts.logs (same-back schema (map opening bad.before ++ m.Opened bad.by day ∷ bad.rest) (map opening restarts.dates) split) in
           never schema (disk.now (log_file day)).bytes found.0 chunks at lawful found.1 bad.damaged
 
@@ -227,8 +227,8 @@ module _ (restart : RestartsOnce) (one : OneManifest) (first-difference : OneDif
     corrupt-corrupt : (day day' : ℤ) (chunks at chunks' at' : ℕ) → IsDamagedAt disk schema date day chunks at → IsDamagedAt disk schema date day' chunks' at' → day ≡ day'
     corrupt-corrupt day day' chunks at chunks' at' h i =
         let split : map m.Shape schema ++ (map opening h.before ++ m.Opened h.by day ∷ h.rest) ≡ map m.Shape schema ++ (map opening i.before ++ m.Opened i.by day' ∷ i.rest) =
-            sym (append_assoc (map m.Shape schema) (map opening h.before) (m.Opened h.by day ∷ h.rest)) ∙ sym h.split ∙ one (disk.now 0).bytes h.records i.records h.has i.has ∙ i.split
-            ∙ append_assoc (map m.Shape schema) (map opening i.before) (m.Opened i.by day' ∷ i.rest) in
+        sym (append_assoc (map m.Shape schema) (map opening h.before) (m.Opened h.by day ∷ h.rest)) ∙ sym h.split ∙ one (disk.now 0).bytes h.records i.records h.has i.has ∙ i.split
+        ∙ append_assoc (map m.Shape schema) (map opening i.before) (m.Opened i.by day' ∷ i.rest) in
         first-damaged schema (files_of disk) (λ d updates holds c a. never schema (disk.now (log_file d)).bytes updates c a lawful holds) h.before i.before h.by i.by day day' h.rest i.rest chunks at chunks' at' h.whole i.whole h.damaged i.damaged
         (same-back schema (map opening h.before ++ m.Opened h.by day ∷ h.rest) (map opening i.before ++ m.Opened i.by day' ∷ i.rest) split)
 
