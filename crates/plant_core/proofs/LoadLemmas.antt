@@ -1,5 +1,5 @@
 -- What the steps of a load leave.
-use Rattle.std.proofs.Common.{Bool, IsTrue, List, None, Option, Some, [], ap, append_assoc, arith, cond, drop, false, length, map, negsuc, pos, refl, subst, suc, sym, take, true, zero, ℕ, ℤ, ◌++◌, ◌+◌, ◌-◌, ◌<ℤ◌, ◌<◌, ◌^◌, ◌∙◌, ◌∷◌, ◌≡◌, ◌≤ℤ◌}
+use Rattle.std.proofs.Common.{leb→le, Bool, IsTrue, lit<, List, None, Option, Some, [], ap, append_assoc, arith, cond, drop, false, length, map, negsuc, pos, refl, subst, suc, sym, take, true, zero, ℕ, ℤ, ◌++◌, ◌+◌, ◌-◌, ◌<ℤ◌, ◌<◌, ◌^◌, ◌∙◌, ◌∷◌, ◌≡◌, ◌≤ℤ◌}
 use Rattle.std.specs.Prelude.{slice_get, int_lt, unwrap_or, Result, Ok, Err, IfOk, IfErr}
 use Rattle.gated_journal.specs.Journal.{JournalView}
 use Rattle.std.specs.List.{AllByRecursion}
@@ -28,17 +28,17 @@ use Rattle.partition_set.specs.Manifest.{ManifestView, Keeps}
 use Rattle.gated_journal.specs.Journal.{HasLastGate}
 use Rattle.gated_journal.specs.declared.state.State.TheVariants as s
 use Rattle.plant_core.proofs.ManifestLemmas.{first-opens}
-use Rattle.std.specs.Int.Signed.{<ℤ_irrefl, lt_z_yes}
-use Rattle.std.proofs.lemmas.Float.{T_from_true}
+use Rattle.std.specs.Int.Signed.{<ℤ_irrefl, lt_z_yes, lt_z_no, ≤ℤ_refl}
+use Rattle.std.proofs.lemmas.Float.{T_from_true, T_from_false}
 use Rattle.date_loading.specs.declared.refusal.LoadRefusal.{LoadRefusal}
 use Rattle.date_loading.specs.declared.refusal.LoadRefusal.TheVariants as l
 use Rattle.plant_memory.specs.Chronicle.{top_by}
 use Rattle.plant_memory.specs.Memory.{MemoryView}
 use Rattle.plant_memory.proofs.HistoryLemmas.{top_by-push}
 use Rattle.std.specs.Prelude.{max}
-use Rattle.plant_core.specs.Load.{files_of, roll_to, IsLoaded, IsDamagedAt, IsSpent, LoadRefuses}
+use Rattle.plant_core.specs.Load.{files_of, roll_to, IsLoaded, IsDamagedAt, IsSpent, LoadRefuses, LeavesFiles}
 use Rattle.plant_core.specs.Plant.{StoresLog, fault_count, IsOpenDate, IsPlant}
-use Rattle.plant_core.specs.Progress.{HasRead, IsLoading, plant_of, IsWhole, IsFree}
+use Rattle.plant_core.specs.Progress.{IsSame, HasRead, IsLoading, plant_of, IsWhole, IsFree}
 use Rattle.plant_core.proofs.LogLemmas.{date-roll, ascend-roll, faults-roll}
 use Rattle.plant_core.proofs.PlantLemmas.{still, still-stores, roll-plant, roll-stored, next-date}
 use Rattle.std.specs.Cmp.{int_cmp_is}
@@ -97,6 +97,52 @@ entries-next d ds x =
     ∙ sym (append_assoc d.updates (rolled ds) (rolled (x ∷ [])))
     ∙ ap (λ l. (d.updates ++ rolled ds) ++ e.Roll x.by x.date ∷ l) (append-nil x.updates)
     ∙ sym (append_assoc (d.updates ++ rolled ds) (e.Roll x.by x.date ∷ []) x.updates)
+
+-- ---- the files
+
+-- what one call leaves as it was, the load leaves
+pub reads-on : (origin disk disk' : DiskView) → IsSame origin disk → ReadsAsBefore disk disk' → ReadsAsBefore origin disk'
+reads-on origin disk disk' same bytes = λ told k. bytes (subst IsTrue (sym same.tells) told) k ∙ same.bytes told k
+
+pub leaves-any : (old new : DiskView) (why : LoadRefusal) → ReadsAsBefore old new → LeavesFiles old new why
+leaves-any old new (l.BadManifest bytes) same = same
+leaves-any old new (l.SchemaDiffers table kept given) same = same
+leaves-any old new (l.EarlierDate kept) same = same
+leaves-any old new (l.CorruptLog day chunks bytes) same = same
+leaves-any old new l.DiskFault same = tt
+leaves-any old new l.NumbersSpent same = same
+leaves-any old new l.NoMemory same = same
+
+leaves-on : (origin disk disk' : DiskView) (why : LoadRefusal) → IsSame origin disk → LeavesFiles disk disk' why → LeavesFiles origin disk' why
+leaves-on origin disk disk' (l.BadManifest bytes) same h = reads-on origin disk disk' same h
+leaves-on origin disk disk' (l.SchemaDiffers table kept given) same h = reads-on origin disk disk' same h
+leaves-on origin disk disk' (l.EarlierDate kept) same h = reads-on origin disk disk' same h
+leaves-on origin disk disk' (l.CorruptLog day chunks bytes) same h = reads-on origin disk disk' same h
+leaves-on origin disk disk' l.DiskFault same h = tt
+leaves-on origin disk disk' l.NumbersSpent same h = reads-on origin disk disk' same h
+leaves-on origin disk disk' l.NoMemory same h = reads-on origin disk disk' same h
+
+pub all-leave : {T : Type 0} (r : Result T LoadRefusal) (origin disk disk' : DiskView) → IsSame origin disk → IfErr r (LeavesFiles disk disk') → IfErr r (LeavesFiles origin disk')
+all-leave (Ok x) origin disk disk' same h = tt
+all-leave (Err why) origin disk disk' same h = leaves-on origin disk disk' why same h
+
+-- ---- the date
+
+le-both : (a b : ℤ) → a ≤ℤ b → b ≤ℤ a → a ≡ b
+le-both (pos m) (pos n) h i = let same : m ≡ n = omega (arith, leb→le m n h.le, leb→le n m i.le) in ap pos same
+le-both (pos m) (negsuc n) h i = absurd h.le
+le-both (negsuc m) (pos n) h i = absurd i.le
+le-both (negsuc m) (negsuc n) h i = let same : m ≡ n = omega (arith, leb→le n m h.le, leb→le m n i.le) in ap negsuc same
+
+date-if : (rolls : Bool) (first : ℤ) (es : List Entry) (date : ℤ) → int_lt (date_of first es) date ≡ rolls → date_of first es ≤ℤ date → date_of first (es ++ cond rolls (e.Roll 0 date ∷ []) []) ≡ date
+date-if true first es date is not_after = date-roll first es 0 date
+date-if false first es date is not_after =
+    let reached : date ≤ℤ date_of first es = lt_z_no (T_from_false (int_lt (date_of first es) date) is) in
+    ap (date_of first) (append-nil es) ∙ le-both (date_of first es) date not_after reached
+
+-- the roll of a load, if there is one, opens this date
+date-rolled : (first : ℤ) (es : List Entry) (date : ℤ) → date_of first es ≤ℤ date → date_of first (es ++ roll_to (date_of first es) date) ≡ date
+date-rolled first es date not_after = date-if (int_lt (date_of first es) date) first es date refl not_after
 
 -- ---- one date more
 
@@ -239,6 +285,14 @@ module _ (origin disk : DiskView) (date : ℤ) (loading : LoadingView) (memory :
         stored = stored;
       }
 
+  -- no later date was opened
+  pub not-after : date_of memory.frame.first memory.entries ≤ℤ date
+  not-after = subst (λ o. IsNotAfter o date) (sym (ap last_date (whole-take loading.manifest.records loading.next all)) ∙ h.last) h.read.not_after
+
+  -- so the roll, if there is one, opens this date
+  pub opened-of : (memory' : MemoryView) → memory'.frame ≡ memory.frame → memory'.entries ≡ memory.entries ++ roll_to (date_of memory.frame.first memory.entries) date → date_of memory'.frame.first memory'.entries ≡ date
+  opened-of memory' frame entries = rw (frame, entries) (date-rolled memory.frame.first memory.entries date not-after)
+
   module _ (so : RestartsSo loading) (told : IsTrue origin.tells) where
     told-disk : IsTrue disk.tells
     told-disk = subst IsTrue (sym h.read.same.tells) told
@@ -264,10 +318,13 @@ module _ (origin disk : DiskView) (date : ℤ) (loading : LoadingView) (memory :
         let some : length dates ≡ suc (length (map opening h.later)) = refl in
         omega (arith, long, short, some)
 
-    pub loaded-of : ReadsOnce → (memory' : MemoryView) → memory'.frame ≡ memory.frame → memory'.entries ≡ memory.entries ++ roll_to (date_of memory.frame.first memory.entries) date → IsLoaded origin memory'.frame.schema date memory'
-    loaded-of once memory' frame entries = record {
+    pub loaded-of : ReadsOnce → (memory' : MemoryView) → memory'.frame ≡ memory.frame → memory'.entries ≡ memory.entries ++ roll_to (date_of memory.frame.first memory.entries) date → top_by memory.entries + 2 < 2 ^ 64
+        → IsLoaded origin memory'.frame.schema date memory'
+    loaded-of once memory' frame entries few = record {
       kept = memory.entries;
       restarts = rw frame restarts-kept;
+      not_after = rw frame not-after;
+      few = few;
       entries = rw frame entries;
       begun = λ undated. absurd (dated once (rw frame at undated));
     }
@@ -277,7 +334,7 @@ module _ (origin disk : DiskView) (date : ℤ) (loading : LoadingView) (memory :
       first = memory.frame.first;
       kept = memory.entries;
       restarts = restarts-kept;
-      not_after = subst (λ o. IsNotAfter o date) (sym (ap last_date (whole-take loading.manifest.records loading.next all)) ∙ h.last) h.read.not_after;
+      not_after = not-after;
       spent = spent;
     }
 
@@ -367,6 +424,8 @@ module _ (origin disk : DiskView) (date : ℤ) (loading : LoadingView) (schema :
       record {
         kept = [];
         restarts = rw (tables, ← files) (so disk schema memory.frame.first [] h.read tt told-disk);
+        not_after = rw first (≤ℤ_refl date);
+        few = lit< tt;
         entries = rw (entries, first, roll-none date) refl;
         begun = λ undated. first;
       }

@@ -50,9 +50,10 @@ pub record IsWhole (origin disk : DiskView) (memory : MemoryView) (logs : DateLo
   pub plant : IsPlant (plant_of memory logs disk origin)
   pub stored : AreSettled origin → StoresLog (plant_of memory logs disk origin) None
 
--- the same of a plant that was loaded
+-- the same of a plant that was loaded, which is open at the date
 pub record IsReadPlant (origin disk : DiskView) (date : ℤ) (memory : MemoryView) (logs : DateLogsView) : Type 0 where
   pub whole : IsWhole origin disk memory logs
+  pub opened : date_of memory.frame.first memory.entries ≡ date
   pub loaded : IsTrue origin.tells → IsLoaded origin memory.frame.schema date memory
 
 -- the disk failed, or there was no memory

@@ -14,7 +14,7 @@ ghost use Rattle.date_loading.specs.Refusals.{LoadCounts};
 ghost use Rattle.partition_set.specs.Records.{IsRecord, payloads_of};
 ghost use Rattle.partition_set.specs.declared.record.ManifestRecord.TheVariants as m;
 ghost use Rattle.plant_memory.specs.Chronicle.{top_by};
-ghost use Rattle.plant_core.specs.Load.{IsLoaded, LoadRefuses};
+ghost use Rattle.plant_core.specs.Load.{IsLoaded, LoadRefuses, CountsNothing, RefusalCounts, LeavesFiles};
 ghost use Rattle.plant_core.specs.Load as load;
 ghost use Rattle.plant_core.specs.Plant.{StoresLog, shown_by};
 ghost use Rattle.plant_core.specs.Progress.{HasRead, IsLoading, IsWhole, IsReadPlant, IsFree};
@@ -101,6 +101,7 @@ fn roll_to<D: Disk>(
     ensures frame { IfOk result (λ x. x.0.frame ≡ memory.frame) }
     ensures entries { IfOk result (λ x. x.0.entries ≡ memory.entries ++ load.roll_to (date_of memory.frame.first memory.entries) date) }
     ensures refused { IfErr result IsFree }
+    ensures unchanged { IfErr result (LeavesFiles (D.shown disk.old) (D.shown disk.new)) }
     ensures counts { LoadCounts (D.shown disk.old) (D.shown disk.new) result }
 {
     if memory.date() >= date {
@@ -137,6 +138,7 @@ fn finish<D: Disk>(
     ensures numbers { IfOk result (λ x. top_by x.0.entries + 2 < 2 ^ 64) }
     ensures frame { IfOk result (λ x. x.0.frame ≡ memory.frame) }
     ensures refused { IfErr result (LoadRefuses (D.shown origin.now.value) memory.frame.schema date) }
+    ensures unchanged { IfErr result (LeavesFiles (D.shown origin.now.value) (D.shown disk.new)) }
     ensures counts { LoadCounts (D.shown disk.old) (D.shown disk.new) result }
 {
     gated_journal::reads_in_one_way();
@@ -171,6 +173,7 @@ fn begin<D: Disk>(
     ensures numbers { IfOk result (λ x. top_by x.0.entries + 2 < 2 ^ 64) }
     ensures frame { IfOk result (λ x. x.0.frame ≡ record { schema = schema; first = date; limits = limits.now }) }
     ensures refused { IfErr result IsFree }
+    ensures unchanged { IfErr result (LeavesFiles (D.shown origin.now.value) (D.shown disk.new)) }
     ensures counts { LoadCounts (D.shown disk.old) (D.shown disk.new) result }
 {
     let Finished::Undated(mut manifest) = loading.finish() else {
@@ -198,6 +201,7 @@ fn read_next<D: Disk>(
     ensures all { IfOk result (λ more. more ≡ false → loading.new.next ≡ length loading.new.manifest.records) }
     ensures frame { IfOk result (λ _. memory.new.frame ≡ memory.old.frame) }
     ensures refused { IfErr result (LoadRefuses (D.shown _origin.now.value) memory.old.frame.schema _date) }
+    ensures unchanged { IfErr result (LeavesFiles (D.shown _origin.now.value) (D.shown disk.new)) }
     ensures counts { LoadCounts (D.shown disk.old) (D.shown disk.new) result }
 {
     match loading.next_day(alloc, disk, memory.schema()) {
@@ -224,6 +228,7 @@ fn read_days<D: Disk>(
     ensures all { OnOk result (loading.new.next ≡ length loading.new.manifest.records) }
     ensures frame { OnOk result (memory.new.frame ≡ memory.old.frame) }
     ensures refused { IfErr result (LoadRefuses (D.shown origin.now.value) memory.old.frame.schema date) }
+    ensures unchanged { IfErr result (LeavesFiles (D.shown origin.now.value) (D.shown disk.new)) }
     ensures counts { LoadCounts (D.shown disk.old) (D.shown disk.new) result }
 {
     for _ in 0..u64::MAX {
@@ -251,6 +256,7 @@ fn read_from<D: Disk>(
     ensures numbers { IfOk result (λ x. top_by x.0.entries + 2 < 2 ^ 64) }
     ensures frame { IfOk result (λ x. x.0.frame ≡ memory.frame) }
     ensures refused { IfErr result (LoadRefuses (D.shown origin.now.value) memory.frame.schema date) }
+    ensures unchanged { IfErr result (LeavesFiles (D.shown origin.now.value) (D.shown disk.new)) }
     ensures counts { LoadCounts (D.shown disk.old) (D.shown disk.new) result }
 {
     match read_days(alloc, origin, disk, date, &mut loading, &mut memory) {
@@ -277,6 +283,7 @@ fn read<D: Disk>(
     ensures schema { IfOk result (λ x. x.0.frame.schema ≡ schema) }
     ensures limits { IfOk result (λ x. x.0.frame.limits ≡ limits.now) }
     ensures refused { IfErr result (LoadRefuses (D.shown disk.old) schema date) }
+    ensures unchanged { IfErr result (LeavesFiles (D.shown disk.old) (D.shown disk.new)) }
     ensures counts { LoadCounts (D.shown disk.old) (D.shown disk.new) result }
 {
     let mut loading = match Loading::open(alloc, disk, &schema, date) {
@@ -335,12 +342,19 @@ impl<D: Disk> Plant<D> {
         ensures limits { IfOk result (λ plant. plant.memory.frame.limits ≡ limits.now) }
         ensures origin { IfOk result (λ plant. plant.origin ≡ disk) }
 
-        // A pass has a number left.
+        // The plant is open at the date, and a pass has a number left.
+        ensures opened { IfOk result (λ plant. date_of plant.memory.frame.first plant.memory.entries ≡ date) }
         ensures numbers { IfOk result (λ plant. top_by plant.memory.entries + 2 < 2 ^ 64) }
 
         // Whatever a later restart finds is this log, where no sync of the files had failed before.
         ensures stored { IfOk result (λ plant. AreSettled (D.shown disk) → StoresLog (shown_by D.shown plant) None) }
         ensures refused { IfErr result (λ failure. LoadRefuses (D.shown disk) schema date failure.why) }
+
+        // The disk that comes back has counted a fault exactly where the load is refused for one. Unless it is, each file of a
+        // refused load reads as before.
+        ensures quiet { IfOk result (λ plant. CountsNothing (D.shown disk) (D.shown plant.disk)) }
+        ensures counts { IfErr result (λ failure. RefusalCounts (D.shown disk) (D.shown failure.disk) failure.why) }
+        ensures unchanged { IfErr result (λ failure. LeavesFiles (D.shown disk) (D.shown failure.disk) failure.why) }
     {
         let origin = Snapshot::of(&disk);
         let mut disk = disk;

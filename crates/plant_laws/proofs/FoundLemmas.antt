@@ -1,14 +1,13 @@
 -- How the restart of a closed plant is its log.
-use Rattle.std.proofs.Common.{◌≡◌, ◌⊎◌, inl, inr, ⊎_elim, ℕ, ℤ, List, [], ◌∷◌, ◌++◌, Option, Some, None, refl, sym, ap, ◌∙◌, subst}
+use Rattle.std.proofs.Common.{inl, inr, ⊎_elim, ℕ, ℤ, List, [], ◌∷◌, ◌++◌, Option, Some, None, refl, subst}
 use Rattle.day_rows.specs.Chronicle.{log}
 use Rattle.day_rows.specs.Schema.{IsSchema}
 use Rattle.day_rows.specs.declared.entry.Entry.{Entry}
 use Rattle.day_rows.specs.declared.schema.Shape.{Shape}
 use Rattle.date_logs.specs.Laws.{RestartsOnce}
 use Rattle.date_logs.specs.Restart.{Restarts, MayRestart}
-use Rattle.plant_core.specs.Load.{files_of, IsLoaded}
-use Rattle.plant_core.specs.Plant.{ShownPlant, IsSound}
-use Rattle.plant_laws.specs.Laws.{IsWithLate, IsFound, FoundAgain}
+use Rattle.plant_core.specs.Load.{files_of}
+use Rattle.plant_laws.specs.Laws.{IsWithLate, FoundAgain}
 
 same-late : RestartsOnce → (schema : List Shape) (first : ℤ) (files : ℕ → List ℕ) (entries found : List Entry) (late : Option Entry) → IsSchema schema → MayRestart schema first files entries late → Restarts schema first files found → IsWithLate entries late found
 same-late once schema first files entries found None lawful may is = once schema first files found entries lawful is may

@@ -3,10 +3,15 @@ use Rattle.std.specs.Prelude.{◌≡◌, ◌⊎◌, ℤ, IsTrue, List, [], ◌�
 use Rattle.day_rows.specs.Chronicle.{date_of, log}
 use Rattle.day_rows.specs.Schema.{IsSchema}
 use Rattle.day_rows.specs.declared.entry.Entry.{Entry}
+use Rattle.day_rows.specs.declared.schema.Shape.{Shape}
+use Rattle.outside_api.specs.Disk.{DiskView}
 use Rattle.date_loading.specs.Loading.{AreSettled}
+use Rattle.date_loading.specs.declared.refusal.LoadRefusal.{LoadRefusal}
+use Rattle.date_loading.specs.declared.refusal.LoadRefusal.TheVariants as l
 use Rattle.plant_memory.specs.Memory.{MemoryView}
-use Rattle.plant_core.specs.Load.{roll_to, IsLoaded}
+use Rattle.plant_core.specs.Load.{roll_to, IsLoaded, LoadRefuses}
 use Rattle.plant_core.specs.Plant.{ShownPlant, IsSound}
+use Rattle.plant_core.specs.Progress.{IsFree}
 
 -- these entries, or these and the late one
 abbrev pub IsWithLate : List Entry → Option Entry → List Entry → Type 0
@@ -25,3 +30,28 @@ abbrev pub FoundAgain : Type 0
 FoundAgain =
     (former : ShownPlant) (date : ℤ) (memory : MemoryView) → IsSchema former.memory.frame.schema → IsSound former → AreSettled former.origin → IsTrue former.disk.tells
     → memory.frame.first ≡ former.memory.frame.first → IsLoaded former.disk former.memory.frame.schema date memory → IsFound former date memory
+
+-- what a disk that reports can be loaded as leaves no cause to refuse it, but that the disk fails or memory runs out
+abbrev pub NoCause : Type 0
+NoCause =
+    (disk : DiskView) (schema : List Shape) (date : ℤ) (memory : MemoryView) (why : LoadRefusal) → IsSchema schema → IsTrue disk.tells
+    → IsLoaded disk schema date memory → LoadRefuses disk schema date why → IsFree why
+
+-- two refusals have the same cause, or one is for want of memory or for a fault of the disk
+abbrev pub AreAlike : LoadRefusal → LoadRefusal → Type 0
+AreAlike l.DiskFault those = Unit {0}
+AreAlike l.NoMemory those = Unit {0}
+AreAlike these l.DiskFault = Unit {0}
+AreAlike these l.NoMemory = Unit {0}
+AreAlike (l.BadManifest bytes) (l.BadManifest bytes') = Unit {0}
+AreAlike (l.SchemaDiffers table kept given) (l.SchemaDiffers table' kept' given') = (table ≡ table') × (kept ≡ kept') × (given ≡ given')
+AreAlike (l.EarlierDate kept) (l.EarlierDate kept') = kept ≡ kept'
+AreAlike (l.CorruptLog day chunks bytes) (l.CorruptLog day' chunks' bytes') = day ≡ day'
+AreAlike l.NumbersSpent l.NumbersSpent = Unit {0}
+AreAlike these those = ⊥
+
+-- a disk that reports has one cause of a refusal at most
+abbrev pub OneCause : Type 0
+OneCause =
+    (disk : DiskView) (schema : List Shape) (date : ℤ) (these those : LoadRefusal) → IsSchema schema → IsTrue disk.tells
+    → LoadRefuses disk schema date these → LoadRefuses disk schema date those → AreAlike these those

@@ -1,4 +1,4 @@
-use Rattle.std.proofs.Common.{◌≡◌, ◌∙◌, ap, rules, w32, to_z, of_z}
+use Rattle.std.proofs.Common.{◌≡◌, ◌∙◌, ap, refl, rules, w32, to_z, of_z}
 use Rattle.plant_memory.specs.Memory.{MemoryView}
 use Rattle.plant_core.proofs.LoadLemmas.{undated-opens, begin-whole, begin-loaded}
 use Rattle.plant_core.proofs.load.begin.Goals as goal
@@ -18,6 +18,7 @@ returns-in-Ok-clause-read g c =
       whole = begin-whole (g.D.Disk.shown c.args.origin.now.value) (g.D.Disk.shown c.args.disk.now) c.args.date c.args.loading c.args.schema c.requires.read c.in-Undated.manifest c.reserve.new.self c.in-Undated.ensures.finished
           c.reserve.ensures.records c.reserve.ensures.journal c.in_ok-memory.memory c.in-Ok.logs (g.D.Disk.shown c.begin-2.new.disk) tables first entries c.requires.first c.requires.last
           (rw day at c.in-Ok.ensures.stored) c.in-Ok.ensures.ready (rw day at c.in-Ok.ensures.records) c.in-Ok.ensures.counts.0;
+      opened = rw (entries, first) refl;
       loaded = begin-loaded (g.D.Disk.shown c.args.origin.now.value) (g.D.Disk.shown c.args.disk.now) c.args.date c.args.loading c.args.schema c.requires.read c.in-Undated.manifest c.reserve.new.self c.in-Undated.ensures.finished
           c.reserve.ensures.records c.reserve.ensures.journal c.in_ok-memory.memory tables first entries c.finish.ensures.restarts;
     }

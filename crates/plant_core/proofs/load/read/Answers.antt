@@ -2,7 +2,7 @@ use Rattle.std.proofs.Common.{◌≡◌, [], ap, rules, w32, to_z, of_z}
 use Rattle.date_logs.specs.Restart.{Dated}
 use Rattle.date_loading.specs.Loading.{dated}
 use Rattle.plant_memory.specs.Frame.{Frame}
-use Rattle.plant_core.proofs.LoadLemmas.{opened-read, has-same, has-more, loading-first, next-refused}
+use Rattle.plant_core.proofs.LoadLemmas.{opened-read, has-same, has-more, loading-first, next-refused, reads-on, leaves-any}
 use Rattle.plant_core.proofs.load.read.Goals as goal
 
 pub begin-requires-clause-read : goal.begin-requires-clause-read
@@ -39,3 +39,24 @@ returns-in-Ok-first_day-clause-refused g c =
     let day : to_z w32 (of_z w32 c.args.date) ≡ c.args.date = search rules in
     let tables = ap (λ (f : Frame). f.schema) c.in-Ok-first_day.ensures.frame in
     rw (c.requires.origin, tables, day) at c.read_from.ensures.refused
+
+pub returns-in-Err-clause-unchanged : goal.returns-in-Err-clause-unchanged
+returns-in-Err-clause-unchanged g c = leaves-any (g.D.Disk.shown c.args.disk.now) (g.D.Disk.shown c.open.new.disk) c.in-Err.why c.open.ensures.bytes
+
+pub returns-in-Err-next_day-clause-unchanged : goal.returns-in-Err-next_day-clause-unchanged
+returns-in-Err-next_day-clause-unchanged g c =
+    let day : to_z w32 (of_z w32 c.args.date) ≡ c.args.date = search rules in
+    let begun = opened-read (g.D.Disk.shown c.args.disk.now) (g.D.Disk.shown c.open.new.disk) c.args.date c.in-Ok.loading c.args.schema c.in-Ok.ensures.counts.0 c.in-Ok.ensures.counts.1 c.open.ensures.bytes c.in-Ok.ensures.read c.in-Ok.ensures.loaded
+    c.in-Ok.ensures.gates c.in-Ok.ensures.begun.tables (rw day at c.in-Ok.ensures.not_after) c.in-Ok.ensures.under_way c.in-Ok.ensures.clean in
+    leaves-any (g.D.Disk.shown c.args.disk.now) (g.D.Disk.shown c.next_day.new.disk) c.in-Err-next_day.why
+    (reads-on (g.D.Disk.shown c.args.disk.now) (g.D.Disk.shown c.open.new.disk) (g.D.Disk.shown c.next_day.new.disk) begun.same c.next_day.ensures.bytes)
+
+pub returns-in-Err-first_day-clause-unchanged : goal.returns-in-Err-first_day-clause-unchanged
+returns-in-Err-first_day-clause-unchanged g c =
+    let day : to_z w32 (of_z w32 c.args.date) ≡ c.args.date = search rules in
+    let begun = opened-read (g.D.Disk.shown c.args.disk.now) (g.D.Disk.shown c.open.new.disk) c.args.date c.in-Ok.loading c.args.schema c.in-Ok.ensures.counts.0 c.in-Ok.ensures.counts.1 c.open.ensures.bytes c.in-Ok.ensures.read c.in-Ok.ensures.loaded
+    c.in-Ok.ensures.gates c.in-Ok.ensures.begun.tables (rw day at c.in-Ok.ensures.not_after) c.in-Ok.ensures.under_way c.in-Ok.ensures.clean in
+    reads-on (g.D.Disk.shown c.args.disk.now) (g.D.Disk.shown c.open.new.disk) (g.D.Disk.shown c.next_day.new.disk) begun.same c.next_day.ensures.bytes
+
+pub returns-in-Ok-first_day-clause-unchanged : goal.returns-in-Ok-first_day-clause-unchanged
+returns-in-Ok-first_day-clause-unchanged g c = rw c.requires.origin at c.read_from.ensures.unchanged

@@ -2,7 +2,7 @@ use Rattle.std.proofs.Common.{◌∷◌, Option, ℤ, subst}
 use Rattle.date_logs.specs.Restart.{Dated}
 use Rattle.date_loading.specs.Loading.{dated}
 use Rattle.date_loading.specs.Manifests.{IsBefore}
-use Rattle.plant_core.proofs.LoadLemmas.{has-more, loading-more, next-refused}
+use Rattle.plant_core.proofs.LoadLemmas.{has-more, loading-more, next-refused, reads-on, leaves-any}
 use Rattle.plant_core.proofs.load.read_next.Goals as goal
 
 pub returns-in-Ok-clause-loading : goal.returns-in-Ok-clause-loading
@@ -19,3 +19,8 @@ returns-in-Ok-clause-loading g c =
 pub returns-in-Err-clause-refused : goal.returns-in-Err-clause-refused
 returns-in-Err-clause-refused g c =
     next-refused (g.D.Disk.shown c.args._origin.now.value) (g.D.Disk.shown c.args.disk.now) c.args._date c.args.loading.now c.args.memory.now.frame.schema (c.requires.earliest ∷ c.requires.later) c.requires.read c.in-Err.why (rw c.schema.ensures at c.in-Err.ensures.refused)
+
+pub returns-in-Err-clause-unchanged : goal.returns-in-Err-clause-unchanged
+returns-in-Err-clause-unchanged g c =
+    leaves-any (g.D.Disk.shown c.args._origin.now.value) (g.D.Disk.shown c.next_day.new.disk) c.in-Err.why
+    (reads-on (g.D.Disk.shown c.args._origin.now.value) (g.D.Disk.shown c.args.disk.now) (g.D.Disk.shown c.next_day.new.disk) c.requires.read.same c.next_day.ensures.bytes)
