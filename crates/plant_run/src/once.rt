@@ -30,7 +30,7 @@ pub fn serve_once<O: Outside, R: Wait>(
     outside: &mut O,
 ) -> u8
     requires { AreLimits limits.now }
-    ensures { RunsWith limits.now schema ticking (option_map (λ s. s.now) folder) (O.seen outside.old) (O.seen outside.new) result }
+    ensures { RunsWith limits.now schema ticking (option_map (λ s. s.now) folder.entry) (O.seen outside.old) (O.seen outside.new) result }
 {
     match folder {
         Some(path) => once_in_folder(rt, alloc, path, schema, ticking, limits, outside),
@@ -90,7 +90,7 @@ fn finish<O: Outside>(
     clock: Option<O::Clock>,
     outside: &mut O,
 ) -> u8
-    ensures { Finishes (option_map (λ s. s.now) folder) (option_map (λ c. O.Clock.readings c) clock) (O.seen outside.old) (O.seen outside.new) result
+    ensures { Finishes (option_map (λ s. s.now) folder.entry) (option_map (λ c. O.Clock.readings c) clock) (O.seen outside.old) (O.seen outside.new) result
         (course_of O.Link.shown O.Recorder.noted course) }
 {
     match course {
@@ -132,7 +132,7 @@ fn not_loaded<O: Outside>(
     why: &LoadRefusal,
     outside: &mut O,
 ) -> u8
-    ensures { Refuses (option_map (λ s. s.now) folder) why.now (O.seen outside.old) (O.seen outside.new) result }
+    ensures { Refuses (option_map (λ s. s.now) folder.entry) why.now (O.seen outside.old) (O.seen outside.new) result }
 {
     match (folder, why) {
         (None, _) => short(outside),

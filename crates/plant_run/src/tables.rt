@@ -18,7 +18,7 @@ pub fn find_tables<O: Outside>(
     path: Option<&str>,
     outside: &mut O,
 ) -> Result<Schema, u8>
-    ensures { FindsTables (option_map (λ s. s.now) path) (O.seen outside.old) (O.seen outside.new) result }
+    ensures { FindsTables (option_map (λ s. s.now) path.entry) (O.seen outside.old) (O.seen outside.new) result }
 {
     match path {
         None => match built_in_schema(alloc) {
