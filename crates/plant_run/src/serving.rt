@@ -3,7 +3,6 @@ ghost use Rattle.std.specs.Prelude.{◌≡◌, ◌≤ℤ◌, ◌+◌, ◌<◌, �
 ghost use Rattle.std.specs.Option.{option_map};
 ghost use Rattle.outside_api.specs.Told.{told};
 ghost use Rattle.ticking_clock.specs.Clock.{ticks};
-
 ghost use Rattle.plant_memory.specs.Chronicle.{moment_date, top_by};
 ghost use Rattle.q_values.specs.Limits.{AreLimits};
 ghost use Rattle.plant_run.specs.Once.{Goes, IsClock, GoesOn, course_of};
