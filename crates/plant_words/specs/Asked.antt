@@ -1,0 +1,158 @@
+-- What a command line asks for: the options, in any order, and the command that they belong to.
+use Rattle.std.specs.Prelude.{◌≡◌, ◌≤◌, ℕ, ℤ, pos, ◌==◌, Bool, true, false, List, [], ◌∷◌, ◌++◌, length, Option, Some, None, option_map, filter_map, codes, Result, Ok, Err}
+use Rattle.std.specs.List.{AllByRecursion}
+use Rattle.std.specs.Option.{option_to_list}
+use Rattle.std.specs.Str.Parse.{IsNumeral, digits_value}
+use Rattle.q_values.specs.Tree.{atom}
+use Rattle.q_values.specs.declared.atom.Atom.TheVariants as a
+use Rattle.q_text.specs.Literal.{literal_at}
+use Rattle.plant_words.specs.declared.command.Command.{Command}
+use Rattle.plant_words.specs.declared.command.Command.TheVariants.{Init, Once}
+use Rattle.plant_words.specs.declared.command.Ticking.{Ticking}
+use Rattle.plant_words.specs.declared.command.WordsRefusal.{WordsRefusal}
+use Rattle.plant_words.specs.declared.command.WordsRefusal.TheVariants.{NoMemory}
+
+-- a word, or the value of an option, as its bytes
+abbrev pub Text : Type 0
+Text = List ℕ
+
+-- an option with its value, or a flag
+pub data Setting : Type 0 where
+  set_dir : Text → Setting
+  set_schema : Text → Setting
+  set_clock : Text → Setting
+  set_step : Text → Setting
+  set_batch : Setting
+
+-- an option is written `--name value`, a flag `--name`
+abbrev pub words_of_setting : Setting → List Text
+words_of_setting (set_dir value) = codes "--dir" ∷ value ∷ []
+words_of_setting (set_schema value) = codes "--schema" ∷ value ∷ []
+words_of_setting (set_clock value) = codes "--clock" ∷ value ∷ []
+words_of_setting (set_step value) = codes "--step" ∷ value ∷ []
+words_of_setting set_batch = codes "--batch" ∷ []
+
+-- the words of settings, in order
+abbrev pub words_of : List Setting → List Text
+words_of [] = []
+words_of (setting ∷ rest) = words_of_setting setting ++ words_of rest
+
+-- a text begins with `-`
+abbrev pub begins_with_hyphen : Text → Bool
+begins_with_hyphen [] = false
+begins_with_hyphen (b ∷ rest) = b == 45
+
+-- the value of an option doesn't begin with `-`
+abbrev pub HasPlainValue : Setting → Type 0
+HasPlainValue (set_dir value) = begins_with_hyphen value ≡ false
+HasPlainValue (set_schema value) = begins_with_hyphen value ≡ false
+HasPlainValue (set_clock value) = begins_with_hyphen value ≡ false
+HasPlainValue (set_step value) = begins_with_hyphen value ≡ false
+HasPlainValue set_batch = Unit {0}
+
+-- the values that the options were given
+pub record Given : Type 0 where
+  pub dir : Option Text
+  pub schema : Option Text
+  pub clock : Option Text
+  pub step : Option Text
+  pub batch : Bool
+
+abbrev pub dir_of : Setting → Option Text
+dir_of (set_dir value) = Some value
+dir_of _ = None
+
+abbrev pub schema_of : Setting → Option Text
+schema_of (set_schema value) = Some value
+schema_of _ = None
+
+abbrev pub clock_of : Setting → Option Text
+clock_of (set_clock value) = Some value
+clock_of _ = None
+
+abbrev pub step_of : Setting → Option Text
+step_of (set_step value) = Some value
+step_of _ = None
+
+abbrev pub batch_of : Setting → Option Bool
+batch_of set_batch = Some true
+batch_of _ = None
+
+abbrev pub flags : Bool → List Bool
+flags true = true ∷ []
+flags false = []
+
+-- the settings give each option at most once, and these values
+pub record Gives (settings : List Setting) (given : Given) : Type 0 where
+  pub dir : filter_map dir_of settings ≡ option_to_list given.dir
+  pub schema : filter_map schema_of settings ≡ option_to_list given.schema
+  pub clock : filter_map clock_of settings ≡ option_to_list given.clock
+  pub step : filter_map step_of settings ≡ option_to_list given.step
+  pub batch : filter_map batch_of settings ≡ flags given.batch
+
+-- the words are settings, in any order, that give these values
+pub record AreOptions (words : List Text) (given : Given) : Type 0 where
+  pub settings : List Setting
+  pub written : words ≡ words_of settings
+  pub plain : AllByRecursion HasPlainValue settings
+  pub values : Gives settings given
+
+-- what a command line asks for: `init` has a folder and a schema; `once` a folder, a schema, a clock, and whether it batches
+pub data Asked : Type 0 where
+  init : Text → Option Text → Asked
+  once : Option Text → Option Text → Option Ticking → Bool → Asked
+
+-- the text is one timestamp literal, and this is its value
+abbrev pub IsMoment : Text → ℤ → Type 0
+IsMoment text moment = literal_at text 0 ≡ Some (record { value = atom (a.Timestamp moment); end = length text })
+
+-- decimal digits write the number, which is at most this one
+abbrev pub IsNumber : ℕ → Text → ℕ → Type 0
+IsNumber most text n = IsNumeral 10 text × (digits_value 10 text ≡ n) × (n ≤ most)
+
+-- a step is at most a day; it is 0 where the option is missing
+abbrev pub IsStep : Option Text → ℕ → Type 0
+IsStep None n = n ≡ 0
+IsStep (Some text) n = IsNumber 86400000000000 text n
+
+-- the clock begins at a timestamp and ticks by the step; without `--clock` there is none
+abbrev pub Ticks : Option Text → ℕ → Option Ticking → Type 0
+Ticks None step ticking = ticking ≡ None
+Ticks (Some text) step ticking = (start : ℤ) × IsMoment text start × (ticking ≡ Some (record { start = start; step = pos step }))
+
+abbrev pub IsClock : Option Text → Option Text → Option Ticking → Type 0
+IsClock clock step ticking = (n : ℕ) × IsStep step n × Ticks clock n ticking
+
+-- the name of a command
+abbrev pub command_name : Asked → Text
+command_name (init folder schema) = codes "init"
+command_name (once folder schema ticking is_batch) = codes "once"
+
+-- options that give this, where no other option is there
+abbrev pub init_given : Text → Option Text → Given
+init_given folder schema = record { dir = Some folder; schema = schema; clock = None; step = None; batch = false }
+
+-- what the options of a command ask for
+abbrev pub Asks : Given → Asked → Type 0
+Asks given (init folder schema) = given ≡ init_given folder schema
+Asks given (once folder schema ticking is_batch) =
+    (given.dir ≡ folder) × (given.schema ≡ schema) × IsClock given.clock given.step ticking × (given.batch ≡ is_batch)
+
+-- the words are a command's name and then its options, and ask for this
+pub record IsAsked (words : List Text) (asked : Asked) : Type 0 where
+  pub given : Given
+  pub options : List Text
+  pub written : words ≡ command_name asked ∷ options
+  pub are : AreOptions options given
+  pub asks : Asks given asked
+
+-- what a command that was read asks for
+abbrev pub shown : Command → Asked
+shown (Init command) = init command.folder.now (option_map (λ s. s.now) command.schema)
+shown (Once command) = once (option_map (λ s. s.now) command.folder) (option_map (λ s. s.now) command.schema) command.clock command.batch
+
+-- this command was read, or memory ran out
+abbrev pub IsReadAs : Asked → Result Command WordsRefusal → Type 0
+IsReadAs asked (Ok command) = shown command ≡ asked
+IsReadAs asked (Err NoMemory) = Unit {0}
+IsReadAs asked (Err _) = ⊥

@@ -1,0 +1,116 @@
+//! The command line of the program: what its words ask for.
+//!
+//! [`read_words`] reads the words after the program's name. It gives the [`Command`] that they ask for, or a
+//! [`WordsRefusal`]: help or the version to show, one line that says what is wrong, or want of memory. It prints nothing.
+//!
+//! ```text
+//! init --dir FOLDER [--schema FILE]
+//! once [--dir FOLDER] [--schema FILE] [--clock TIMESTAMP] [--step N] [--batch]
+//! ```
+//!
+//! The options follow the command in any order, each at most once, as `--name VALUE`; no value begins with `-`. TIMESTAMP
+//! is a timestamp literal of q, N decimal digits that write a number of at most a day in nanoseconds.
+//!
+//! ```text
+//! once --step 7 --clock 2000.01.01D00:00:01     Once { clock: Some(Ticking { start: 1_000_000_000, step: 7 }), .. }
+//! init                                          Usage: the following required arguments were not provided: --dir <FOLDER>
+//! once --help                                   Shown: the help of once
+//! ```
+//!
+//! What words ask for is defined in `specs/Asked.antt`. `options` reads options word by word, `values` the values of the
+//! clock; `clap` makes the texts of `usage` and reads nothing else. A command is one function here, a name in
+//! `command_named` and a command of `usage`; an option is a field of `Options`, a variant of `Valued` and a setting in the
+//! definitions.
+#![tactic(auto)]
+
+mod command;
+mod options;
+mod usage;
+mod values;
+
+ghost use Rattle.std.specs.Prelude.{◌≡◌, IfOk, codes, map, string_bytes};
+ghost use Rattle.plant_words.specs.Asked.{Asked, Asks, IsAsked, IsReadAs, command_name, shown};
+ghost use Rattle.plant_words.specs.Reading.{IsReadBy, given_of};
+
+use command::Unread;
+pub use command::{Command, Init, Once, Ticking, WordsRefusal};
+use options::{Options, options_of};
+use std::alloc::Global;
+use usage::refusal_of;
+use values::clock_of;
+
+// The command `init` with these options.
+fn init_of(options: Options<'_>) -> Result<Command<'_>, Unread>
+    ensures asked { (asked : Asked) → command_name asked ≡ codes "init" → Asks (given_of options.entry) asked → IsReadBy shown asked result }
+    ensures read { IfOk result (λ c. (command_name (shown c) ≡ codes "init") × Asks (given_of options.entry) (shown c)) }
+{
+    match options {
+        Options {
+            folder: Some(folder),
+            schema,
+            clock: None,
+            step: None,
+            batch: false,
+        } => Ok(Command::Init(Init { folder, schema })),
+        _ => Err(Unread::Faulty),
+    }
+}
+
+// The command `once` with these options.
+fn once_of(alloc: Global, options: Options<'_>) -> Result<Command<'_>, Unread>
+    ensures asked { (asked : Asked) → command_name asked ≡ codes "once" → Asks (given_of options.entry) asked → IsReadBy shown asked result }
+    ensures read { IfOk result (λ c. (command_name (shown c) ≡ codes "once") × Asks (given_of options.entry) (shown c)) }
+{
+    match clock_of(alloc, options.clock, options.step) {
+        Ok(clock) => Ok(Command::Once(Once {
+            folder: options.folder,
+            schema: options.schema,
+            clock,
+            batch: options.batch,
+        })),
+        Err(why) => Err(why),
+    }
+}
+
+// The command of this name with these options.
+fn command_named<'a>(alloc: Global, name: &str, options: Options<'a>) -> Result<Command<'a>, Unread>
+    ensures asked { (asked : Asked) → command_name asked ≡ name.now → Asks (given_of options.entry) asked → IsReadBy shown asked result }
+    ensures read { IfOk result (λ c. (command_name (shown c) ≡ name.now) × Asks (given_of options.entry) (shown c)) }
+{
+    if name == "init" {
+        init_of(options)
+    } else if name == "once" {
+        once_of(alloc, options)
+    } else {
+        Err(Unread::Faulty)
+    }
+}
+
+// The command that the words ask for.
+fn command_of<'a>(alloc: Global, words: &'a [String]) -> Result<Command<'a>, Unread>
+    ensures asked { (asked : Asked) → IsAsked (map string_bytes words.now) asked → IsReadBy shown asked result }
+    ensures read { IfOk result (λ c. IsAsked (map string_bytes words.now) (shown c)) }
+{
+    let Some((name, rest)) = words.split_first() else {
+        return Err(Unread::Faulty);
+    };
+    let Some(options) = options_of(rest) else {
+        return Err(Unread::Faulty);
+    };
+    command_named(alloc, name.as_str(), options)
+}
+
+/// Reads the words after the program's name.
+///
+/// It gives a command exactly where the words ask for one, unless memory ran out: `Shown` and `Usage` come only for words
+/// that ask for none.
+pub fn read_words<'a>(alloc: Global, words: &'a [String]) -> Result<Command<'a>, WordsRefusal>
+    ensures asked { (asked : Asked) → IsAsked (map string_bytes words.now) asked → IsReadAs asked result }
+    ensures read { IfOk result (λ command. IsAsked (map string_bytes words.now) (shown command)) }
+{
+    match command_of(alloc, words) {
+        Ok(command) => Ok(command),
+        Err(Unread::NoMemory) => Err(WordsRefusal::NoMemory),
+        Err(Unread::Faulty) => Err(refusal_of(alloc, words)),
+    }
+}

@@ -1,0 +1,179 @@
+//! The options of a command, read word by word.
+ghost use Rattle.std.specs.Prelude.{◌≡◌, ◌↔◌, Some, None, map, is_some, option_map, string_bytes};
+ghost use Rattle.plant_words.specs.Asked.{AreOptions, Given, begins_with_hyphen};
+ghost use Rattle.plant_words.specs.Reading.{given_of, named, nothing_given, read_from, state_of, taken, value_in, valued_named, with_value};
+
+/// The options that words give. Their values are as they were written.
+#[derive(Clone, Copy, Debug)]
+pub struct Options<'a> {
+    /// `--dir`.
+    pub folder: Option<&'a str>,
+    /// `--schema`.
+    pub schema: Option<&'a str>,
+    /// `--clock`.
+    pub clock: Option<&'a str>,
+    /// `--step`.
+    pub step: Option<&'a str>,
+    /// `--batch`.
+    pub batch: bool,
+}
+
+/// An option that takes a value.
+#[derive(Clone, Copy, Debug)]
+pub(crate) enum Valued {
+    Dir,
+    Schema,
+    Clock,
+    Step,
+}
+
+/// What was read so far: the options, and the one that waits for its value.
+#[derive(Clone, Copy, Debug)]
+pub(crate) struct Reading<'a> {
+    options: Options<'a>,
+    waiting: Option<Valued>,
+}
+
+// The option of this name.
+fn valued_named(word: &str) -> Option<Valued>
+    ensures { result ≡ valued_named word.now }
+{
+    if word == "--dir" {
+        Some(Valued::Dir)
+    } else if word == "--schema" {
+        Some(Valued::Schema)
+    } else if word == "--clock" {
+        Some(Valued::Clock)
+    } else if word == "--step" {
+        Some(Valued::Step)
+    } else {
+        None
+    }
+}
+
+impl<'a> Options<'a> {
+    // No option.
+    fn none() -> Options<'a>
+        ensures { given_of result ≡ nothing_given }
+    {
+        Options {
+            folder: None,
+            schema: None,
+            clock: None,
+            step: None,
+            batch: false,
+        }
+    }
+
+    // Whether the option was given.
+    fn has(&self, option: Valued) -> bool
+        ensures { result ≡ is_some (value_in (given_of self.now) option) }
+    {
+        match option {
+            Valued::Dir => self.folder.is_some(),
+            Valued::Schema => self.schema.is_some(),
+            Valued::Clock => self.clock.is_some(),
+            Valued::Step => self.step.is_some(),
+        }
+    }
+
+    // The options with one more value.
+    fn with(self, option: Valued, value: &'a str) -> Options<'a>
+        ensures { given_of result ≡ with_value (given_of self.entry) option value.entry.now }
+    {
+        match option {
+            Valued::Dir => Options {
+                folder: Some(value),
+                ..self
+            },
+            Valued::Schema => Options {
+                schema: Some(value),
+                ..self
+            },
+            Valued::Clock => Options {
+                clock: Some(value),
+                ..self
+            },
+            Valued::Step => Options {
+                step: Some(value),
+                ..self
+            },
+        }
+    }
+}
+
+fn begins_with_hyphen(word: &str) -> bool
+    ensures { result ≡ begins_with_hyphen word.now }
+{
+    matches!(word.as_bytes(), [b'-', ..])
+}
+
+impl<'a> Reading<'a> {
+    // Reads a word that is to be a name.
+    fn named(self, word: &str) -> Option<Reading<'a>>
+        ensures { option_map state_of result ≡ named (given_of self.entry.options) word.now }
+    {
+        if word == "--batch" {
+            if self.options.batch {
+                return None;
+            }
+            return Some(Reading {
+                options: Options {
+                    batch: true,
+                    ..self.options
+                },
+                waiting: None,
+            });
+        }
+        let option = valued_named(word)?;
+        if self.options.has(option) {
+            return None;
+        }
+        Some(Reading {
+            options: self.options,
+            waiting: Some(option),
+        })
+    }
+
+    // Reads one more word: the value that an option waits for, or else a name.
+    fn take(self, word: &'a str) -> Option<Reading<'a>>
+        ensures { option_map state_of result ≡ taken (state_of self.entry) word.entry.now }
+    {
+        match self.waiting {
+            None => self.named(word),
+            Some(option) => {
+                if begins_with_hyphen(word) {
+                    return None;
+                }
+                Some(Reading {
+                    options: self.options.with(option, word),
+                    waiting: None,
+                })
+            }
+        }
+    }
+}
+
+/// The options that the words give, if they give each at most once and no value begins with `-`.
+pub fn options_of<'a>(words: &'a [String]) -> Option<Options<'a>>
+    ensures options { (given : Given) → (option_map given_of result ≡ Some given) ↔ AreOptions (map string_bytes words.now) given }
+{
+    read_options(words)
+}
+
+// The options, as they are read word by word.
+fn read_options<'a>(words: &'a [String]) -> Option<Options<'a>>
+    ensures { option_map given_of result ≡ read_from (Some (record { given = nothing_given; waiting = None })) (map string_bytes words.now) }
+{
+    let mut reading = Reading {
+        options: Options::none(),
+        waiting: None,
+    };
+    for word in words {
+        reading = reading.take(word.as_str())?;
+    }
+    match reading.waiting {
+        None => Some(reading.options),
+        Some(_) => None,
+    }
+}

@@ -1,0 +1,14 @@
+//! Tests of `plant_words` through its public call.
+//!
+//! They stand in a crate of their own, since a crate with tests in it is proved twice. Words are written in one text with
+//! `|` between them:
+//!
+//! ```text
+//! asked_words        command lines in several orders, and what they ask for
+//! faulty_words       command lines that ask for nothing, and the line that says what is wrong
+//! help_and_version   the texts that are shown
+//! ```
+#![tactic(auto)]
+
+#[cfg(test)]
+mod tests;
