@@ -1,3 +1,1 @@
-pub mod ArgumentsLemmas
 pub mod SentLemmas
-pub mod TimestampLemmas

@@ -1,4 +1,2 @@
-pub mod Arguments
 pub mod Link
 pub mod Outside
-pub mod Timestamp

@@ -1,12 +1,13 @@
 -- What devices show that keep nothing.
 use Rattle.std.specs.Prelude.{List, Option, None}
-use Rattle.outside_api.specs.Outside.{OutsideView}
+use Rattle.program_outside.specs.Outside.{OutsideView}
 use Rattle.q_values.specs.declared.turn.Turn.{Turn}
+use Rattle.plant_edge.specs.declared.outside.StandardOutside.{StandardOutside}
 use Rattle.plant_edge.specs.declared.recorder.SilentRecorder.{SilentRecorder}
 
--- each device can be made; nothing is told
-abbrev pub silent_outside : OutsideView
-silent_outside = record { make_faults = 0; warned = None; backs = None }
+-- its count of faults; nothing else is told
+abbrev pub silent_outside : {R E : Type 0} → StandardOutside R E → OutsideView
+silent_outside outside = record { make_faults = outside.faults; opened = None; files = None; said = None; warned = None; backs = None; kept = None }
 
 -- no turn is told
 abbrev pub silent_recorder : SilentRecorder → Option (List Turn)

@@ -1,29 +1,26 @@
-//! The edge of the program: reading its arguments, and the devices of the runtime that it is given.
+//! The edge of the program: the devices of the machine that it runs on.
 //!
-//! - `clock_of` reads the arguments. It gives the moment that the clock of the session stands at.
 //! - `StandardLink` makes the `Link` of a session from a reader and a writer. It counts read faults, write faults and read
 //!   timeouts, and its contract says which bytes each read took from the reader and each write gave to the writer.
-//! - `StandardOutside` makes the devices of a program over a runtime: standard input and output are its link, and
-//!   warnings go to standard error.
+//! - `StandardOutside` makes the devices of a program over a runtime: standard input and output are its link, its folders
+//!   are the machine's, each locked while it is open, and its clock is the machine's. Warnings go to standard error.
 //!
 //! ```text
-//! once --clock 2024.01.02D09:30:00.000000000      Some(757503000000000000), in nanoseconds since 2000.01.01
-//! once --clock 2024.01.02D24:00:00.000000000      None: there is no such time of day
-//! serve                                           None: the program has no such command
+//! let mut outside = StandardOutside::new(&rt, rt.stderr());
+//! let disk = outside.folder(rt.alloc(), "plant");    // Err(MakeFault { cause: Cause::InUse }) where another has it open
 //! ```
 //!
 //! It serves no session itself (`session` does), opens no socket, and keeps no bytes: a `SilentRecorder` forgets each turn,
-//! and a `StandardLink` passes on what it reads and writes. Of the timestamps it takes those of 2024.01.02 alone.
+//! and a `StandardLink` passes on what it reads and writes. The folders and the clock themselves are `outside_real`'s.
 #![tactic(auto)]
 
-mod arguments;
+mod causes;
 mod link;
 mod outside;
 mod recorder;
 mod retry;
 
-pub use arguments::clock_of;
 pub use link::StandardLink;
 pub use outside::StandardOutside;
-pub use outside_mem::{NoGate, SteadyClock};
+pub use outside_mem::NoGate;
 pub use recorder::SilentRecorder;

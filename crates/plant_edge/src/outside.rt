@@ -1,39 +1,118 @@
 //! The devices of a program over its runtime.
+use crate::causes::{file_refusal, folder_cause};
 use crate::link::StandardLink;
 use crate::recorder::SilentRecorder;
-use outside_api::{MakeFault, Outside};
 use outside_mem::NoGate;
+use outside_real::{FolderDisk, FolderRefusal, LockedFolder, RealClock, read_file};
+use program_outside::{FileRefusal, MakeFault, Outside};
+use std::alloc::Global;
+use std::fs::File;
 use std::io;
 use std::io::{Input, Printer, Write};
+use std::rt::Files;
 use std::time::Clock;
 
-/// The devices of a program over its runtime: standard input and output are its link, and warnings go to a writer, which
-/// is standard error. What passes through them isn't kept.
+/// The greatest number of bytes of a file that is read whole, such as a schema.
+const FILE_LIMIT: u64 = 1 << 20;
+
+/// The devices of a program over its runtime: standard input and output are its link, its folders are those of the
+/// machine, locked, and its clock is the machine's. Warnings go to a writer, which is standard error. What passes through
+/// them isn't kept.
 #[derive(Drop)]
 pub struct StandardOutside<'a, R, E> {
     /// The runtime, whose standard input and output are the link.
-    pub rt: &'a R,
+    rt: &'a R,
     /// Where warnings go.
-    pub errors: E,
+    errors: E,
+    /// How many devices could not be made, and files not read; saturates.
+    faults: u64,
 }
 
-impl<'a, R: Input + Print + Clock, E: Write + Drop> Outside for StandardOutside<'a, R, E> {
+impl<'a, R, E> StandardOutside<'a, R, E> {
+    ghost use Rattle.std.specs.Prelude.{◌≡◌};
+    ghost use Rattle.plant_edge.specs.Outside.{silent_outside};
+
+    /// The outside of a runtime, which has made nothing. Warnings go to this writer.
+    pub fn new(rt: &'a R, errors: E) -> StandardOutside<'a, R, E>
+        ensures { (silent_outside result).make_faults ≡ 0 }
+    {
+        StandardOutside {
+            rt,
+            errors,
+            faults: 0,
+        }
+    }
+
+    /// Where its warnings went.
+    pub fn errors(&self) -> &E {
+        &self.errors
+    }
+}
+
+impl<'a, R: Files<File = File>, E> StandardOutside<'a, R, E> {
+    ghost use Rattle.std.specs.Prelude.{◌≡◌, Result};
+    ghost use Rattle.outside_api.specs.Disk.{DiskView};
+    ghost use Rattle.outside_real.specs.FolderDisk.{disk_shown};
+    ghost use Rattle.program_outside.specs.Outside.{Opens};
+    ghost use Rattle.plant_edge.specs.Outside.{silent_outside};
+
+    /// The disk of a folder that was opened, or the fault, which is counted.
+    fn disk_of(
+        &mut self,
+        alloc: Global,
+        opened: Result<LockedFolder<&'a R>, FolderRefusal>,
+    ) -> Result<FolderDisk<LockedFolder<&'a R>>, MakeFault>
+        ensures { (path : List ℕ) → Opens path disk_shown (silent_outside self.old) (silent_outside self.new) result }
+    {
+        match opened {
+            Ok(folder) => Ok(FolderDisk::new(alloc, folder)),
+            Err(why) => {
+                self.faults = self.faults.saturating_add(1);
+                Err(MakeFault {
+                    cause: folder_cause(why),
+                })
+            }
+        }
+    }
+}
+
+impl<'a, R: Input + Print + Clock + Files<File = File>, E: Write + Drop> Outside
+    for StandardOutside<'a, R, E> {
     ghost use Rattle.std.specs.Prelude.{◌≡◌};
     ghost use Rattle.std.specs.Option.{option_map};
-    ghost use Rattle.outside_api.specs.Outside.{handed_back};
+    ghost use Rattle.outside_real.specs.FolderDisk.{disk_shown};
+    ghost use Rattle.program_outside.specs.Outside.{handed_back, kept_of};
     ghost use Rattle.plant_edge.specs.Link.{link_shown};
     ghost use Rattle.plant_edge.specs.Outside.{silent_outside, silent_recorder};
 
     type Link = StandardLink<'a, R, R::Reader, Printer<'a, R>>;
 
+    type Disk = FolderDisk<LockedFolder<&'a R>>;
+
+    type Clock = RealClock<&'a R>;
+
     type Gate = NoGate;
 
     type Recorder = SilentRecorder;
 
-    ghost seen = { λ _. silent_outside };
+    ghost seen = { silent_outside };
 
     fn standard(&mut self) -> Result<Self::Link, MakeFault> {
         Ok(StandardLink::new(self.rt, self.rt.reader(), io::writer(self.rt)))
+    }
+
+    fn folder(&mut self, alloc: Global, path: &str) -> Result<Self::Disk, MakeFault> {
+        let opened = LockedFolder::open(self.rt, alloc, path);
+        self.disk_of(alloc, opened)
+    }
+
+    fn make_folder(&mut self, alloc: Global, path: &str) -> Result<Self::Disk, MakeFault> {
+        let opened = LockedFolder::make(self.rt, alloc, path);
+        self.disk_of(alloc, opened)
+    }
+
+    fn clock(&mut self) -> RealClock<&'a R> {
+        RealClock::new(self.rt)
     }
 
     fn gate(&mut self) -> NoGate {
@@ -44,15 +123,41 @@ impl<'a, R: Input + Print + Clock, E: Write + Drop> Outside for StandardOutside<
         SilentRecorder
     }
 
+    fn read_file(&mut self, alloc: Global, path: &str) -> Result<Vec<u8>, FileRefusal> {
+        match read_file(self.rt, alloc, path, FILE_LIMIT) {
+            Ok(bytes) => Ok(bytes),
+            Err(why) => {
+                let refusal = file_refusal(why);
+                if let FileRefusal::MakeFault(_) = refusal {
+                    self.faults = self.faults.saturating_add(1);
+                }
+                Err(refusal)
+            }
+        }
+    }
+
+    fn say(&mut self, line: &[u8]) {
+        let mut output = io::writer(self.rt);
+        let _written = output.write_all(line);
+        let _ended = output.write_all(b"\n");
+        let _flushed = output.flush();
+    }
+
     fn warn(&mut self, line: &[u8]) {
         let _written = self.errors.write_all(line);
         let _ended = self.errors.write_all(b"\n");
     }
 
-    fn back(&mut self, link: Option<Self::Link>, recorder: Option<SilentRecorder>)
-        ensures { silent_outside ≡ handed_back silent_outside
-            (option_map (λ l. link_shown l) link.entry) (option_map (λ r. silent_recorder r) recorder) }
-    {
-        let _handed = (link, recorder);
+    fn back(
+        &mut self,
+        link: Option<Self::Link>,
+        clock: Option<RealClock<&'a R>>,
+        recorder: Option<SilentRecorder>,
+    ) {
+        let _handed = (link, clock, recorder);
+    }
+
+    fn keep(&mut self, disk: Self::Disk) {
+        let _kept = disk;
     }
 }

@@ -1,14 +1,15 @@
-//! The link and the devices of the runtime, and the arguments that ask for a clock.
-use outside_api::{Got, Link, LinkFault, Outside, Recorder};
-use plant_edge::{StandardLink, StandardOutside, clock_of};
-use q_values::{NoMemory, Turn};
+//! The link and the devices of the runtime.
+use outside_api::{Clock as _, Disk, Got, Link, LinkFault, Recorder};
+use plant_edge::{StandardLink, StandardOutside};
+use program_outside::{Cause, FileRefusal, MakeFault, Outside};
+use q_values::Turn;
 use std::alloc::Global;
-use std::io;
 use std::io::{ErrorKind, Read, Write};
 use std::sync::atomic::AtomicU64;
 use std::sync::atomic::Ordering::SeqCst;
 use std::test::Fail;
 use std::time::{Clock, Duration};
+use std::{env, fs, io, process};
 
 /// Gives an interruption, a timeout, a fault, one byte and the end, in this order.
 #[derive(Drop)]
@@ -174,7 +175,8 @@ fn use_once<O: Outside>(outside: &mut O) -> bool {
     let _gate = outside.gate();
     let written = write_one(&mut link).is_ok();
     outside.warn(b"plant: idle");
-    outside.back(Some(link), Some(recorder));
+    outside.say(b"a line");
+    outside.back(Some(link), None, Some(recorder));
     written
 }
 
@@ -200,57 +202,68 @@ fn warnings_are_lines(rt: HostRuntime) {
     let errors = Kept {
         bytes: Vec::new(rt.alloc()),
     };
-    let mut outside = StandardOutside { rt: &rt, errors };
+    let mut outside = StandardOutside::new(&rt, errors);
     outside.warn(b"plant: idle");
     outside.warn(b"plant: usage");
     assert_eq!(rt;
-        outside.errors.bytes.as_slice(),
+        outside.errors().bytes.as_slice(),
         b"plant: idle\nplant: usage\n".as_slice()
     );
 }
 
 #[test]
 fn standard_output_takes_bytes(rt: HostRuntime) {
-    let mut outside = StandardOutside {
-        rt: &rt,
-        errors: FullWriter,
-    };
+    let mut outside = StandardOutside::new(&rt, FullWriter);
     assert!(rt; use_once(&mut outside));
 }
 
-fn arguments_of(alloc: Global, text: &str) -> Result<Vec<String>, NoMemory> {
-    let mut arguments = Vec::new(alloc);
-    for argument in text.split(' ') {
-        arguments.push(String::from_str(alloc, argument)?)?;
+/// The path of a folder for one test, which is not there yet.
+fn fresh_path(rt: &HostRuntime, test: &str) -> io::Result<String> {
+    let folder = env::temp_dir(rt)?;
+    let id = process::id(rt.process());
+    let path = format!(in rt.alloc(); "{}/plant_edge_{id}_{test}", folder.display())?;
+    Ok(path)
+}
+
+/// The cause of the fault where a folder isn't opened.
+fn cause_at<O: Outside>(outside: &mut O, alloc: Global, path: &str) -> Option<Cause> {
+    match outside.folder(alloc, path) {
+        Ok(disk) => {
+            outside.keep(disk);
+            None
+        }
+        Err(MakeFault { cause }) => Some(cause),
     }
-    Ok(arguments)
 }
 
 #[test]
-fn first_update_answered(rt: HostRuntime) -> Result<(), Fail> {
-    let cases = [
-        (
-            "once --clock 2024.01.02D09:30:00.000000000",
-            Some(757_503_000_000_000_000),
-        ),
-        (
-            "once --clock 2024.01.02D23:59:59.999999999",
-            Some(757_555_199_999_999_999),
-        ),
-        ("once --clock 2024.01.02D24:00:00.000000000", None),
-        ("once --clock 2024.01.02D09:60:00.000000000", None),
-        ("once --clock 2024.01.02D09:30:60.000000000", None),
-        ("once --clock 2024.01.02D09:30:00.00000000", None),
-        ("once --clock 2024.01.03D09:30:00.000000000", None),
-        ("once --clock 2024.01.02D09:30:00.000000000 ", None),
-        ("once --time 2024.01.02D09:30:00.000000000", None),
-        ("serve --clock 2024.01.02D09:30:00.000000000", None),
-        ("once --clock", None),
-        ("once", None),
-    ];
-    for (text, moment) in cases {
-        let arguments = arguments_of(rt.alloc(), text)?;
-        assert_eq!(rt; clock_of(&arguments), moment, "{text}");
-    }
+fn folders_are_made_opened_and_locked(rt: HostRuntime) -> Result<(), Fail> {
+    let path = fresh_path(&rt, "folder")?;
+    let alloc = rt.alloc();
+    let mut outside = StandardOutside::new(&rt, FullWriter);
+    assert_eq!(rt;
+        cause_at(&mut outside, alloc, path.as_str()),
+        Some(Cause::Missing)
+    );
+    let mut disk = outside.make_folder(alloc, path.as_str())?;
+    disk.write_at(0, 0, b"abc")?;
+    assert_eq!(rt;
+        cause_at(&mut outside, alloc, path.as_str()),
+        Some(Cause::InUse)
+    );
+    outside.keep(disk);
+    assert_eq!(rt; cause_at(&mut outside, alloc, path.as_str()), None);
+    let file = format!(in alloc; "{path}/f0")?;
+    assert_eq!(rt;
+        cause_at(&mut outside, alloc, file.as_str()),
+        Some(Cause::NotAFolder)
+    );
+    let bytes = outside.read_file(alloc, file.as_str())?;
+    assert_eq!(rt; bytes.as_slice(), b"abc".as_slice());
+    let absent = format!(in alloc; "{path}/f1")?;
+    let refused = outside.read_file(alloc, absent.as_str());
+    assert!(rt; matches!(&refused, Err(FileRefusal::MakeFault(Cause::Missing))));
+    let _reading = outside.clock().now();
+    fs::remove_dir_all(&rt, path.as_str())?;
     Ok(())
 }

@@ -1,0 +1,238 @@
+"""Tests of the whole program over real folders: rows that are there at the next start, and each way in which a folder, a
+schema or a disk refuses. PLANT names the program, else it is bin/plant."""
+
+import datetime
+import os
+import resource
+import shutil
+import signal
+import subprocess
+import tempfile
+import unittest
+
+from plant_client import Atom, Client, Error
+
+ROOT = os.path.join(os.path.dirname(os.path.abspath(__file__)), "..", "..")
+PLANT = os.environ.get("PLANT", os.path.join(ROOT, "bin", "plant"))
+CLOCK = "2024.01.02D09:30:00.000000000"
+MANIFEST = "f0"
+HALF_PAST_NINE = datetime.timedelta(hours=9, minutes=30)
+
+TWO_TABLES = """/ two tables of a desk
+fills:([]time:`timespan$();sym:`symbol$();size:`long$();side:`char$())
+marks:([]time:`timespan$();sym:`symbol$();mark:`long$())
+"""
+
+
+def log_of(date):
+    """The file of a date's log, by its days since 2000.01.01 (docs/FORMATS.md)."""
+    return f"f{1_000_000 + date}"
+
+
+class Folders(unittest.TestCase):
+    def setUp(self):
+        self.base = tempfile.mkdtemp(prefix="plant_program_")
+        self.folder = os.path.join(self.base, "plant")
+        os.chmod(self.base, 0o755)
+
+    def tearDown(self):
+        shutil.rmtree(self.base, ignore_errors=True)
+
+    def run_plant(self, *words, data=b"", **options):
+        done = subprocess.run([PLANT, *words], input=data, capture_output=True, timeout=120, **options)
+        return done.returncode, done.stdout, done.stderr.decode().splitlines()
+
+    def init(self, *words):
+        self.assertEqual(self.run_plant("init", "--dir", self.folder, *words), (0, b"", []))
+
+    def once(self, *words):
+        return Client.run([PLANT, "once", "--dir", self.folder, "--clock", CLOCK, *words])
+
+    def refuses(self, words, cause, **options):
+        """The program can't start, and says this cause."""
+        status, output, lines = self.run_plant(*words, data=b"u:p\x03\x00", **options)
+        self.assertEqual((status, output, lines), (6, b"", ["plant: cannot start", cause]))
+
+    def write(self, name, text):
+        path = os.path.join(self.base, name)
+        with open(path, "wb") as file:
+            file.write(text)
+        return path
+
+    def test_rows_are_there_at_the_next_start(self):
+        self.init()
+        with self.once() as plant:
+            plant.update("trade", HALF_PAST_NINE, "KX", 10050, 200)
+            plant.update("trade", HALF_PAST_NINE, "KX", 10050, 200)
+        self.assertEqual(plant.status, 0)
+        with self.once() as plant:
+            self.assertEqual(plant.query("exec size from trade"), [200, 200])
+            times = [HALF_PAST_NINE] * 1000
+            plant.update("trade", times, ["a"] * 1000, list(range(1000)), list(range(1000)))
+        self.assertEqual(plant.status, 0)
+        with self.once() as plant:
+            self.assertEqual(plant.query("exec count i from trade"), 1002)
+            self.assertEqual(plant.query("exec sum size from trade where sym=`a"), 499_500)
+        self.assertEqual(plant.status, 0)
+
+    def test_a_later_start_ends_the_date(self):
+        self.init()
+        with self.once() as plant:
+            plant.update("trade", HALF_PAST_NINE, "KX", 10050, 200)
+        later = [PLANT, "once", "--dir", self.folder, "--clock", "2024.01.07D09:30:00.000000000"]
+        with Client.run(later) as plant:
+            self.assertEqual(plant.query(".u.d"), datetime.date(2024, 1, 7))
+            self.assertEqual(plant.query("exec date from trade"), [datetime.date(2024, 1, 2)])
+        self.refuses(["once", "--dir", self.folder, "--clock", CLOCK], f"plant: {self.folder}: it has opened a date that is later than the clock's: 2024.01.07")
+
+    def test_clock_with_a_step(self):
+        self.init()
+        with self.once("--step", "1000000000") as plant:
+            plant.update("trade", "KX", 10050, 200)
+            plant.update("trade", "KX", 10050, 201)
+            times = plant.query("exec time from trade")
+        second = datetime.timedelta(seconds=1)
+        self.assertEqual(times, [HALF_PAST_NINE + second, HALF_PAST_NINE + 2 * second])
+
+    def test_without_a_clock_it_is_the_machines(self):
+        self.init()
+        before = datetime.datetime.now(datetime.timezone.utc).date()
+        with Client.run([PLANT, "once", "--dir", self.folder]) as plant:
+            date = plant.query(".u.d")
+        self.assertIn(date, (before, datetime.datetime.now(datetime.timezone.utc).date()))
+
+    def test_schema_of_two_tables(self):
+        schema = self.write("desk.q", TWO_TABLES.encode())
+        self.init("--schema", schema)
+        with self.once("--schema", schema) as plant:
+            plant.update("fills", HALF_PAST_NINE, "KX", 5, Atom("char", b"b"))
+            plant.update("marks", HALF_PAST_NINE, "KX", 7)
+            with self.assertRaises(Error):
+                plant.query("select from trade")
+        with self.once("--schema", schema) as plant:
+            self.assertEqual(plant.query("exec mark from marks"), [7])
+        self.refuses(["once", "--dir", self.folder, "--clock", CLOCK], f"plant: {self.folder}: it was formatted with another schema, which differs in the table fills")
+
+    def test_schema_with_a_fault(self):
+        schema = self.write("faulty.q", b"t:")
+        words = ["once", "--dir", self.folder, "--schema", schema]
+        self.refuses(words, f"plant: {schema}: it is no schema: the token can't follow at byte 2")
+        absent = os.path.join(self.base, "absent.q")
+        self.refuses(["init", "--dir", self.folder, "--schema", absent], f"plant: {absent}: there is no such file or folder")
+        self.assertFalse(os.path.exists(self.folder))
+
+    def test_folder_that_is_not_formatted(self):
+        self.refuses(["once", "--dir", self.folder], f"plant: {self.folder}: there is no such file or folder")
+        os.mkdir(self.folder)
+        self.refuses(["once", "--dir", self.folder], f"plant: {self.folder}: it is not formatted, or its manifest f0 is damaged at byte 0")
+        file = self.write("file", b"")
+        self.refuses(["once", "--dir", file], f"plant: {file}: it is not a folder")
+
+    def test_folder_formatted_twice(self):
+        self.init()
+        self.refuses(["init", "--dir", self.folder], f"plant: {self.folder}: it is formatted already")
+
+    def test_folder_held_by_another_process(self):
+        self.init()
+        with self.once() as plant:
+            self.assertEqual(plant.query(".u.i"), 0)
+            self.refuses(["once", "--dir", self.folder], f"plant: {self.folder}: it is in use by another process")
+            self.refuses(["init", "--dir", self.folder], f"plant: {self.folder}: it is in use by another process")
+            os.kill(plant.process.pid, signal.SIGKILL)
+        with self.once() as plant:
+            self.assertEqual(plant.query(".u.i"), 0)
+
+    def test_damaged_files(self):
+        self.init()
+        with self.once() as plant:
+            plant.update("trade", HALF_PAST_NINE, "KX", 10050, 200)
+        log = os.path.join(self.folder, log_of(8767))
+        size = os.path.getsize(log)
+        self.assertEqual(size, 97)
+        with open(log, "r+b") as file:
+            file.truncate(size - 1)
+        words = ["once", "--dir", self.folder, "--clock", CLOCK]
+        self.refuses(words, f"plant: {self.folder}: its log of 2024.01.02 is damaged at byte 8, after 0 updates")
+        with open(os.path.join(self.folder, MANIFEST), "r+b") as file:
+            file.write(b"X")
+        self.refuses(words, f"plant: {self.folder}: it is not formatted, or its manifest f0 is damaged at byte 0")
+
+    @unittest.skipUnless(os.geteuid() == 0, "the superuser may write into any folder, so a child gives that up")
+    def test_read_only_folder(self):
+        self.init()
+        os.chmod(self.folder, 0o555)
+        for name in os.listdir(self.folder):
+            os.chmod(os.path.join(self.folder, name), 0o444)
+
+        def become_nobody():
+            os.setgid(65534)
+            os.setuid(65534)
+
+        cause = f"plant: {self.folder}: the disk failed as its plant was loaded"
+        self.refuses(["once", "--dir", self.folder], cause, preexec_fn=become_nobody)
+
+    def test_limit_on_file_sizes(self):
+        self.init()
+
+        def limit():
+            resource.setrlimit(resource.RLIMIT_FSIZE, (200, 200))
+            signal.signal(signal.SIGXFSZ, signal.SIG_IGN)
+
+        words = [PLANT, "once", "--dir", self.folder, "--clock", CLOCK]
+        process = subprocess.Popen(words, stdin=subprocess.PIPE, stdout=subprocess.PIPE, preexec_fn=limit, restore_signals=False)
+        plant = Client(process.stdout, process.stdin)
+        plant.update("trade", HALF_PAST_NINE, "KX", 10050, 200)
+        with self.assertRaises(Error) as refused:
+            plant.update("trade", [HALF_PAST_NINE] * 9, ["KX"] * 9, [1] * 9, [2] * 9)
+        self.assertEqual(str(refused.exception), "disk")
+        self.assertEqual(plant.query("exec size from trade"), [200])
+        process.stdin.close()
+        self.assertEqual(process.wait(), 0)
+        process.stdout.close()
+        with self.once() as plant:
+            self.assertEqual(plant.query("exec size from trade"), [200])
+
+    @unittest.skipUnless(os.geteuid() == 0, "mounting needs the superuser")
+    def test_full_disk(self):
+        small = os.path.join(self.base, "small")
+        os.mkdir(small)
+        mounted = subprocess.run(["mount", "-t", "tmpfs", "-o", "size=64k", "tmpfs", small], capture_output=True)
+        if mounted.returncode:
+            self.skipTest("no tmpfs can be mounted here")
+        try:
+            self.folder = os.path.join(small, "plant")
+            self.init()
+            rows = 1000
+            with self.once() as plant:
+                plant.update("trade", HALF_PAST_NINE, "KX", 10050, 200)
+                with self.assertRaises(Error) as refused:
+                    for _ in range(9):
+                        plant.update("trade", [HALF_PAST_NINE] * rows, ["KX"] * rows, [1] * rows, [2] * rows)
+                self.assertEqual(str(refused.exception), "disk")
+                kept = plant.query("exec count i from trade")
+            self.assertEqual(plant.status, 0)
+            with self.once() as plant:
+                self.assertIn(plant.query("exec count i from trade"), (kept, kept + rows))
+            full = os.path.join(small, "full")
+            with open(os.path.join(small, "filler"), "wb") as file:
+                try:
+                    file.write(b"x" * 2**20)
+                except OSError:
+                    pass
+            status, output, lines = self.run_plant("init", "--dir", full)
+            self.assertEqual((status, output, lines[:1]), (6, b"", ["plant: cannot start"]))
+        finally:
+            subprocess.run(["umount", small], check=False)
+
+    def test_help_and_faulty_arguments(self):
+        status, output, lines = self.run_plant("--help")
+        self.assertEqual((status, lines), (0, []))
+        self.assertIn(b"once", output)
+        self.assertEqual(self.run_plant("--version")[0], 0)
+        for words in (["serve"], ["once", "--dir"], ["init"], ["once", "--clock", "2024.13.02D09:30"]):
+            status, output, lines = self.run_plant(*words)
+            self.assertEqual((status, output, lines[0], len(lines)), (1, b"", "plant: usage", 2), words)
+
+
+if __name__ == "__main__":
+    unittest.main()

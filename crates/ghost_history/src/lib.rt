@@ -1,0 +1,15 @@
+//! A list that only contracts see.
+//!
+//! A device that reports all that passed through it, for tests and for proofs about whole runs, keeps the list of it in a
+//! [`History`]: each push is of the value as it is then, and the whole list takes no memory, however long it is. Nothing can
+//! be read from it when the program runs.
+//!
+//! ```text
+//! let mut given: History<i64> = History::new();
+//! given.push(&reading);          // given.new ≡ given.old ++ reading ∷ []
+//! ```
+#![tactic(auto)]
+
+mod history;
+
+pub use history::History;

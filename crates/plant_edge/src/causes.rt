@@ -1,0 +1,35 @@
+//! What the system's refusals are to a program.
+use outside_real::{FolderRefusal, ReadRefusal};
+use program_outside::{Cause, FileRefusal};
+use std::io::ErrorKind;
+
+/// Why a folder can't be opened.
+pub fn folder_cause(why: FolderRefusal) -> Cause {
+    match why {
+        FolderRefusal::Missing => Cause::Missing,
+        FolderRefusal::NotAFolder => Cause::NotAFolder,
+        FolderRefusal::InUse => Cause::InUse,
+        FolderRefusal::Failed(kind) => kind_cause(kind),
+        FolderRefusal::NoMemory => Cause::NoMemory,
+    }
+}
+
+/// Why a file isn't read.
+pub fn file_refusal(why: ReadRefusal) -> FileRefusal {
+    match why {
+        ReadRefusal::Missing => FileRefusal::MakeFault(Cause::Missing),
+        ReadRefusal::TooLong => FileRefusal::MakeFault(Cause::TooLong),
+        ReadRefusal::Failed(kind) => FileRefusal::MakeFault(kind_cause(kind)),
+        ReadRefusal::NoMemory => FileRefusal::NoMemory,
+    }
+}
+
+/// What an error of this kind is to a program.
+fn kind_cause(kind: ErrorKind) -> Cause {
+    match kind {
+        ErrorKind::PermissionDenied => Cause::Denied,
+        ErrorKind::StorageFull => Cause::Full,
+        ErrorKind::ReadOnlyFilesystem => Cause::Full,
+        _ => Cause::Other,
+    }
+}

@@ -1,0 +1,50 @@
+-- What the program does with its arguments, over an outside.
+use Rattle.std.specs.Prelude.{◌≡◌, ◌⊎◌, ℕ, Bool, List, Option, codes}
+use Rattle.day_rows.specs.declared.schema.Shape.{Shape}
+use Rattle.plant_words.specs.Asked.{Asked, init, once, IsAsked}
+use Rattle.plant_words.specs.declared.command.Ticking.{Ticking}
+use Rattle.program_outside.specs.Outside.{OutsideView, said_of, warned_of}
+use Rattle.q_values.specs.Limits.{standard_limits}
+use Rattle.q_values.specs.declared.limits.Limits.{Limits}
+use Rattle.plant_run.specs.Ends.{IsShort}
+use Rattle.plant_run.specs.Init.{FormatsIn}
+use Rattle.plant_run.specs.Once.{RunsWith}
+use Rattle.plant_run.specs.Tables.{HasTables, HasNoTables}
+
+-- the limits of a run, with or without batched publications
+abbrev pub limits_with : Bool → Limits
+limits_with batch = record standard_limits { batch = batch }
+
+-- a folder is formatted for the tables that are found first
+abbrev pub RunsInit : List ℕ → Option (List ℕ) → OutsideView → OutsideView → ℕ → Type 0
+RunsInit path schema old new status =
+    HasNoTables schema old new status ⊎ ((tables : List Shape) × ((seen : OutsideView) × HasTables schema tables old seen × FormatsIn tables path seen new status))
+
+-- a session is served within these limits, with the tables that are found first
+abbrev pub RunsOnce : Limits → Option (List ℕ) → Option (List ℕ) → Option Ticking → OutsideView → OutsideView → ℕ → Type 0
+RunsOnce limits folder schema ticking old new status =
+    HasNoTables schema old new status
+    ⊎ ((tables : List Shape) × ((seen : OutsideView) × HasTables schema tables old seen × RunsWith limits tables ticking folder seen new status))
+
+-- what the program does where its arguments ask for this
+abbrev pub RunsFor : Asked → OutsideView → OutsideView → ℕ → Type 0
+RunsFor (init path schema) old new status = RunsInit path schema old new status
+RunsFor (once folder schema ticking batch) old new status = RunsOnce (limits_with batch) folder schema ticking old new status
+
+-- a text is shown on standard output
+abbrev pub Shows : OutsideView → OutsideView → ℕ → Type 0
+Shows old new status = (text : List ℕ) × (status ≡ 0) × (new ≡ said_of old text)
+
+-- the arguments are faulty, and a second line says in which way
+abbrev pub TellsUsage : OutsideView → OutsideView → ℕ → Type 0
+TellsUsage old new status = (line : List ℕ) × (status ≡ 1) × (new ≡ warned_of (warned_of old (codes "plant: usage")) line)
+
+-- the arguments ask for nothing that the program does
+abbrev pub AsksNothing : List (List ℕ) → Type 0
+AsksNothing words = (asked : Asked) → IsAsked words asked → ⊥
+
+-- what the program does with these arguments
+abbrev pub Runs : List (List ℕ) → OutsideView → OutsideView → ℕ → Type 0
+Runs words old new status =
+    ((asked : Asked) × IsAsked words asked × RunsFor asked old new status)
+    ⊎ ((AsksNothing words × (Shows old new status ⊎ TellsUsage old new status)) ⊎ IsShort old new status)

@@ -1,0 +1,93 @@
+//! What the program does with its arguments.
+ghost use Rattle.std.specs.Prelude.{◌≡◌, codes, map, string_bytes};
+ghost use Rattle.std.specs.Option.{option_map};
+ghost use Rattle.program_outside.specs.Outside.{warned_of};
+ghost use Rattle.q_values.specs.Limits.{AreLimits};
+ghost use Rattle.plant_run.specs.Program.{Runs, RunsInit, RunsOnce, limits_with};
+
+use crate::ends::short;
+use crate::init::format_folder;
+use crate::once::serve_once;
+use crate::tables::find_tables;
+use plant_words::{Command, Init, Once, WordsRefusal, read_words};
+use program_outside::Outside;
+use q_values::Limits;
+use std::alloc::Global;
+use std::sync::Wait;
+
+/// Does all that the program does, and gives its exit status. The arguments are those after the program's own name.
+///
+/// First the arguments are judged, then the schema's file, then the folder. With each status but 0 a line is printed on
+/// standard error; where there is a cause to tell, with status 1 and 6, a second one says it.
+pub fn run<O: Outside, R: Wait>(rt: &R, alloc: Global, arguments: &[String], outside: &mut O) -> u8
+    ensures { Runs (map string_bytes arguments.now) (O.seen outside.old) (O.seen outside.new) result }
+{
+    match read_words(alloc, arguments) {
+        Ok(Command::Init(words)) => run_init(alloc, &words, outside),
+        Ok(Command::Once(words)) => run_once(rt, alloc, &words, &limits_with(words.batch), outside),
+        Err(WordsRefusal::Shown(text)) => {
+            outside.say(text.as_bytes());
+            0
+        }
+        Err(WordsRefusal::Usage(line)) => {
+            warn_of_usage(line.as_bytes(), outside);
+            1
+        }
+        Err(WordsRefusal::NoMemory) => short(outside),
+    }
+}
+
+/// Prints the two lines of a faulty command line: that it is one, and what is wrong.
+pub fn warn_of_usage<O: Outside>(line: &[u8], outside: &mut O)
+    ensures { O.seen outside.new ≡ warned_of (warned_of (O.seen outside.old) (codes "plant: usage")) line.now }
+{
+    outside.warn(b"plant: usage");
+    outside.warn(line);
+}
+
+/// The standard limits, with or without batched publications.
+fn limits_with(batch: bool) -> Limits
+    ensures limits { result ≡ limits_with batch }
+    ensures lawful { AreLimits result }
+{
+    Limits {
+        batch,
+        ..Limits::standard()
+    }
+}
+
+/// Formats a folder.
+fn run_init<O: Outside>(alloc: Global, words: &Init<'_>, outside: &mut O) -> u8
+    ensures { RunsInit words.now.folder.now (option_map (λ s. s.now) words.now.schema) (O.seen outside.old) (O.seen outside.new) result }
+{
+    match find_tables(alloc, words.schema, outside) {
+        Ok(schema) => format_folder(alloc, words.folder, &schema, outside),
+        Err(status) => status,
+    }
+}
+
+/// Serves one session within these limits.
+pub fn run_once<O: Outside, R: Wait>(
+    rt: &R,
+    alloc: Global,
+    words: &Once<'_>,
+    limits: &Limits,
+    outside: &mut O,
+) -> u8
+    requires { AreLimits limits.now }
+    ensures { RunsOnce limits.now (option_map (λ s. s.now) words.now.folder) (option_map (λ s. s.now) words.now.schema) words.now.clock
+        (O.seen outside.old) (O.seen outside.new) result }
+{
+    match find_tables(alloc, words.schema, outside) {
+        Ok(schema) => serve_once(
+            rt,
+            alloc,
+            words.folder,
+            schema,
+            words.clock,
+            limits,
+            outside,
+        ),
+        Err(status) => status,
+    }
+}

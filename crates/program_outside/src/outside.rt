@@ -1,0 +1,86 @@
+//! What makes the devices of a program.
+ghost use Rattle.std.specs.Prelude.{◌≡◌, IfOk, string_bytes};
+
+use crate::fault::{FileRefusal, MakeFault};
+use outside_api::{Clock, Disk, Gate, Link, Recorder};
+use std::alloc::Global;
+
+/// Makes the devices of a program, reads its files, prints its lines, and takes the devices back at its end.
+pub trait Outside {
+    ghost use Rattle.outside_api.specs.Disk.{DiskView};
+    ghost use Rattle.outside_api.specs.Link.{LinkView};
+    ghost use Rattle.outside_api.specs.Told.{HasToldNothing};
+    ghost use Rattle.program_outside.specs.Outside.{OutsideView, IsFresh, Makes, Opens, ReadsFile, said_of, warned_of, handed_back, kept_of};
+    ghost use Rattle.std.specs.Option.{option_map};
+
+    /// Its links.
+    type Link: Link;
+
+    /// The disks of its folders.
+    type Disk: Disk + Drop;
+
+    /// Its clocks.
+    type Clock: Clock;
+
+    /// Its gates.
+    type Gate: Gate + Drop;
+
+    /// Its recorders.
+    type Recorder: Recorder;
+
+    /// What it shows: what it made, read, printed and took back where it reports that, and its count of faults.
+    ghost seen: { Self → OutsideView };
+
+    /// The link of standard input and output. It has given and taken nothing, and its counts are 0.
+    fn standard(&mut self) -> Result<Self::Link, MakeFault>
+        ensures made { Makes (seen self.old) (seen self.new) result }
+        ensures fresh { IfOk result (λ link. IsFresh (Self.Link.shown link)) };
+
+    /// The disk of the folder of this path. Where another has it open, this is refused at once.
+    fn folder(&mut self, alloc: Global, path: &str) -> Result<Self::Disk, MakeFault>
+        ensures { Opens path.now (λ d. Self.Disk.shown d) (seen self.old) (seen self.new) result };
+
+    /// The same, but a folder that isn't there is made.
+    fn make_folder(&mut self, alloc: Global, path: &str) -> Result<Self::Disk, MakeFault>
+        ensures { Opens path.now (λ d. Self.Disk.shown d) (seen self.old) (seen self.new) result };
+
+    /// A clock that was never read.
+    fn clock(&mut self) -> Self::Clock
+        ensures same { seen self.new ≡ seen self.old }
+        ensures fresh { HasToldNothing (Self.Clock.readings result) };
+
+    /// A gate.
+    fn gate(&mut self) -> Self::Gate
+        ensures { seen self.new ≡ seen self.old };
+
+    /// A recorder that has noted nothing.
+    fn recorder(&mut self) -> Self::Recorder
+        ensures same { seen self.new ≡ seen self.old }
+        ensures fresh { HasToldNothing (Self.Recorder.noted result) };
+
+    /// The bytes of the file of this path.
+    fn read_file(&mut self, alloc: Global, path: &str) -> Result<Vec<u8>, FileRefusal>
+        ensures { ReadsFile path.now (λ v. v.items) (seen self.old) (seen self.new) result };
+
+    /// Prints a line on standard output.
+    fn say(&mut self, line: &[u8])
+        ensures { seen self.new ≡ said_of (seen self.old) line.now };
+
+    /// Prints a line on standard error.
+    fn warn(&mut self, line: &[u8])
+        ensures { seen self.new ≡ warned_of (seen self.old) line.now };
+
+    /// Takes back a link with the clock and the recorder that were made for it, or a clock alone that was made for no link.
+    fn back(
+        &mut self,
+        link: Option<Self::Link>,
+        clock: Option<Self::Clock>,
+        recorder: Option<Self::Recorder>,
+    )
+        ensures { seen self.new ≡ handed_back (seen self.old) (option_map (λ l. Self.Link.shown l) link)
+            (option_map (λ c. Self.Clock.readings c) clock) (option_map (λ r. Self.Recorder.noted r) recorder) };
+
+    /// Takes back the disk of a folder.
+    fn keep(&mut self, disk: Self::Disk)
+        ensures { seen self.new ≡ kept_of (seen self.old) (Self.Disk.shown disk) };
+}
