@@ -50,8 +50,7 @@ impl<'a, R, E> StandardOutside<'a, R, E> {
 }
 
 impl<'a, R: Files<File = File>, E> StandardOutside<'a, R, E> {
-    ghost use Rattle.std.specs.Prelude.{◌≡◌, Result};
-    ghost use Rattle.outside_api.specs.Disk.{DiskView};
+    ghost use Rattle.std.specs.Prelude.{List, ℕ};
     ghost use Rattle.outside_real.specs.FolderDisk.{disk_shown};
     ghost use Rattle.program_outside.specs.Outside.{Opens};
     ghost use Rattle.plant_edge.specs.Outside.{silent_outside};
@@ -80,8 +79,7 @@ impl<'a, R: Input + Print + Clock + Files<File = File>, E: Write + Drop> Outside
     for StandardOutside<'a, R, E> {
     ghost use Rattle.std.specs.Prelude.{◌≡◌};
     ghost use Rattle.std.specs.Option.{option_map};
-    ghost use Rattle.outside_real.specs.FolderDisk.{disk_shown};
-    ghost use Rattle.program_outside.specs.Outside.{handed_back, kept_of};
+    ghost use Rattle.program_outside.specs.Outside.{handed_back};
     ghost use Rattle.plant_edge.specs.Link.{link_shown};
     ghost use Rattle.plant_edge.specs.Outside.{silent_outside, silent_recorder};
 
@@ -153,7 +151,10 @@ impl<'a, R: Input + Print + Clock + Files<File = File>, E: Write + Drop> Outside
         link: Option<Self::Link>,
         clock: Option<RealClock<&'a R>>,
         recorder: Option<SilentRecorder>,
-    ) {
+    )
+        ensures { silent_outside self.new ≡ handed_back (silent_outside self.old) (option_map (λ l. link_shown l) link.entry)
+            (option_map (λ c. None) clock.entry) (option_map (λ r. silent_recorder r) recorder) }
+    {
         let _handed = (link, clock, recorder);
     }
 
