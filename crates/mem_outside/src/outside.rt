@@ -95,21 +95,19 @@ pub struct MemOutside {
 }
 
 impl Model for MemOutside {
-    ghost use Rattle.std.specs.Prelude.{◌≡◌, [], Some, map, IfSome};
-    ghost use Rattle.program_outside.specs.Outside.{OutsideView};
-    ghost use Rattle.outside_mem.specs.MemDisk.{shown_by};
-    ghost use Rattle.mem_outside.specs.Outside.{AreUnused, back_of, opened_of, file_of};
+    ghost use Rattle.std.specs.Prelude.{◌≡◌, map, IfSome};
+    ghost use Rattle.mem_outside.specs.Outside.{MemOutsideView, AreUnused, back_of, opened_of, file_of};
 
-    ghost Value = { OutsideView };
+    ghost Value = { MemOutsideView };
 
     ghost view = { λ o. record {
       make_faults = o.make_faults;
-      opened = Some (map opened_of o.opened);
-      files = Some (map file_of o.files);
-      said = Some o.said;
-      warned = Some o.warned;
-      backs = Some (map back_of o.backs);
-      kept = Some (map shown_by o.kept);
+      opened = map opened_of o.opened;
+      files = map file_of o.files;
+      said = o.said;
+      warned = o.warned;
+      backs = map back_of o.backs;
+      kept = o.kept;
     } };
 
     ghost invariant = { λ o. AreUnused o.devices
@@ -120,15 +118,14 @@ impl Model for MemOutside {
 
 impl MemOutside {
     ghost use Rattle.std.specs.Prelude.{map};
-    ghost use Rattle.program_outside.specs.Outside.{with_fault, read_of};
-    ghost use Rattle.program_outside.specs.Outside as outside;
+    ghost use Rattle.program_outside.specs.Outside.{with_fault, read_of, opened_of};
     ghost use Rattle.outside_mem.specs.MemDisk.{shown_by};
-    ghost use Rattle.mem_outside.specs.Outside.{AreUnused, back_of};
+    ghost use Rattle.mem_outside.specs.Outside.{AreUnused, back_of, outside_shown};
 
     /// An outside that gives these devices.
     pub fn new(alloc: Global, devices: MemDevices) -> MemOutside
         requires { AreUnused devices }
-        ensures { result ≡ record { make_faults = 0; opened = Some []; files = Some []; said = Some []; warned = Some []; backs = Some []; kept = Some [] } }
+        ensures { result ≡ record { make_faults = 0; opened = []; files = []; said = []; warned = []; backs = []; kept = [] } }
     {
         MemOutside {
             alloc,
@@ -149,21 +146,21 @@ impl MemOutside {
 
     /// The lines printed on standard output; none where it was out of memory for one.
     pub fn said(&self) -> Option<&[Text]>
-        ensures { IfSome result (λ lines. self.now.said ≡ Some lines.now) }
+        ensures { IfSome result (λ lines. self.now.said ≡ lines.now) }
     {
         self.outputs.as_ref().map(|lines| lines.as_slice())
     }
 
     /// The lines printed on standard error; none where it was out of memory for one.
     pub fn warned(&self) -> Option<&[Text]>
-        ensures { IfSome result (λ lines. self.now.warned ≡ Some lines.now) }
+        ensures { IfSome result (λ lines. self.now.warned ≡ lines.now) }
     {
         self.lines.as_ref().map(|lines| lines.as_slice())
     }
 
     /// What was handed back; none where it was out of memory for one.
     pub fn backs(&self) -> Option<&[Handed]>
-        ensures { IfSome result (λ handed. self.now.backs ≡ Some (map back_of handed.now)) }
+        ensures { IfSome result (λ handed. self.now.backs ≡ map back_of handed.now) }
     {
         self.handed.as_ref().map(|handed| handed.as_slice())
     }
@@ -183,7 +180,7 @@ impl MemOutside {
 
     // A fault, which is counted.
     fn fault(&mut self, cause: Cause) -> MakeFault
-        ensures { self.new ≡ with_fault self.old }
+        ensures { outside_shown self.new ≡ with_fault (outside_shown self.old) }
     {
         self.make_faults = self.make_faults.saturating_add(1);
         MakeFault { cause }
@@ -191,7 +188,7 @@ impl MemOutside {
 
     // Notes that a file was read.
     fn note_read(&mut self, path: &str, bytes: &[u8])
-        ensures { self.new ≡ read_of self.old path.now bytes.now }
+        ensures { outside_shown self.new ≡ read_of (outside_shown self.old) path.now bytes.now }
     {
         let mut path_told = History::new();
         path_told.extend(path.as_bytes());
@@ -205,7 +202,7 @@ impl MemOutside {
 
     // Notes that a folder was opened.
     fn note_opened(&mut self, path: &str, disk: &MemDisk)
-        ensures { self.new ≡ outside.opened_of self.old path.now (shown_by disk.now) }
+        ensures { outside_shown self.new ≡ opened_of (outside_shown self.old) path.now (shown_by disk.now) }
     {
         let mut told = History::new();
         told.extend(path.as_bytes());
@@ -217,7 +214,10 @@ impl MemOutside {
 }
 
 impl Outside for MemOutside {
-    ghost use Rattle.std.specs.Prelude.{None};
+    ghost use Rattle.std.specs.Option.{option_map};
+    ghost use Rattle.outside_mem.specs.Recorder.{noted_by};
+    ghost use Rattle.program_outside.specs.Outside.{handed_back};
+    ghost use Rattle.mem_outside.specs.Outside.{outside_shown};
 
     type Link = MemLink;
 
@@ -229,7 +229,7 @@ impl Outside for MemOutside {
 
     type Recorder = MemRecorder;
 
-    ghost seen = { λ o. o };
+    ghost seen = { outside_shown };
 
     fn standard(&mut self) -> Result<MemLink, MakeFault> {
         match self.devices.link.take() {
@@ -317,7 +317,10 @@ impl Outside for MemOutside {
         link: Option<MemLink>,
         clock: Option<SteadyClock>,
         recorder: Option<MemRecorder>,
-    ) {
+    )
+        ensures { outside_shown self.new ≡ handed_back (outside_shown self.old) (option_map (λ l. l.shown) link) (option_map (λ c. Some c.given) clock)
+            (option_map noted_by recorder) }
+    {
         let handed = Handed {
             link,
             clock,

@@ -20,11 +20,13 @@ goes-on limits tables plant origin disk_old disk_new clock_old clock_read clock_
     (went.0, record { first = first; read = went.1 ∙ read; plant = plant; is_plant = loaded })
 goes-on limits tables plant origin disk_old disk_new clock_old clock_read clock_new first old new (ended link notes end) loaded read went =
     let on = went.1 in
-    let session : Option (List ℤ) → Type 0 = λ readings. IsSession limits (world on.link_old readings on.notes_old (solo_of plant)) (world link clock_new notes on.access) end in
-    (went.0, record {
-      link_old = on.link_old;
-      notes_old = on.notes_old;
-      fresh = on.fresh;
-      unnoted = on.unnoted;
-      sits = record { first = first; plant = plant; is_plant = loaded; access = on.access; session = subst session read on.session };
-    })
+    let session : Option (List ℤ) → Type 0 = λ readings. IsSession limits (world on.link_old readings on.notes_old (solo_of plant)) (world link clock_new notes on.access) end in (
+      went.0,
+      record {
+        link_old = on.link_old;
+        notes_old = on.notes_old;
+        fresh = on.fresh;
+        unnoted = on.unnoted;
+        sits = record { first = first; plant = plant; is_plant = loaded; access = on.access; session = subst session read on.session };
+      },
+    )

@@ -9,8 +9,8 @@ returns g c = inr (
   shown_by c.serve_timed-disk.result.0,
   refl,
   (λ date plant p. new-is c.files_restart_once.ensures (shown_by c.format.new.disk) c.args.schema date c.args.limits.now plant
-    (rw c.schema.view_is at c.schema.invariant) refl (c.in-Ok.ensures.restarts refl plant.frame.first) (c.in-Ok.ensures.manifest refl)
-    p.loaded p.tables_are p.limits_are),
+      (rw c.schema.view_is at c.schema.invariant) refl (c.in-Ok.ensures.restarts refl plant.frame.first) (c.in-Ok.ensures.manifest refl)
+      p.loaded p.tables_are p.limits_are),
   record {
     course = _;
     between = g.O.Outside.seen c.serve_timed-disk.new.outside;

@@ -3,8 +3,10 @@ use Rattle.plant_run.proofs.program.run.Goals as goal
 
 pub returns-in-Err-Shown : goal.returns-in-Err-Shown
 returns-in-Err-Shown g c =
-    inr (inl ((λ asked is. c.in-Err-Shown.ensures.asked asked is), inl (c.as_bytes.result.now, refl, c.say.ensures)))
+    let asks = c.in-Err-Shown in
+    inr (inl ((λ asked is. rw asks.field-0-is at (asks.ensures.asked asked is)), inl (c.as_bytes.result.now, refl, c.say.ensures)))
 
 pub returns-in-Err-Usage : goal.returns-in-Err-Usage
 returns-in-Err-Usage g c =
-    inr (inl ((λ asked is. c.in-Err-Usage.ensures.asked asked is), inr (c.as_bytes-in-Err-Usage.result.now, refl, c.warn_of_usage.ensures)))
+    let asks = c.in-Err-Usage in
+    inr (inl ((λ asked is. rw asks.field-0-is at (asks.ensures.asked asked is)), inr (c.as_bytes-in-Err-Usage.result.now, refl, c.warn_of_usage.ensures)))
