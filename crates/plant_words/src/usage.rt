@@ -78,7 +78,7 @@ fn batch<'a>(alloc: Global) -> Arg<'a> {
     Arg::new(alloc, "batch")
         .long("batch")
         .action(ArgAction::SetTrue)
-        .help("Logs the updates that were read together as one group")
+        .help("Joined publications; no session publishes yet")
 }
 
 fn once<'a>(alloc: Global) -> Result<Command<'a>, Error> {
