@@ -10,7 +10,7 @@ import subprocess
 import tempfile
 import unittest
 
-from plant_client import Atom, Client, Error
+from plant_client import Client, Error
 
 ROOT = os.path.join(os.path.dirname(os.path.abspath(__file__)), "..", "..")
 PLANT = os.environ.get("PLANT", os.path.join(ROOT, "bin", "plant"))
@@ -19,7 +19,7 @@ MANIFEST = "f0"
 HALF_PAST_NINE = datetime.timedelta(hours=9, minutes=30)
 
 TWO_TABLES = """/ two tables of a desk
-fills:([]time:`timespan$();sym:`symbol$();size:`long$();side:`char$())
+fills:([]time:`timespan$();sym:`symbol$();size:`long$();buy:`boolean$())
 marks:([]time:`timespan$();sym:`symbol$();mark:`long$())
 """
 
@@ -105,7 +105,7 @@ class Folders(unittest.TestCase):
         schema = self.write("desk.q", TWO_TABLES.encode())
         self.init("--schema", schema)
         with self.once("--schema", schema) as plant:
-            plant.update("fills", HALF_PAST_NINE, "KX", 5, Atom("char", b"b"))
+            plant.update("fills", HALF_PAST_NINE, "KX", 5, True)
             plant.update("marks", HALF_PAST_NINE, "KX", 7)
             with self.assertRaises(Error):
                 plant.query("select from trade")
