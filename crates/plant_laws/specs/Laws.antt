@@ -37,7 +37,7 @@ NoCause =
     (disk : DiskView) (schema : List Shape) (date : ℤ) (memory : MemoryView) (why : LoadRefusal) → IsSchema schema → IsTrue disk.tells
     → IsLoaded disk schema date memory → LoadRefuses disk schema date why → IsFree why
 
--- two refusals have the same cause, or one is for want of memory or for a fault of the disk
+-- two refusals have the same cause, or one is out of memory or a fault of the disk
 abbrev pub AreAlike : LoadRefusal → LoadRefusal → Type 0
 AreAlike l.DiskFault those = Unit {0}
 AreAlike l.NoMemory those = Unit {0}

@@ -21,7 +21,7 @@ pub fn found_again()
 }
 
 /// A load ends in one way: what it gives in place of a refusal shows that no cause of one holds, and at most one cause holds.
-/// So each refusal but those for want of memory and for a fault of the disk comes exactly where its cause holds and none
+/// So each refusal but out of memory and a fault of the disk comes exactly where its cause holds and none
 /// before it, unless the disk fails or memory runs out.
 pub fn a_load_ends_in_one_way()
     ensures none { NoCause }

@@ -50,7 +50,7 @@ printed seen (Some line) = warned_of seen line
 abbrev pub Concludes : End → OutsideView → OutsideView → ℕ → Type 0
 Concludes end old new status = (status ≡ status_of end) × (new ≡ printed old (line_of end))
 
--- the program ends for want of memory
+-- the program ends since it is out of memory
 abbrev pub IsShort : OutsideView → OutsideView → ℕ → Type 0
 IsShort old new status = (status ≡ 7) × (new ≡ warned_of old (codes "plant: wsfull"))
 

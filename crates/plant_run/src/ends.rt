@@ -57,7 +57,7 @@ pub fn warned<O: Outside>(outside: &mut O, line: &[u8], status: u8) -> u8
     status
 }
 
-/// Ends the program for want of memory.
+/// Ends the program, which is out of memory.
 pub fn short<O: Outside>(outside: &mut O) -> u8
     ensures { IsShort (O.seen outside.old) (O.seen outside.new) result }
 {

@@ -1,7 +1,7 @@
 //! The command line of the program: what its words ask for.
 //!
 //! [`read_words`] reads the words after the program's name. It gives the [`Command`] that they ask for, or a
-//! [`WordsRefusal`]: help or the version to show, one line that says what is wrong, or want of memory. It prints nothing.
+//! [`WordsRefusal`]: help or the version to show, one line that says what is wrong, or out of memory. It prints nothing.
 //!
 //! ```text
 //! init --dir FOLDER [--schema FILE]
