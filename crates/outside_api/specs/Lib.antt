@@ -2,6 +2,5 @@ pub mod Calls
 pub mod Counts
 pub mod Disk
 pub mod Link
-pub mod Outside
 pub mod Told
 pub use Rattle.q_values.specs.Limits

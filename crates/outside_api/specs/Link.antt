@@ -1,6 +1,6 @@
 -- What a link shows, and what its calls change.
 use Rattle.std.specs.Prelude.{◌≡◌, ◌<◌, ◌≤◌, ℕ, Bool, true, false, List, take, length, Option, Some, Result, Ok, Err}
-use Rattle.outside_api.specs.Told.{told}
+use Rattle.outside_api.specs.Told.{told, HasToldNothing}
 use Rattle.outside_api.specs.Counts.{counted}
 use Rattle.outside_api.specs.declared.link.Got.{Got}
 use Rattle.outside_api.specs.declared.link.Got.TheVariants.{Bytes, End, Idle, Failed}
@@ -19,6 +19,15 @@ pub record LinkView : Type 0 where
   pub read_faults : ℕ
   pub write_faults : ℕ
   pub idles : ℕ
+
+-- a link that nothing has passed through
+pub record IsFresh (link : LinkView) : Type 0 where
+  pub given : HasToldNothing link.given
+  pub taken : HasToldNothing link.taken
+  pub not_ended : link.ended ≡ false
+  pub read_faults : link.read_faults ≡ 0
+  pub write_faults : link.write_faults ≡ 0
+  pub idles : link.idles ≡ 0
 
 -- none of the input is left, where the link reports its input and what it gave of it
 abbrev pub HasGivenAll : LinkView → Type 0

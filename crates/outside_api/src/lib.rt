@@ -1,4 +1,4 @@
-//! What a plant uses of the world outside, as traits: a link, a disk, a clock, a gate, a recorder, and what makes them.
+//! What a plant uses of the world outside, as traits: a link, a disk, a clock, a gate and a recorder.
 //!
 //! Each call of the plant that reads, writes or waits is generic over these traits, and its contract speaks of what the
 //! device shows before and after. A device may report what passed through it (a [`Link`] the bytes given and taken, a
@@ -23,7 +23,6 @@ mod clock;
 mod disk;
 mod gate;
 mod link;
-mod outside;
 mod range;
 mod recorder;
 
@@ -31,6 +30,5 @@ pub use clock::Clock;
 pub use disk::{Disk, DiskFault};
 pub use gate::{Gate, Point};
 pub use link::{Got, Link, LinkFault};
-pub use outside::{MakeFault, Outside};
 pub use range::{RangeState, WrittenRange};
 pub use recorder::Recorder;

@@ -3,7 +3,6 @@ pub mod History
 pub mod Link
 pub mod MemDisk
 pub mod MemFile
-pub mod Outside
 pub mod Pieces
 pub mod Places
 pub mod Ranges

@@ -3,7 +3,7 @@
 //!
 //! [`MemLink`] reads a script of pieces, timeouts and faults, and keeps what it was written. [`MemDisk`] has numbered
 //! files; its calls fail where that is planned, and [`MemDisk::restart`] is the disk as a crash leaves it. Beside them
-//! [`MemClock`], [`SteadyClock`], [`MemRecorder`], [`MemOutside`] and [`NoGate`].
+//! [`MemClock`], [`SteadyClock`], [`MemRecorder`] and [`NoGate`].
 //!
 //! ```text
 //! let mut disk = MemDisk::new(alloc);
@@ -26,7 +26,6 @@ mod input;
 mod link;
 mod mem_disk;
 mod mem_file;
-mod outside;
 mod recorder;
 mod steady;
 mod taking;
@@ -38,7 +37,6 @@ pub use gate::NoGate;
 pub use input::Piece;
 pub use link::{MemLink, Pieces, Takings};
 pub use mem_disk::{Callings, MemDisk};
-pub use outside::{Handed, MemOutside};
 pub use recorder::MemRecorder;
 pub use steady::SteadyClock;
 pub use taking::Taking;

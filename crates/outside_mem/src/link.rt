@@ -70,8 +70,7 @@ impl Model for MemLink {
 
 impl MemLink {
     ghost use Rattle.std.specs.Prelude.{Some, true, ◌++◌};
-    ghost use Rattle.outside_api.specs.Link.{LinkView};
-    ghost use Rattle.outside_api.specs.Outside.{IsFresh};
+    ghost use Rattle.outside_api.specs.Link.{LinkView, IsFresh};
     ghost use Rattle.outside_mem.specs.Link.{new_link};
     ghost use Rattle.outside_mem.specs.Pieces.{bytes_of};
 

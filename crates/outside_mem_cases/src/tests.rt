@@ -1,8 +1,7 @@
 //! Each device used through its trait.
-use outside_api::{Clock, Gate, Got, Link, LinkFault, MakeFault, Outside, Point, Recorder};
+use outside_api::{Clock, Got, Link, LinkFault, Recorder};
 use outside_mem::{
-    Handed, MemClock, MemLink, MemOutside, MemRecorder, Moments, NoGate, Piece, Pieces,
-    SteadyClock, Taking, Takings,
+    MemClock, MemLink, MemRecorder, Moments, Piece, Pieces, SteadyClock, Taking, Takings,
 };
 use q_values::{NoMemory, Text, Turn};
 use std::alloc::Global;
@@ -30,22 +29,6 @@ fn note_lengths<N: Recorder>(recorder: &mut N, lengths: &[u64]) {
     for length in lengths {
         recorder.note(Turn::Answered { length: *length });
     }
-}
-
-fn pause_at<G: Gate>(gate: &mut G, point: Point) {
-    gate.pause(point);
-}
-
-fn use_once<O: Outside>(outside: &mut O) -> Result<(), MakeFault> {
-    let mut link = outside.standard()?;
-    let mut recorder = outside.recorder();
-    let mut gate = outside.gate();
-    pause_at(&mut gate, Point::Rolled);
-    let _written = write_to(&mut link, b"\x03");
-    note_lengths(&mut recorder, &[1]);
-    outside.warn(b"plant: idle");
-    outside.back(Some(link), Some(recorder));
-    Ok(())
 }
 
 fn pieces(alloc: Global) -> Result<Pieces, NoMemory> {
@@ -127,39 +110,5 @@ fn last_reading_is_repeated(rt: HostRuntime) -> Result<(), Fail> {
     moments.push(-7)?;
     assert_eq!(rt; moments_of(&mut MemClock::new(moments)), [5, -7, -7]);
     assert_eq!(rt; moments_of(&mut SteadyClock::new(9)), [9, 9, 9]);
-    Ok(())
-}
-
-fn first_line(outside: &MemOutside) -> Option<&[u8]> {
-    Some(outside.warned()?.first()?.as_slice())
-}
-
-fn first_taken(outside: &MemOutside) -> Option<&[u8]> {
-    Some(outside.backs()?.first()?.link.as_ref()?.taken())
-}
-
-fn first_turns(outside: &MemOutside) -> Option<&[Turn]> {
-    Some(outside.backs()?.first()?.recorder.as_ref()?.turns())
-}
-
-fn is_kept(outside: &MemOutside) -> bool {
-    first_line(outside) == Some(b"plant: idle".as_slice())
-        && first_taken(outside) == Some(b"\x03".as_slice())
-        && first_turns(outside) == Some([Turn::Answered { length: 1 }].as_slice())
-}
-
-fn outside_of(alloc: Global) -> Result<MemOutside, NoMemory> {
-    let link = MemLink::from_bytes(alloc, b"")?;
-    let recorder = MemRecorder::with_room(alloc, 4)?;
-    Ok(MemOutside::new(alloc, Some(link), recorder))
-}
-
-#[test]
-fn outside_keeps_what_it_is_told(rt: HostRuntime) -> Result<(), Fail> {
-    let mut outside = outside_of(rt.alloc())?;
-    assert!(rt; use_once(&mut outside).is_ok());
-    assert!(rt; use_once(&mut outside).is_err());
-    assert_eq!(rt; outside.make_faults(), 1);
-    assert!(rt; is_kept(&outside));
     Ok(())
 }

@@ -33,7 +33,7 @@ pub struct StandardLink<'a, R, I, O> {
 }
 
 impl<'a, R: Clock, I: Read, O: Write> StandardLink<'a, R, I, O> {
-    ghost use Rattle.program_outside.specs.Outside.{IsFresh};
+    ghost use Rattle.outside_api.specs.Link.{IsFresh};
     ghost use Rattle.plant_edge.specs.Link.{link_shown};
 
     /// A link that reads from `input` and writes to `output`, its counts 0.

@@ -6,7 +6,7 @@ use Rattle.date_loading.specs.declared.refusal.LoadRefusal.{LoadRefusal}
 use Rattle.date_loading.specs.declared.refusal.LoadRefusal.TheVariants as l
 use Rattle.mem_plant.specs.New.{IsNew}
 use Rattle.outside_api.specs.Disk.{DiskView}
-use Rattle.outside_api.specs.Link.{LinkView}
+use Rattle.outside_api.specs.Link.{LinkView, IsFresh}
 use Rattle.outside_api.specs.Told.{told, HasToldNothing}
 use Rattle.ticking_clock.specs.Clock.{ticks}
 use Rattle.plant_core.specs.Access.{AccessView}
@@ -14,7 +14,7 @@ use Rattle.plant_core.specs.Load.{IsLoaded, LoadRefuses}
 use Rattle.plant_memory.specs.Chronicle.{moment_date, top_by}
 use Rattle.plant_memory.specs.Memory.{MemoryView}
 use Rattle.plant_words.specs.declared.command.Ticking.{Ticking}
-use Rattle.program_outside.specs.Outside.{OutsideView, IsFresh, with_fault, opened_of, handed_back, kept_of}
+use Rattle.program_outside.specs.Outside.{OutsideView, with_fault, opened_of, handed_back, kept_of}
 use Rattle.q_values.specs.declared.limits.Limits.{Limits}
 use Rattle.q_values.specs.declared.turn.Turn.{Turn}
 use Rattle.session.specs.Run.{world}

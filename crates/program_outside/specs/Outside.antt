@@ -49,15 +49,6 @@ pub record OutsideView : Type 0 where
   pub backs : Option (List Back)
   pub kept : Option (List DiskView)
 
--- a link that nothing has passed through
-pub record IsFresh (link : LinkView) : Type 0 where
-  pub given : HasToldNothing link.given
-  pub taken : HasToldNothing link.taken
-  pub not_ended : link.ended ≡ false
-  pub read_faults : link.read_faults ≡ 0
-  pub write_faults : link.write_faults ≡ 0
-  pub idles : link.idles ≡ 0
-
 -- after something couldn't be made or read
 abbrev pub with_fault : OutsideView → OutsideView
 with_fault old = record old { make_faults = counted old.make_faults 1 }

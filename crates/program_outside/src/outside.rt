@@ -8,9 +8,9 @@ use std::alloc::Global;
 /// Makes the devices of a program, reads its files, prints its lines, and takes the devices back at its end.
 pub trait Outside {
     ghost use Rattle.outside_api.specs.Disk.{DiskView};
-    ghost use Rattle.outside_api.specs.Link.{LinkView};
+    ghost use Rattle.outside_api.specs.Link.{LinkView, IsFresh};
     ghost use Rattle.outside_api.specs.Told.{HasToldNothing};
-    ghost use Rattle.program_outside.specs.Outside.{OutsideView, IsFresh, Makes, Opens, ReadsFile, said_of, warned_of, handed_back, kept_of};
+    ghost use Rattle.program_outside.specs.Outside.{OutsideView, Makes, Opens, ReadsFile, said_of, warned_of, handed_back, kept_of};
     ghost use Rattle.std.specs.Option.{option_map};
 
     /// Its links.
