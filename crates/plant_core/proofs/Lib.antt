@@ -3,3 +3,4 @@ pub mod LogLemmas
 pub mod ManifestLemmas
 pub mod PlantLemmas
 pub mod SoloLemmas
+pub mod TurnLemmas

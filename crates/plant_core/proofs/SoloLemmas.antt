@@ -1,6 +1,7 @@
 -- What a pass that is alone sees.
 use Rattle.std.proofs.Common.{◌≡◌, ℕ, ℤ, pos, drop, ◌≤◌, ◌∷◌, ◌++◌, [], List, length, refl, sym, ap, ◌∙◌, arith, append-nil, true, false, Bool, Option, None}
 use Rattle.std.proofs.lemmas.List.{length-append, drop-append-le}
+use Rattle.outside_api.specs.Disk.{DiskView}
 use Rattle.q_values.specs.Tree.{Tree}
 use Rattle.day_rows.specs.Chronicle.{date_of, is_logged}
 use Rattle.day_rows.specs.declared.entry.Entry.{Entry}
@@ -37,65 +38,65 @@ roll_faults old new update place rolls frame entries at = record {
 saw_nothing : (old : AccessView) → SeesMore old []
 saw_nothing old = record { alone = λ _. refl }
 
-pub waits_alone : (plant : MemoryView) (by began snapshots ticks after : ℕ) (now : ℤ) (length_now : ℕ) → false ≡ is_next_day (date_of plant.frame.first plant.entries) now → length_now ≡ length plant.entries → after ≡ next_count ticks
-    → Waits (access_of plant by began snapshots ticks) (access_of plant by began snapshots after) now length_now
-waits_alone plant by began snapshots ticks after now length_now early at more = record {
+pub waits_alone : (origin later : DiskView) → later ≡ origin → (plant : MemoryView) (by began snapshots ticks after : ℕ) (now : ℤ) (length_now : ℕ) → false ≡ is_next_day (date_of plant.frame.first plant.entries) now → length_now ≡ length plant.entries → after ≡ next_count ticks
+    → Waits (access_of origin plant by began snapshots ticks) (access_of later plant by began snapshots after) now length_now
+waits_alone origin later kept plant by began snapshots ticks after now length_now early at more = record {
   others = [];
-  saw = saw_nothing (access_of plant by began snapshots ticks);
+  saw = saw_nothing (access_of origin plant by began snapshots ticks);
   early = rw (append-nil plant.entries) (sym early);
   length = rw (append-nil plant.entries) at;
-  after = rw (append-nil plant.entries, more) refl;
+  after = rw (kept, append-nil plant.entries, more) refl;
 }
 
-pub rolls_alone : (plant new : MemoryView) (by began snapshots ticks after : ℕ) (now : ℤ) (place : ℕ) → true ≡ is_next_day (date_of plant.frame.first plant.entries) now → place ≡ length plant.entries → after ≡ next_count ticks
-    → new.frame ≡ plant.frame → new.entries ≡ plant.entries ++ next_roll plant.frame.first plant.entries by ∷ [] → began ≤ length plant.entries → Rolls (access_of plant by began snapshots ticks) (access_of new by began snapshots after) now place
-rolls_alone plant new by began snapshots ticks after now place is at more frame made within = record {
+pub rolls_alone : (origin later : DiskView) → later ≡ origin → (plant new : MemoryView) (by began snapshots ticks after : ℕ) (now : ℤ) (place : ℕ) → true ≡ is_next_day (date_of plant.frame.first plant.entries) now → place ≡ length plant.entries → after ≡ next_count ticks
+    → new.frame ≡ plant.frame → new.entries ≡ plant.entries ++ next_roll plant.frame.first plant.entries by ∷ [] → began ≤ length plant.entries → Rolls (access_of origin plant by began snapshots ticks) (access_of later new by began snapshots after) now place
+rolls_alone origin later kept plant new by began snapshots ticks after now place is at more frame made within = record {
   others = [];
-  saw = saw_nothing (access_of plant by began snapshots ticks);
+  saw = saw_nothing (access_of origin plant by began snapshots ticks);
   due = rw (append-nil plant.entries) (sym is);
   at_end = rw (append-nil plant.entries) at;
-  after = rw (append-nil plant.entries, more, frame, made, drop-append-le began plant.entries (next_roll plant.frame.first plant.entries by ∷ []) within) refl;
+  after = rw (kept, append-nil plant.entries, more, frame, made, drop-append-le began plant.entries (next_roll plant.frame.first plant.entries by ∷ []) within) refl;
 }
 
-pub wants_alone : (plant new : MemoryView) (by began snapshots ticks after : ℕ) (now : ℤ) → true ≡ is_next_day (date_of plant.frame.first plant.entries) now → after ≡ next_count ticks → new.frame ≡ plant.frame → new.entries ≡ plant.entries
-    → Wants (access_of plant by began snapshots ticks) (access_of new by began snapshots after) now
-wants_alone plant new by began snapshots ticks after now is more frame entries = record {
+pub wants_alone : (origin later : DiskView) → later ≡ origin → (plant new : MemoryView) (by began snapshots ticks after : ℕ) (now : ℤ) → true ≡ is_next_day (date_of plant.frame.first plant.entries) now → after ≡ next_count ticks → new.frame ≡ plant.frame → new.entries ≡ plant.entries
+    → Wants (access_of origin plant by began snapshots ticks) (access_of later new by began snapshots after) now
+wants_alone origin later kept plant new by began snapshots ticks after now is more frame entries = record {
   others = [];
-  saw = saw_nothing (access_of plant by began snapshots ticks);
+  saw = saw_nothing (access_of origin plant by began snapshots ticks);
   due = rw (append-nil plant.entries) (sym is);
-  after = rw (append-nil plant.entries, more, frame, entries) refl;
+  after = rw (kept, append-nil plant.entries, more, frame, entries) refl;
 }
 
-pub looks_alone : (plant new : MemoryView) (by began snapshots ticks : ℕ) (table : List ℕ) (items : List Tree) (now : ℤ) (length_now : ℕ) (why : UpdRefusal) → new.frame ≡ plant.frame → new.entries ≡ plant.entries → length_now ≡ length plant.entries
-    → IsRefusal (verdict plant.frame by plant.entries table items now) why → Looks (access_of plant by began snapshots ticks) (access_of new by began snapshots ticks) table items now length_now why
-looks_alone plant new by began snapshots ticks table items now length_now why frame entries at refused = record {
+pub looks_alone : (origin later : DiskView) → later ≡ origin → (plant new : MemoryView) (by began snapshots ticks : ℕ) (table : List ℕ) (items : List Tree) (now : ℤ) (length_now : ℕ) (why : UpdRefusal) → new.frame ≡ plant.frame → new.entries ≡ plant.entries → length_now ≡ length plant.entries
+    → IsRefusal (verdict plant.frame by plant.entries table items now) why → Looks (access_of origin plant by began snapshots ticks) (access_of later new by began snapshots ticks) table items now length_now why
+looks_alone origin later kept plant new by began snapshots ticks table items now length_now why frame entries at refused = record {
   others = [];
-  saw = saw_nothing (access_of plant by began snapshots ticks);
+  saw = saw_nothing (access_of origin plant by began snapshots ticks);
   refused = rw (append-nil plant.entries) refused;
   length = rw (append-nil plant.entries) at;
-  after = rw (append-nil plant.entries, frame, entries) refl;
+  after = rw (kept, append-nil plant.entries, frame, entries) refl;
 }
 
-pub logs_alone : (plant prepared new : MemoryView) (by began snapshots ticks : ℕ) (table : List ℕ) (items : List Tree) (now : ℤ) (update : PreparedView) (rolled : Option ℕ) (place : ℕ) → Prepares plant prepared by table items now update
-    → Adds prepared new (due update ++ update.entry ∷ []) rolled place → began ≤ length plant.entries → Logs (access_of plant by began snapshots ticks) (access_of new by began snapshots ticks) table items now rolled place
-logs_alone plant prepared new by began snapshots ticks table items now update rolled place p a within =
+pub logs_alone : (origin later : DiskView) → later ≡ origin → (plant prepared new : MemoryView) (by began snapshots ticks : ℕ) (table : List ℕ) (items : List Tree) (now : ℤ) (update : PreparedView) (rolled : Option ℕ) (place : ℕ) → Prepares plant prepared by table items now update
+    → Adds prepared new (due update ++ update.entry ∷ []) rolled place → began ≤ length plant.entries → Logs (access_of origin plant by began snapshots ticks) (access_of later new by began snapshots ticks) table items now rolled place
+logs_alone origin later kept plant prepared new by began snapshots ticks table items now update rolled place p a within =
     let entries = due update ++ update.entry ∷ [] in
     let same : prepared.entries ≡ plant.entries = ap (λ (x : MemoryView). x.entries) p.after in
     let frame : new.frame ≡ plant.frame = a.frame ∙ ap (λ (x : MemoryView). x.frame) p.after in
     let whole : new.entries ≡ plant.entries ++ entries = a.whole ∙ ap (λ es. es ++ entries) same in
     record {
       others = [];
-      saw = saw_nothing (access_of plant by began snapshots ticks);
+      saw = saw_nothing (access_of origin plant by began snapshots ticks);
       entries = entries;
       accepted = rw (append-nil plant.entries) p.accepted;
       rolled_is = rw (append-nil plant.entries) (a.rolled_is ∙ ap (λ es. roll_place (length es) entries) same);
       last = rw (append-nil plant.entries) (a.last ∙ ap (λ es. length (es ++ entries)) same);
-      after = rw (append-nil plant.entries, frame, whole, drop-append-le began plant.entries entries within) refl;
+      after = rw (kept, append-nil plant.entries, frame, whole, drop-append-le began plant.entries entries within) refl;
     }
 
-pub fails_alone : (plant prepared new : MemoryView) (by began snapshots ticks : ℕ) (table : List ℕ) (items : List Tree) (now : ℤ) (update : PreparedView) (rolled : Option ℕ) (place : ℕ) → Prepares plant prepared by table items now update
-    → Faults prepared new update.by (additions update) rolled place → began ≤ length plant.entries → Fails (access_of plant by began snapshots ticks) (access_of new by began snapshots ticks) table items now rolled place
-fails_alone plant prepared new by began snapshots ticks table items now update rolled place p f within =
+pub fails_alone : (origin later : DiskView) → later ≡ origin → (plant prepared new : MemoryView) (by began snapshots ticks : ℕ) (table : List ℕ) (items : List Tree) (now : ℤ) (update : PreparedView) (rolled : Option ℕ) (place : ℕ) → Prepares plant prepared by table items now update
+    → Faults prepared new update.by (additions update) rolled place → began ≤ length plant.entries → Fails (access_of origin plant by began snapshots ticks) (access_of later new by began snapshots ticks) table items now rolled place
+fails_alone origin later kept plant prepared new by began snapshots ticks table items now update rolled place p f within =
     let same : prepared.entries ≡ plant.entries = ap (λ (x : MemoryView). x.entries) p.after in
     let frame : new.frame ≡ plant.frame = f.frame ∙ ap (λ (x : MemoryView). x.frame) p.after in
     let whole : new.entries ≡ (plant.entries ++ f.before) ++ e.Fault by ∷ [] = f.whole ∙ (λ i. same i ++ f.before ++ e.Fault (p.own i) ∷ []) in
@@ -104,27 +105,27 @@ fails_alone plant prepared new by began snapshots ticks table items now update r
     drop-append-le began (plant.entries ++ f.before) (e.Fault by ∷ []) longer ∙ ap (λ l. l ++ e.Fault by ∷ []) (drop-append-le began plant.entries f.before within) in
     record {
       others = [];
-      saw = saw_nothing (access_of plant by began snapshots ticks);
+      saw = saw_nothing (access_of origin plant by began snapshots ticks);
       before = f.before;
       failed = f.failed;
       rest = f.rest;
       accepted = rw (append-nil plant.entries) (p.accepted ∙ ap accepts f.split);
       rolled_is = rw (append-nil plant.entries) (f.rolled_is ∙ ap (λ es. roll_place (length es) f.before) same);
       last = rw (append-nil plant.entries) (f.last ∙ ap (λ es. length (es ++ f.before)) same);
-      after = rw (append-nil plant.entries, frame, whole, mine) refl;
+      after = rw (kept, append-nil plant.entries, frame, whole, mine) refl;
     }
 
-pub fails_roll_alone : (plant new : MemoryView) (by began snapshots ticks after : ℕ) (now : ℤ) (place : ℕ) → true ≡ is_next_day (date_of plant.frame.first plant.entries) now → place ≡ length plant.entries → after ≡ next_count ticks
-    → new.frame ≡ plant.frame → new.entries ≡ plant.entries ++ e.Fault by ∷ [] → began ≤ length plant.entries → FailsRoll (access_of plant by began snapshots ticks) (access_of new by began snapshots after) now place
-fails_roll_alone plant new by began snapshots ticks after now place is at more frame made within = record {
+pub fails_roll_alone : (origin later : DiskView) → later ≡ origin → (plant new : MemoryView) (by began snapshots ticks after : ℕ) (now : ℤ) (place : ℕ) → true ≡ is_next_day (date_of plant.frame.first plant.entries) now → place ≡ length plant.entries → after ≡ next_count ticks
+    → new.frame ≡ plant.frame → new.entries ≡ plant.entries ++ e.Fault by ∷ [] → began ≤ length plant.entries → FailsRoll (access_of origin plant by began snapshots ticks) (access_of later new by began snapshots after) now place
+fails_roll_alone origin later kept plant new by began snapshots ticks after now place is at more frame made within = record {
   others = [];
-  saw = saw_nothing (access_of plant by began snapshots ticks);
+  saw = saw_nothing (access_of origin plant by began snapshots ticks);
   due = rw (append-nil plant.entries) (sym is);
   at_end = rw (append-nil plant.entries) at;
-  after = rw (append-nil plant.entries, more, frame, made, drop-append-le began plant.entries (e.Fault by ∷ []) within) refl;
+  after = rw (kept, append-nil plant.entries, more, frame, made, drop-append-le began plant.entries (e.Fault by ∷ []) within) refl;
 }
 
-last_fault-append : (by i : ℕ) (found : Option ℕ) (xs ys : List Entry) → last_fault_from by i found (xs ++ ys) ≡ last_fault_from by (i + length xs) (last_fault_from by i found xs) ys
+pub last_fault-append : (by i : ℕ) (found : Option ℕ) (xs ys : List Entry) → last_fault_from by i found (xs ++ ys) ≡ last_fault_from by (i + length xs) (last_fault_from by i found xs) ys
 last_fault-append by i found [] ys = let same : i ≡ i + 0 = omega arith in ap (λ n. last_fault_from by n found ys) same
 last_fault-append by i found (e.Upd own table columns ∷ xs) ys =
     let same : (i + 1) + length xs ≡ i + suc (length xs) = omega arith in
@@ -191,7 +192,7 @@ holds-true false h = absurd h
 own_pass : (by : ℕ) → (by == by) ≡ true
 own_pass by = holds-true (by == by) (eqb_refl by)
 
-last_fault-own : (by : ℕ) (es : List Entry) → last_fault by (es ++ e.Fault by ∷ []) ≡ Some (length es)
+pub last_fault-own : (by : ℕ) (es : List Entry) → last_fault by (es ++ e.Fault by ∷ []) ≡ Some (length es)
 last_fault-own by es = last_fault-append by 0 None es (e.Fault by ∷ []) ∙ rw (own_pass by) (ap Some (omega arith))
 
 -- a pass after the disk failed
@@ -210,7 +211,7 @@ solo_fails plant new by began latest place before h made at =
     at_place is whole at = ap Some at ∙ sym (last_fault-own by (plant.entries ++ before)) ∙ ap (last_fault by) (sym whole) ∙ is
 
 -- what an accepted update adds is logged
-made_logged : (es : List Entry) → IsMade es → AllByRecursion IsLogged es
+pub made_logged : (es : List Entry) → IsMade es → AllByRecursion IsLogged es
 made_logged [] made = absurd made
 made_logged (e.Fault by ∷ es) made = absurd made
 made_logged (e.Upd by table columns ∷ []) made = (refl, tt)

@@ -1,5 +1,7 @@
 -- What an access (the way of one pass to the plant) shows, and what its calls change.
-use Rattle.std.specs.Prelude.{◌≡◌, ℕ, ℤ, ◌+◌, ◌<◌, ◌≤◌, ◌^◌, Bool, true, false, List, [], ◌∷◌, ◌++◌, length, min, drop, Option, Some, Result, Ok, Err}
+use Rattle.std.specs.Prelude.{◌≡◌, ℕ, ℤ, ◌+◌, ◌<◌, ◌≤◌, ◌^◌, Bool, true, false, List, [], ◌∷◌, ◌++◌, length, min, drop, Option, Some, None, Result, Ok, Err}
+use Rattle.atomic_table.specs.Seated.{TableId}
+use Rattle.outside_api.specs.Disk.{DiskView}
 use Rattle.q_values.specs.Tree.{Tree, trees}
 use Rattle.q_values.specs.declared.refusal.NoMemory.{NoMemory}
 use Rattle.day_rows.specs.Chronicle.{date_of}
@@ -18,6 +20,13 @@ use Rattle.plant_core.specs.declared.access.UpdTurn.TheVariants.{Logged, Refused
 use Rattle.plant_memory.specs.declared.refusal.UpdRefusal.{UpdRefusal}
 use Rattle.plant_memory.specs.declared.request.UpdRequest.{UpdRequest}
 
+-- whose plant an access reaches; no call changes it
+pub record Home : Type 0 where
+  -- the plant's disk as it was when the plant was loaded
+  pub origin : DiskView
+  -- the lock round the plant; none where the access has the plant to itself
+  pub lock : Option TableId
+
 -- what an access shows
 pub record AccessView : Type 0 where
   -- the number of its pass
@@ -31,6 +40,8 @@ pub record AccessView : Type 0 where
   -- how often a snapshot was asked for, and a tick
   pub snapshots : ℕ
   pub ticks : ℕ
+  -- whose plant it is
+  pub home : Home
 
 -- a count after one more; it saturates at the end of its type
 abbrev pub next_count : ℕ → ℕ
@@ -138,9 +149,10 @@ abbrev pub Snaps : AccessView → AccessView → Result SnapshotView NoMemory �
 Snaps old new (Ok snapshot) = Asks old new × (snapshot ≡ record { frame = old.frame; entries = new.seen })
 Snaps old new (Err _) = Asks old new
 
--- what a plant shows to the one pass that holds it, which began when the plant had `began` entries
-abbrev pub access_of : MemoryView → ℕ → ℕ → ℕ → ℕ → AccessView
-access_of plant by began snapshots ticks = record {
+-- what a plant, loaded from a disk as it was then, shows to the one pass that holds it, which began when the plant had `began`
+-- entries
+abbrev pub access_of : DiskView → MemoryView → ℕ → ℕ → ℕ → ℕ → AccessView
+access_of origin plant by began snapshots ticks = record {
   by = by;
   frame = plant.frame;
   alone = true;
@@ -148,6 +160,7 @@ access_of plant by began snapshots ticks = record {
   mine = drop began plant.entries;
   snapshots = snapshots;
   ticks = ticks;
+  home = record { origin = origin; lock = None };
 }
 
 -- the pass has a number of its own, and began when the plant had no more entries than now; its last fault, if there is one, has the

@@ -3,3 +3,4 @@ pub mod Adds
 pub mod Load
 pub mod Plant
 pub mod Progress
+pub mod Turns

@@ -121,7 +121,8 @@ impl<D: Disk> Plant<D> {
         requires room { update.rolls ≡ false → self.old.memory.room ≡ update.entry ∷ [] }
         requires spare { self.old.memory.spare ≡ true }
         requires date { update.rolls ≡ true → date_of self.old.memory.frame.first self.old.memory.entries <ℤ pos 106751 }
-        ensures { Ends self.old.memory self.new.memory update result }
+        ensures ends { Ends self.old.memory self.new.memory update result }
+        ensures origin { self.new.origin ≡ self.old.origin }
     {
         let by = update.by();
         let mut rolled = None;

@@ -29,12 +29,16 @@
 #![tactic(auto)]
 
 mod access;
+mod chronicle;
 mod commits;
+mod copies;
 mod load;
 mod plant;
 mod solo;
+mod turns;
 
 pub use access::{Access, TickTurn, UpdTurn};
+pub use chronicle::PlantFrame;
 pub use load::LoadFailure;
 pub use plant::Plant;
 pub use solo::Solo;

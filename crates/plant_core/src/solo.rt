@@ -1,5 +1,5 @@
 //! A plant that one pass holds alone.
-ghost use Rattle.std.specs.Prelude.{◌≡◌, ◌<◌, ◌+◌, ◌^◌, true, []};
+ghost use Rattle.std.specs.Prelude.{◌≡◌, ◌<◌, ◌+◌, ◌^◌, true, [], None};
 ghost use Rattle.plant_memory.specs.Chronicle.{top_by};
 
 use crate::access::{Access, TickTurn, UpdTurn};
@@ -35,7 +35,7 @@ impl<D: Disk> Model for Solo<D> {
 
     ghost Value = { AccessView };
 
-    ghost view = { λ s. access_of s.plant.memory s.by s.began s.snapshots s.ticks };
+    ghost view = { λ s. access_of (D.shown s.plant.origin) s.plant.memory s.by s.began s.snapshots s.ticks };
 
     ghost invariant = { λ s. IsSolo s.plant.memory s.by s.began s.latest };
 }
@@ -52,6 +52,7 @@ impl<D: Disk> Solo<D> {
           mine = [];
           snapshots = 0;
           ticks = 0;
+          home = record { origin = D.shown plant.origin; lock = None };
         } }
     {
         Solo {
@@ -68,6 +69,7 @@ impl<D: Disk> Solo<D> {
     pub fn into_plant(self) -> Plant<D>
         ensures frame { result.memory.frame ≡ self.frame }
         ensures entries { result.memory.entries ≡ self.seen }
+        ensures origin { D.shown result.origin ≡ self.home.origin }
     {
         let Solo { plant, .. } = self;
         plant

@@ -3,8 +3,8 @@ use Rattle.plant_memory.specs.Memory.{MemoryView}
 use Rattle.plant_core.proofs.SoloLemmas.{roll_faults, fault_made}
 use Rattle.plant_core.proofs.plant.Plant.log.Goals as goal
 
-pub returns-in-Err : goal.returns-in-Err
-returns-in-Err g c =
+pub returns-in-Err-clause-ends : goal.returns-in-Err-clause-ends
+returns-in-Err-clause-ends g c =
     let rolls : c.args.update.rolls ≡ true = search rules in
     let frame = ap (λ (m : MemoryView). m.frame) c.in-Err.ensures.failed ∙ ap (λ (m : MemoryView). m.frame) c.prepare_roll.ensures.unchanged in
     let entries = ap (λ (m : MemoryView). m.entries) c.prepare_roll.ensures.unchanged in

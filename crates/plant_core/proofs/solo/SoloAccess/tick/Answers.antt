@@ -8,7 +8,7 @@ returns-then-not-is_next_day g c =
     let now : to_z w64 (of_z w64 c.args.now) ≡ c.args.now = search rules in
     let date : to_z w32 (of_z w32 c.date.result) ≡ c.date.result = search rules in
     let early = rw (now, date, c.date.ensures) at c.if-not-is_next_day.ensures in
-    rw (← c.self.view_is) (waits_alone c.self.inside.plant.memory _ _ _ _ _ _ _ early c.length-length.ensures.value c.saturating_add-self-inside.ensures)
+    rw (← c.self.view_is) (waits_alone _ _ refl c.self.inside.plant.memory _ _ _ _ _ _ _ early c.length-length.ensures.value c.saturating_add-self-inside.ensures)
 
 pub returns-in_default : goal.returns-in_default
 returns-in_default g c =
@@ -17,7 +17,7 @@ returns-in_default g c =
     let late = rw (now, date, c.date.ensures) at c.if-not-is_next_day.ensures in
     let frame = ap (λ (m : MemoryView). m.frame) c.prepare_roll.ensures.unchanged in
     let entries = ap (λ (m : MemoryView). m.entries) c.prepare_roll.ensures.unchanged in
-    rw (← c.self.view_is) (wants_alone c.self.inside.plant.memory c.prepare_roll.new.self.memory _ _ _ _ _ _ late c.saturating_add-self-inside.ensures frame entries)
+    rw (← c.self.view_is) (wants_alone _ _ c.prepare_roll.ensures.disk.origin c.self.inside.plant.memory c.prepare_roll.new.self.memory _ _ _ _ _ _ late c.saturating_add-self-inside.ensures frame entries)
 
 pub invariant_of-self-in-Ok-commit_roll : goal.invariant_of-self-in-Ok-commit_roll
 invariant_of-self-in-Ok-commit_roll g c =
@@ -40,7 +40,7 @@ returns-in-Ok-commit_roll g c =
     let entries = ap (λ (m : MemoryView). m.entries) c.prepare_roll.ensures.unchanged in
     let made = roll_made c.self.inside.plant.memory c.prepare_roll.new.self.memory c.commit_roll.new.self.memory c.in-Ok.roll _ entries c.in-Ok.ensures.ok (ap (λ (m : MemoryView). m.entries) c.in-Ok-commit_roll.ensures.logged) in
     let place = c.in-Ok-commit_roll.ensures.place ∙ ap length entries in
-    rw (← c.self.view_is) (rolls_alone c.self.inside.plant.memory c.commit_roll.new.self.memory _ _ _ _ _ _ _ late place c.saturating_add-self-inside.ensures (ap (λ (m : MemoryView). m.frame) c.in-Ok-commit_roll.ensures.logged ∙ frame) made c.self.invariant.within)
+    rw (← c.self.view_is) (rolls_alone _ _ (ap g.D.Disk.shown c.commit_roll.ensures.origin ∙ c.prepare_roll.ensures.disk.origin) c.self.inside.plant.memory c.commit_roll.new.self.memory _ _ _ _ _ _ _ late place c.saturating_add-self-inside.ensures (ap (λ (m : MemoryView). m.frame) c.in-Ok-commit_roll.ensures.logged ∙ frame) made c.self.invariant.within)
 
 pub returns-in-Err : goal.returns-in-Err
 returns-in-Err g c =
@@ -50,4 +50,4 @@ returns-in-Err g c =
     let frame = ap (λ (m : MemoryView). m.frame) c.prepare_roll.ensures.unchanged in
     let entries = ap (λ (m : MemoryView). m.entries) c.prepare_roll.ensures.unchanged in
     let made = fault_made c.self.inside.plant.memory c.prepare_roll.new.self.memory c.commit_roll.new.self.memory c.in-Ok.roll _ entries c.in-Ok.ensures.ok (ap (λ (m : MemoryView). m.entries) c.in-Err.ensures.failed) in
-    rw (← c.self.view_is) (fails_roll_alone c.self.inside.plant.memory c.commit_roll.new.self.memory _ _ _ _ _ _ _ late c.length-length.ensures.value c.saturating_add-self-inside.ensures (ap (λ (m : MemoryView). m.frame) c.in-Err.ensures.failed ∙ frame) made c.self.invariant.within)
+    rw (← c.self.view_is) (fails_roll_alone _ _ (ap g.D.Disk.shown c.commit_roll.ensures.origin ∙ c.prepare_roll.ensures.disk.origin) c.self.inside.plant.memory c.commit_roll.new.self.memory _ _ _ _ _ _ _ late c.length-length.ensures.value c.saturating_add-self-inside.ensures (ap (λ (m : MemoryView). m.frame) c.in-Err.ensures.failed ∙ frame) made c.self.invariant.within)
