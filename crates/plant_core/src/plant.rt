@@ -21,7 +21,7 @@ use std::marker::Model;
 /// was when the plant was loaded.
 ///
 /// Its log is its chronicle without the faults. Whatever a restart finds of the disk, at any moment, is that log, or the log
-/// and one late entry: that of the last commit that failed. `IsSound` says so.
+/// and one late entry: that of a commit that failed, and after which none succeeded. `IsSound` says so.
 #[derive(Drop)]
 pub struct Plant<D: Disk> {
     /// The entries in memory, faults included.
