@@ -115,6 +115,7 @@ impl<D: Disk> Plant<D> {
             IsRefusal (verdict self.old.memory.frame by self.old.memory.entries request.now.table (trees request.now.items) now) why) }
         ensures err { OnErr result (self.new.memory ≡ record self.old.memory { spare = self.new.memory.spare }) }
         ensures disk { LeavesDisk (shown_by D.shown self.old) (shown_by D.shown self.new) }
+        ensures origin { self.new.origin ≡ self.old.origin }
     {
         self.memory.prepare(alloc, by, request, now)
     }
@@ -134,6 +135,7 @@ impl<D: Disk> Plant<D> {
         ensures room { OnOk result (0 < self.new.logs.manifest.room) }
         ensures unchanged { self.new.memory ≡ record self.old.memory { spare = self.new.memory.spare } }
         ensures disk { LeavesDisk (shown_by D.shown self.old) (shown_by D.shown self.new) }
+        ensures origin { self.new.origin ≡ self.old.origin }
     {
         self.logs.reserve()?;
         let date = next_date(self.memory.date());
