@@ -1,5 +1,5 @@
 -- A plant that was loaded from a disk without dates.
-use Rattle.std.proofs.Common.{◌≡◌, ℤ, true, false, IsTrue, List, [], ◌++◌, map, None, inr, refl, ◌∙◌, ap}
+use Rattle.std.proofs.Common.{◌≡◌, ℤ, Bool, true, false, IsTrue, List, [], ◌++◌, map, None, inr, refl, ◌∙◌, ap}
 use Rattle.std.specs.Prelude.{int_lt}
 use Rattle.std.specs.Int.Signed.{<ℤ_irrefl, lt_z_yes}
 use Rattle.std.proofs.lemmas.Float.{T_from_true}
