@@ -1,5 +1,4 @@
 //! A plant that one pass has to itself.
-use crate::plants::{FIRST, NINE_THIRTY, NOW, Row, alone, sent};
 use mem_plant::new_plant;
 use outside_mem::MemDisk;
 use plant_core::{Access, Solo, TickTurn, UpdTurn};
@@ -8,6 +7,7 @@ use schema_text::built_in_schema;
 use std::alloc::Global;
 use std::sync::Wait;
 use std::test::Fail;
+use test_plants::{FIRST, NINE_THIRTY, NOW, Row, alone, sent};
 
 const ROW: Row = (NINE_THIRTY, "b", 10, 100);
 

@@ -1,6 +1,5 @@
 //! Many rows and many updates, closed and loaded again.
 
-use crate::plants::{FIRST, NINE_THIRTY, NOW, TRADE, load, new_solo, symbol};
 use outside_mem::MemDisk;
 use plant_core::{Access, Plant, UpdTurn};
 use plant_memory::UpdRequest;
@@ -8,6 +7,7 @@ use q_values::{Column, LongKind, NoMemory, Symbols, Value, Values, Vector};
 use std::alloc::Global;
 use std::sync::Wait;
 use std::test::Fail;
+use test_plants::{FIRST, NINE_THIRTY, NOW, TRADE, load, new_solo, symbol};
 
 fn longs(alloc: Global, kind: LongKind, item: i64, rows: usize) -> Result<Value, NoMemory> {
     let items = vec![in alloc; item; rows]?;

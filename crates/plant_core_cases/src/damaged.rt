@@ -1,0 +1,119 @@
+//! A log whose file was spoiled.
+
+use date_loading::LoadRefusal;
+use outside_api::Disk;
+use outside_mem::MemDisk;
+use q_values::NoMemory;
+use std::alloc::Global;
+use std::sync::Wait;
+use std::test::Fail;
+use test_plants::{FIRST, NINE_THIRTY, NOW, Row, load, logs, new_solo};
+
+// The file of the first date's log.
+const LOG: u64 = 1_008_767;
+
+const ROW: Row = (NINE_THIRTY, "KX", 10_050, 200);
+
+// The disk of a plant with one update of pass 1, after it was closed.
+fn closed<R: Wait>(rt: &R, alloc: Global) -> Result<Option<MemDisk>, NoMemory> {
+    let Some(mut solo) = new_solo(alloc)? else {
+        return Ok(None);
+    };
+    if logs(rt, alloc, &mut solo, ROW, NOW)? {
+        Ok(Some(solo.into_plant().close()))
+    } else {
+        Ok(None)
+    }
+}
+
+// Whether its log has 97 bytes, with the length of the update's chunk at 9, and the next gate at the end.
+fn is_one_chunk(log: &[u8]) -> bool {
+    log.len() == 97 && &log[9..13] == b"\x53\0\0\0".as_slice() && log[96] == 0
+}
+
+fn first_is_one_chunk<R: Wait>(rt: &R, alloc: Global) -> Result<bool, NoMemory> {
+    match closed(rt, alloc)? {
+        Some(disk) => Ok(is_one_chunk(disk.bytes_of(LOG))),
+        None => Ok(false),
+    }
+}
+
+#[test]
+fn first_log(rt: HostRuntime) -> Result<(), Fail> {
+    assert!(rt; first_is_one_chunk(&rt, rt.alloc())?);
+    Ok(())
+}
+
+// Truncates the log; whether that succeeded.
+fn cut(disk: &mut MemDisk, size: u64) -> bool {
+    let long = disk.bytes_of(LOG).len() as u64;
+    size <= long && disk.cut(LOG, size).is_ok() && disk.sync(LOG).is_ok()
+}
+
+// Puts the bytes into the log; whether that succeeded.
+fn put(disk: &mut MemDisk, at: u64, bytes: &[u8]) -> bool {
+    let long = disk.bytes_of(LOG).len() as u64;
+    at <= long && disk.write_at(LOG, at, bytes).is_ok() && disk.sync(LOG).is_ok()
+}
+
+// What a load finds: the number of entries, a damaged log, or no number for another pass.
+#[derive(Clone, Copy, PartialEq)]
+enum Found {
+    Entries(u64),
+    Damaged(i32, u64, u64),
+    Spent,
+    Other,
+}
+
+fn found_of(why: &LoadRefusal) -> Found {
+    match why {
+        LoadRefusal::CorruptLog {
+            date,
+            chunks,
+            bytes,
+        } => Found::Damaged(*date, *chunks, *bytes),
+        LoadRefusal::NumbersSpent => Found::Spent,
+        _ => Found::Other,
+    }
+}
+
+fn found_in(alloc: Global, disk: MemDisk) -> Found {
+    match load(alloc, disk, FIRST) {
+        Ok(plant) => Found::Entries(plant.length()),
+        Err(failure) => found_of(&failure.why),
+    }
+}
+
+// What a load finds where the log is truncated to this size.
+fn after_cut<R: Wait>(rt: &R, alloc: Global, size: u64) -> Result<Found, NoMemory> {
+    let Some(mut disk) = closed(rt, alloc)? else {
+        return Ok(Found::Other);
+    };
+    if !cut(&mut disk, size) {
+        return Ok(Found::Other);
+    }
+    Ok(found_in(alloc, disk))
+}
+
+// What a load finds where these bytes stand at this offset of the log.
+fn after_put<R: Wait>(rt: &R, alloc: Global, at: u64, bytes: &[u8]) -> Result<Found, NoMemory> {
+    let Some(mut disk) = closed(rt, alloc)? else {
+        return Ok(Found::Other);
+    };
+    if !put(&mut disk, at, bytes) {
+        return Ok(Found::Other);
+    }
+    Ok(found_in(alloc, disk))
+}
+
+#[test]
+fn damaged_log(rt: HostRuntime) -> Result<(), Fail> {
+    let alloc = rt.alloc();
+    assert!(rt; after_cut(&rt, alloc, 97)? == Found::Entries(1));
+    assert!(rt; after_cut(&rt, alloc, 96)? == Found::Damaged(FIRST, 0, 8));
+    assert!(rt; after_put(&rt, alloc, 96, b"\xa5")? == Found::Damaged(FIRST, 1, 96));
+    assert!(rt; after_put(&rt, alloc, 96, b"\0\xa5\xff\xff")? == Found::Entries(1));
+    let pass = b"\xfe\xff\xff\xff\xff\xff\xff\xff";
+    assert!(rt; after_put(&rt, alloc, 13, pass)? == Found::Spent);
+    Ok(())
+}
