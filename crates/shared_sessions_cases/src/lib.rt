@@ -23,3 +23,5 @@ mod plants;
 mod readers;
 #[cfg(test)]
 mod threads;
+#[cfg(test)]
+mod told;

@@ -87,3 +87,18 @@ pub(crate) fn logs<R: Wait>(
         UpdTurn::Failed { .. } => None,
     }
 }
+
+/// A second pass.
+pub(crate) fn branch<R: Wait>(
+    rt: &R,
+    lock: &Lock<MemDisk>,
+    pass: PlantPass<MemDisk>,
+    schema: &Arc<Schema>,
+    limits: &Limits,
+) -> (PlantPass<MemDisk>, PlantPass<MemDisk>)
+    requires { MayServe lock.now pass schema.now.value limits.now }
+    ensures one { MayServe lock.now result.0 schema.now.value limits.now }
+    ensures other { MayServe lock.now result.1 schema.now.value limits.now }
+{
+    lock.pass(rt, pass)
+}

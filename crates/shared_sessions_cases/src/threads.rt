@@ -3,7 +3,7 @@ ghost use Rattle.std.specs.Prelude.{◌≡◌, [], IfSome};
 ghost use Rattle.shared_sessions.specs.Sessions.{MayServe};
 
 use crate::feeds::feed_as;
-use crate::plants::{Note, opened};
+use crate::plants::{Note, branch, opened};
 use crate::readers::read_as;
 use day_rows::Schema;
 use outside_mem::MemDisk;
@@ -21,21 +21,6 @@ struct Work {
     updates: u32,
     // the rounds of a reader, each of which has one update
     rounds: u32,
-}
-
-// A second pass.
-fn branch<R: Wait>(
-    rt: &R,
-    lock: &Lock<MemDisk>,
-    pass: PlantPass<MemDisk>,
-    schema: &Arc<Schema>,
-    limits: &Limits,
-) -> (PlantPass<MemDisk>, PlantPass<MemDisk>)
-    requires { MayServe lock.now pass schema.now.value limits.now }
-    ensures one { MayServe lock.now result.0 schema.now.value limits.now }
-    ensures other { MayServe lock.now result.1 schema.now.value limits.now }
-{
-    lock.pass(rt, pass)
 }
 
 // The notes of a feed and of a reader, where both did all of their work.
