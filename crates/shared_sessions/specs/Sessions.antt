@@ -1,5 +1,5 @@
 -- What a session over a plant under a lock did, and the pass that it leaves.
-use Rattle.std.specs.Prelude.{◌≡◌, ℤ, List, [], Option}
+use Rattle.std.specs.Prelude.{◌≡◌, ℕ, ℤ, List, [], Option, Some}
 use Rattle.outside_api.specs.Link.{LinkView, IsFresh}
 use Rattle.outside_api.specs.Told.{HasToldNothing}
 use Rattle.q_values.specs.Limits.{AreLimits}
@@ -66,10 +66,16 @@ pub record IsServed (limits : Limits) (frame : Frame) (home : Home) (old new : T
   pub session : IsSession limits (world_at a (shown_pass frame home old 0 0)) (world_at b access) end
   pub leaves : Leaves old new access
 
--- the same of a session that had devices of its own, through which nothing had passed, and a pass that had made nothing
+-- the same of a session that had devices of its own, through which nothing had passed, and a pass of the lock that had made nothing
 pub record IsFinished (limits : Limits) (frame : Frame) (home : Home) (pass : Told Entry) (after : Line) (end : End) : Type 0 where
+  pub of_lock : home.lock ≡ Some pass.lock
   pub began : Told Entry
   pub unmade : began.mine ≡ []
   pub before : Line
   pub unused : IsUnused before
   pub served : IsServed limits frame home began pass before after end
+
+-- the same of a session through this lock, of the pass of this number
+pub record IsFinishedAs {D : Type 0} (shown : D → DiskView) (lock : Lock (PlantView D)) (limits : Limits) (number : ℕ) (pass : Told Entry) (after : Line) (end : End) : Type 0 where
+  pub finished : IsFinished limits lock.made.memory.frame (home_of shown lock) pass after end
+  pub number_is : pass.number ≡ number

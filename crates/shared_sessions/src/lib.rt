@@ -13,6 +13,9 @@
 //! let plant = lock.close(&rt, pass);
 //! ```
 //!
+//! A thread that serves a session may promise it by a [`Serving`], so that whoever joins the thread knows of the session what
+//! the call says of it.
+//!
 //! A session's answers are over beginnings of one chronicle, each no shorter than what its session had been told. What a
 //! pass has seen begins the chronicle of the plant once the lock is closed: `learn` and `close` say so.
 //!
@@ -20,6 +23,8 @@
 //! sessions comes first, unless one had been told of the other's entry.
 #![tactic(auto)]
 
+mod promise;
 mod serve;
 
+pub use promise::Serving;
 pub use serve::{Connection, Finished, serve_shared};

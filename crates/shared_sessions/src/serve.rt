@@ -1,5 +1,5 @@
 //! Serving a connection through a lock.
-ghost use Rattle.shared_sessions.specs.Sessions.{MayServe, IsServed, IsUnused, IsFinished, home_of, line};
+ghost use Rattle.shared_sessions.specs.Sessions.{MayServe, IsServed, IsUnused, IsFinishedAs, home_of, line};
 
 use day_rows::{Entry, Schema};
 use outside_api::{Clock, Disk, Gate, Link, Recorder};
@@ -57,7 +57,7 @@ pub fn serve_shared<D: Disk, L: Link, C: Clock, G: Gate + Drop, N: Recorder, R: 
         IsServed limits.now lock.now.made.memory.frame (home_of D.shown lock.now) pass result.pass a b result.end }
     ensures finished { let a = line (L.shown connection.link) (C.readings connection.clock) (N.noted connection.recorder) in
         let b = line (L.shown result.link) (C.readings result.clock) (N.noted result.recorder) in
-        IsUnused a → IsFinished limits.now lock.now.made.memory.frame (home_of D.shown lock.now) result.pass b result.end }
+        IsUnused a → IsFinishedAs D.shown lock.now limits.now pass.number result.pass b result.end }
 {
     let Connection {
         mut link,

@@ -1,0 +1,8 @@
+use Rattle.std.proofs.Common.{◌≡◌, ◌∙◌, Some, refl, sym, ap}
+use Rattle.shared_sessions.proofs.SessionLemmas.{served}
+use Rattle.shared_sessions.proofs.serve.serve_shared.Goals as goal
+
+pub returns : goal.returns
+returns g c =
+    let done = served _ _ _ _ _ _ _ _ _ c.serve_session-report.ensures c.into_parts.ensures.lock c.into_parts.ensures.number c.into_parts.ensures.seen c.into_parts.ensures.mine c.into_parts.ensures.own in
+    record { served = done; finished = λ unused. record { finished = record { of_lock = ap Some (sym (done.leaves.lock ∙ c.requires.pass_is.of_lock)); began = c.args.pass; unmade = c.requires.unmade; before = _; unused = unused; served = done }; number_is = done.leaves.number } }
