@@ -45,7 +45,8 @@ impl<'a, D: Disk> Model for Shared<'a, D> {
 
     ghost view = { λ s. shown_kept s.lock.now.made.memory.frame (D.shown s.lock.now.made.origin) s.lock.now.id s.pass s.snapshots s.ticks };
 
-    ghost invariant = { λ s. IsShared s.lock.now.id s.lock.now.made.memory.frame s.pass s.latest s.schema.value × (s.by ≡ (shown_kept s.lock.now.made.memory.frame (D.shown s.lock.now.made.origin) s.lock.now.id s.pass 0 0).by) };
+    ghost invariant = { λ s. let origin = D.shown s.lock.now.made.origin in let frame = s.lock.now.made.memory.frame in
+        IsShared s.lock.now.id frame s.pass s.latest s.schema.value × (s.by ≡ (shown_kept frame origin s.lock.now.id s.pass 0 0).by) };
 }
 
 impl<'a, D: Disk> Shared<'a, D> {
@@ -96,8 +97,7 @@ impl<'a, D: Disk> Access for Shared<'a, D> {
         &self.schema
     }
 
-    fn upd<R: Wait>(&mut self, rt: &R, alloc: Global, request: &UpdRequest, now: i64) -> UpdTurn
-    {
+    fn upd<R: Wait>(&mut self, rt: &R, alloc: Global, request: &UpdRequest, now: i64) -> UpdTurn {
         let Some(pass) = self.pass.take() else {
             unreachable!()
         };
@@ -107,8 +107,7 @@ impl<'a, D: Disk> Access for Shared<'a, D> {
         turn
     }
 
-    fn tick<R: Wait>(&mut self, rt: &R, alloc: Global, now: i64) -> TickTurn
-    {
+    fn tick<R: Wait>(&mut self, rt: &R, alloc: Global, now: i64) -> TickTurn {
         self.ticks = self.ticks.saturating_add(1);
         let Some(pass) = self.pass.take() else {
             unreachable!()
@@ -119,8 +118,7 @@ impl<'a, D: Disk> Access for Shared<'a, D> {
         turn
     }
 
-    fn snapshot<R: Wait>(&mut self, rt: &R, alloc: Global) -> Result<Snapshot, NoMemory>
-    {
+    fn snapshot<R: Wait>(&mut self, rt: &R, alloc: Global) -> Result<Snapshot, NoMemory> {
         self.snapshots = self.snapshots.saturating_add(1);
         let Some(pass) = self.pass.take() else {
             unreachable!()

@@ -26,9 +26,9 @@ mod plants;
 mod reading;
 mod request;
 
-use crate::reading::{beside_one, beside_two, longest_alone, longest_beside};
 use crate::feeding::{feed_as, feed_by_four, feed_by_two, feed_solo};
 use crate::plants::{opened, with_day};
+use crate::reading::{beside_one, beside_two, longest_alone, longest_beside};
 use anyhow::{Result, bail};
 use std::alloc::Global;
 use std::env;
@@ -49,7 +49,12 @@ fn solo<R: Clock + Print + Wait>(rt: &R, alloc: Global, count: u32) -> Result<()
 }
 
 // By one thread, two and four.
-fn feeds<R: Clock + Print + Threads + Wait + Sync>(rt: &R, alloc: Global, count: u32, threads: u32) -> Result<()> {
+fn feeds<R: Clock + Print + Threads + Wait + Sync>(
+    rt: &R,
+    alloc: Global,
+    count: u32,
+    threads: u32,
+) -> Result<()> {
     let Some((lock, pass, schema)) = opened(rt, alloc)? else {
         bail!("plant_shared_bench: no lock")
     };
@@ -68,7 +73,12 @@ fn feeds<R: Clock + Print + Threads + Wait + Sync>(rt: &R, alloc: Global, count:
 }
 
 // By one feed beside a reader, and by two beside two.
-fn beside<R: Clock + Print + Threads + Wait + Sync>(rt: &R, alloc: Global, count: u32, pairs: u32) -> Result<()> {
+fn beside<R: Clock + Print + Threads + Wait + Sync>(
+    rt: &R,
+    alloc: Global,
+    count: u32,
+    pairs: u32,
+) -> Result<()> {
     let Some((lock, pass, schema)) = opened(rt, alloc)? else {
         bail!("plant_shared_bench: no lock")
     };
@@ -86,7 +96,13 @@ fn beside<R: Clock + Print + Threads + Wait + Sync>(rt: &R, alloc: Global, count
 }
 
 // The longest update of a feed over a day of this many rows, without a reader and beside one.
-fn longest<R: Clock + Print + Threads + Wait + Sync>(rt: &R, alloc: Global, count: u32, rows: u32, readers: u32) -> Result<()> {
+fn longest<R: Clock + Print + Threads + Wait + Sync>(
+    rt: &R,
+    alloc: Global,
+    count: u32,
+    rows: u32,
+    readers: u32,
+) -> Result<()> {
     let Some((lock, pass, schema)) = opened(rt, alloc)? else {
         bail!("plant_shared_bench: no lock")
     };
@@ -104,7 +120,12 @@ fn longest<R: Clock + Print + Threads + Wait + Sync>(rt: &R, alloc: Global, coun
     Ok(())
 }
 
-fn report<R: Clock + Print + Threads + Wait + Sync>(rt: &R, alloc: Global, count: u32, rows: u32) -> Result<()> {
+fn report<R: Clock + Print + Threads + Wait + Sync>(
+    rt: &R,
+    alloc: Global,
+    count: u32,
+    rows: u32,
+) -> Result<()> {
     solo(rt, alloc, count)?;
     for threads in [1, 2, 4] {
         feeds(rt, alloc, count, threads)?;
@@ -124,6 +145,9 @@ fn main(rt: HostRuntime) -> Result<()> {
     let (Some(count), Some(rows)) = (words.next(), words.next()) else {
         return Ok(());
     };
-    let (count, rows) = (count.as_str().parse::<u32>()?, rows.as_str().parse::<u32>()?);
+    let (count, rows) = (
+        count.as_str().parse::<u32>()?,
+        rows.as_str().parse::<u32>()?,
+    );
     report(&rt, rt.alloc(), count, rows)
 }

@@ -18,7 +18,12 @@ use std::thread::{Threads, join};
 use std::time::Instant;
 
 // Takes one snapshot after the other until it is told to end; their number.
-fn read<R: Wait>(rt: &R, alloc: Global, session: &mut Shared<'_, MemDisk>, ended: &AtomicU64) -> u64 {
+fn read<R: Wait>(
+    rt: &R,
+    alloc: Global,
+    session: &mut Shared<'_, MemDisk>,
+    ended: &AtomicU64,
+) -> u64 {
     let mut taken = 0;
     for _ in rt.forever() {
         if ended.load(Ordering::SeqCst) != 0 {

@@ -76,6 +76,7 @@ pub record IsFinished (limits : Limits) (frame : Frame) (home : Home) (pass : To
   pub served : IsServed limits frame home began pass before after end
 
 -- the same of a session through this lock, of the pass of this number
-pub record IsFinishedAs {D : Type 0} (shown : D → DiskView) (lock : Lock (PlantView D)) (limits : Limits) (number : ℕ) (pass : Told Entry) (after : Line) (end : End) : Type 0 where
+pub record IsFinishedAs {D : Type 0} (shown : D → DiskView) (lock : Lock (PlantView D)) (limits : Limits) (number : ℕ)
+    (pass : Told Entry) (after : Line) (end : End) : Type 0 where
   pub finished : IsFinished limits lock.made.memory.frame (home_of shown lock) pass after end
   pub number_is : pass.number ≡ number

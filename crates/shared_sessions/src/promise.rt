@@ -22,5 +22,6 @@ pub struct Serving<D: Disk> {
 impl<D: Disk, L: Link, C: Clock, N: Recorder> Promise<Finished<L, C, N>> for Serving<D> {
     ghost use Rattle.shared_sessions.specs.Sessions.{IsFinishedAs, line};
 
-    ghost kept_by = { λ p f. IsFinishedAs D.shown p.lock.value p.limits p.number f.pass (line (L.shown f.link) (C.readings f.clock) (N.noted f.recorder)) f.end };
+    ghost kept_by = { λ p f. let after = line (L.shown f.link) (C.readings f.clock) (N.noted f.recorder) in
+        IsFinishedAs D.shown p.lock.value p.limits p.number f.pass after f.end };
 }

@@ -1,7 +1,7 @@
 //! The bytes of the messages, each as it is sent (KX, IPC reference).
 
-use q_values::{NoMemory, Sequence, Text, Turn};
 use outside_mem::{MemLink, Piece, Pieces, Takings};
+use q_values::{NoMemory, Sequence, Text, Turn};
 use std::alloc::Global;
 
 /// The handshake of the user `u` with the password `p` and the capability 3.

@@ -3,7 +3,7 @@ ghost use Rattle.std.specs.Prelude.{◌≡◌, IfSome};
 ghost use Rattle.shared_sessions.specs.Sessions.{MayServe};
 
 use crate::bytes::{COUNT, GREETING, UPDATE, after_turn, link_of};
-use crate::plants::{Note, NOW};
+use crate::plants::{NOW, Note};
 use day_rows::Schema;
 use outside_mem::{MemClock, MemDisk, MemLink, MemRecorder, NoGate};
 use plant_shared::{Lock, PlantPass};

@@ -52,11 +52,7 @@ fn pair<R: Threads + Wait + Sync>(
 }
 
 // The pass, which has learnt both notes.
-fn learn(
-    lock: &Lock<MemDisk>,
-    pass: PlantPass<MemDisk>,
-    notes: (Note, Note),
-) -> PlantPass<MemDisk>
+fn learn(lock: &Lock<MemDisk>, pass: PlantPass<MemDisk>, notes: (Note, Note)) -> PlantPass<MemDisk>
     requires pass { pass.lock ≡ lock.now.id }
     requires one { notes.0.lock ≡ lock.now.id }
     requires other { notes.1.lock ≡ lock.now.id }

@@ -86,15 +86,7 @@ fn asks<R: Wait>(
         gate: NoGate,
         recorder: MemRecorder::with_room(alloc, 3)?,
     };
-    let asked = serve_shared(
-        rt,
-        alloc,
-        lock,
-        pass,
-        schema.clone()?,
-        connection,
-        limits,
-    );
+    let asked = serve_shared(rt, alloc, lock, pass, schema.clone()?, connection, limits);
     let wanted = [
         GREETED,
         Turn::Answered { length: 0 },
@@ -142,15 +134,7 @@ fn feeds_once<R: Wait>(
         gate: NoGate,
         recorder: MemRecorder::with_room(alloc, 2)?,
     };
-    let fed = serve_shared(
-        rt,
-        alloc,
-        lock,
-        pass,
-        schema.clone()?,
-        connection,
-        limits,
-    );
+    let fed = serve_shared(rt, alloc, lock, pass, schema.clone()?, connection, limits);
     let wanted = [GREETED, Turn::Logged { place: 0, now: NOW }];
     Ok(goes(fed.recorder.turns(), fed.link.taken(), &wanted) && fed.end == End::Closed)
 }
