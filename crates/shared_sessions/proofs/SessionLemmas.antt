@@ -27,7 +27,8 @@ module _ (limits : Limits) (frame : Frame) (origin : DiskView) (old new : Told E
   lock_kept : access.home.lock ≡ Some new.lock → new.lock ≡ old.lock
   lock_kept lock = same_some (sym lock ∙ ap (λ h. h.lock) home_kept)
 
-  pub served : access.home.lock ≡ Some new.lock → new.number ≡ access.by → new.seen ≡ access.seen → new.mine ≡ access.mine → own by_of new.number new.seen ≡ new.mine
+  pub served : access.home.lock ≡ Some new.lock → new.number ≡ access.by → new.seen ≡ access.seen → new.mine ≡ access.mine
+      → own by_of new.number new.seen ≡ new.mine
       → IsServed limits frame (locked origin old.lock) old new a b end
   served lock number seen mine own_is = record {
     access = access;
