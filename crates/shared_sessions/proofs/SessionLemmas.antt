@@ -18,20 +18,19 @@ use Rattle.shared_sessions.specs.Sessions.{Line, Leaves, IsServed, world_at}
 same_some : {a b : TableId} → Some a ≡ Some b → a ≡ b
 same_some {a} h = ap (λ o. unwrap_or o a) h
 
-module _ (limits : Limits) (frame : Frame) (origin : DiskView) (old new : Told Entry) (a b : Line) (end : End) (access : AccessView)
-    (s : IsSession limits (world_at a (shown_pass frame (locked origin old.lock) old 0 0)) (world_at b access) end) where
+module _ (limits : Limits) (frame : Frame) (origin : DiskView) (lock : TableId) (old new : Told Entry) (of_lock : old.lock ≡ lock) (a b : Line) (end : End)
+    (access : AccessView) (s : IsSession limits (world_at a (shown_pass frame (locked origin lock) old 0 0)) (world_at b access) end) where
   -- no call changed whose plant the access reaches
-  pub home_kept : access.home ≡ locked origin old.lock
+  home_kept : access.home ≡ locked origin lock
   home_kept = ap (λ (v : AccessView). v.home) s.access.after
 
   lock_kept : access.home.lock ≡ Some new.lock → new.lock ≡ old.lock
-  lock_kept lock = same_some (sym lock ∙ ap (λ h. h.lock) home_kept)
+  lock_kept is = same_some (sym is ∙ ap (λ h. h.lock) home_kept) ∙ sym of_lock
 
   pub served : access.home.lock ≡ Some new.lock → new.number ≡ access.by → new.seen ≡ access.seen → new.mine ≡ access.mine
-      → own by_of new.number new.seen ≡ new.mine
-      → IsServed limits frame (locked origin old.lock) old new a b end
-  served lock number seen mine own_is = record {
+      → own by_of new.number new.seen ≡ new.mine → IsServed limits frame (locked origin lock) old new a b end
+  served is number seen mine own_is = record {
     access = access;
     session = s;
-    leaves = record { lock = lock_kept lock; number = number ∙ ap (λ (v : AccessView). v.by) s.access.after; seen = seen; mine = mine; own = own_is };
+    leaves = record { lock = lock_kept is; number = number ∙ ap (λ (v : AccessView). v.by) s.access.after; seen = seen; mine = mine; own = own_is };
   }
