@@ -34,11 +34,48 @@ shown_pass frame home pass snapshots ticks = record {
   home = home;
 }
 
--- the same of a pass that is kept in an access
-abbrev pub shown_kept : Frame → DiskView → TableId → Option (Told Entry) → ℕ → ℕ → AccessView
-shown_kept frame origin lock (Some pass) snapshots ticks = shown_pass frame (locked origin lock) pass snapshots ticks
-shown_kept frame origin lock None snapshots ticks =
-    shown_pass frame (locked origin lock) (record { lock = lock; number = 0; latest = 0; seen = []; mine = [] }) snapshots ticks
+-- the value of an access under a lock: what its pass shows, the plant's disk as it was when the plant was loaded, and the lock
+pub record SharedView (D : Type 0) : Type 0 where
+  pub by : ℕ
+  pub frame : Frame
+  pub seen : List Entry
+  pub mine : List Entry
+  pub snapshots : ℕ
+  pub ticks : ℕ
+  pub origin : D
+  pub lock : TableId
+
+-- what it shows as an access
+abbrev pub shown_shared : {D : Type 0} → (D → DiskView) → SharedView D → AccessView
+shown_shared shown shared = record {
+  by = shared.by;
+  frame = shared.frame;
+  alone = false;
+  seen = shared.seen;
+  mine = shared.mine;
+  snapshots = shared.snapshots;
+  ticks = shared.ticks;
+  home = locked (shown shared.origin) shared.lock;
+}
+
+-- the value of an access that keeps this pass
+abbrev pub shared_of : {D : Type 0} → Frame → D → TableId → Told Entry → ℕ → ℕ → SharedView D
+shared_of frame origin lock pass snapshots ticks = record {
+  by = pass.number;
+  frame = frame;
+  seen = pass.seen;
+  mine = pass.mine;
+  snapshots = snapshots;
+  ticks = ticks;
+  origin = origin;
+  lock = lock;
+}
+
+-- the same of a pass that is there, or isn't for the time of a call
+abbrev pub shared_by : {D : Type 0} → Frame → D → TableId → Option (Told Entry) → ℕ → ℕ → SharedView D
+shared_by frame origin lock (Some pass) snapshots ticks = shared_of frame origin lock pass snapshots ticks
+shared_by frame origin lock None snapshots ticks =
+    shared_of frame origin lock (record { lock = lock; number = 0; latest = 0; seen = []; mine = [] }) snapshots ticks
 
 -- the index of the last fault that the pass made is this one, if it made one
 abbrev pub IsLatest : Told Entry → ℕ → Type 0

@@ -1,8 +1,9 @@
 //! The access of a session to a plant under a lock.
-ghost use Rattle.std.specs.Prelude.{◌≡◌, ◌+◌, ◌<◌, ◌^◌, false, [], Some};
+ghost use Rattle.std.specs.Prelude.{◌≡◌, ◌+◌, ◌<◌, ◌^◌, []};
 ghost use Rattle.plant_lock.specs.Entries.{own};
 ghost use Rattle.plant_memory.specs.Chronicle.{by_of};
-ghost use Rattle.plant_shared.specs.Shared.{locked, shown_pass};
+ghost use Rattle.plant_core.specs.Access.{Updates, Ticks, Snaps};
+ghost use Rattle.plant_shared.specs.Shared.{shared_of, shown_shared};
 
 use crate::turns::{
     Lock, PlantPass, latest_after_tick, latest_after_update, snapshot, tick, update,
@@ -38,15 +39,14 @@ pub struct Shared<'a, D: Disk> {
 
 impl<'a, D: Disk> Model for Shared<'a, D> {
     ghost use Rattle.std.specs.Prelude.{◌≡◌};
-    ghost use Rattle.plant_core.specs.Access.{AccessView};
-    ghost use Rattle.plant_shared.specs.Shared.{IsShared, shown_kept};
+    ghost use Rattle.plant_shared.specs.Shared.{SharedView, IsShared, shared_by};
 
-    ghost Value = { AccessView };
+    ghost Value = { SharedView D };
 
-    ghost view = { λ s. shown_kept s.lock.now.made.memory.frame (D.shown s.lock.now.made.origin) s.lock.now.id s.pass s.snapshots s.ticks };
+    ghost view = { λ s. shared_by s.lock.now.made.memory.frame s.lock.now.made.origin s.lock.now.id s.pass s.snapshots s.ticks };
 
-    ghost invariant = { λ s. let origin = D.shown s.lock.now.made.origin in let frame = s.lock.now.made.memory.frame in
-        IsShared s.lock.now.id frame s.pass s.latest s.schema.value × (s.by ≡ (shown_kept frame origin s.lock.now.id s.pass 0 0).by) };
+    ghost invariant = { λ s. let frame = s.lock.now.made.memory.frame in IsShared s.lock.now.id frame s.pass s.latest s.schema.value
+        × (s.by ≡ (shared_by frame s.lock.now.made.origin s.lock.now.id s.pass 0 0).by) };
 }
 
 impl<'a, D: Disk> Shared<'a, D> {
@@ -57,7 +57,7 @@ impl<'a, D: Disk> Shared<'a, D> {
         requires fresh { pass.mine ≡ [] }
         requires own { own by_of pass.number pass.seen ≡ pass.mine }
         requires schema { schema.value ≡ lock.now.made.memory.frame.schema }
-        ensures { result ≡ shown_pass lock.now.made.memory.frame (locked (D.shown lock.now.made.origin) lock.now.id) pass 0 0 }
+        ensures { result ≡ shared_of lock.now.made.memory.frame lock.now.made.origin lock.now.id pass 0 0 }
     {
         Shared {
             lock,
@@ -72,7 +72,7 @@ impl<'a, D: Disk> Shared<'a, D> {
 
     /// The pass, which has seen and made what the access has.
     pub fn into_parts(self) -> PlantPass<D>
-        ensures lock { self.entry.home.lock ≡ Some result.lock }
+        ensures lock { result.lock ≡ self.entry.lock }
         ensures number { result.number ≡ self.entry.by }
         ensures seen { result.seen ≡ self.entry.seen }
         ensures mine { result.mine ≡ self.entry.mine }
@@ -87,7 +87,7 @@ impl<'a, D: Disk> Shared<'a, D> {
 }
 
 impl<'a, D: Disk> Access for Shared<'a, D> {
-    ghost shown = { λ s. s };
+    ghost shown = { λ s. shown_shared D.shown s };
 
     fn by(&self) -> u64 {
         self.by
@@ -97,7 +97,10 @@ impl<'a, D: Disk> Access for Shared<'a, D> {
         &self.schema
     }
 
-    fn upd<R: Wait>(&mut self, rt: &R, alloc: Global, request: &UpdRequest, now: i64) -> UpdTurn {
+    fn upd<R: Wait>(&mut self, rt: &R, alloc: Global, request: &UpdRequest, now: i64) -> UpdTurn
+        ensures turn { Updates (shown_shared D.shown self.old) (shown_shared D.shown self.new) request.now now result }
+        ensures lock { self.new.lock ≡ self.old.lock }
+    {
         let Some(pass) = self.pass.take() else {
             unreachable!()
         };
@@ -107,7 +110,10 @@ impl<'a, D: Disk> Access for Shared<'a, D> {
         turn
     }
 
-    fn tick<R: Wait>(&mut self, rt: &R, alloc: Global, now: i64) -> TickTurn {
+    fn tick<R: Wait>(&mut self, rt: &R, alloc: Global, now: i64) -> TickTurn
+        ensures turn { Ticks (shown_shared D.shown self.old) (shown_shared D.shown self.new) now result }
+        ensures lock { self.new.lock ≡ self.old.lock }
+    {
         self.ticks = self.ticks.saturating_add(1);
         let Some(pass) = self.pass.take() else {
             unreachable!()
@@ -118,7 +124,10 @@ impl<'a, D: Disk> Access for Shared<'a, D> {
         turn
     }
 
-    fn snapshot<R: Wait>(&mut self, rt: &R, alloc: Global) -> Result<Snapshot, NoMemory> {
+    fn snapshot<R: Wait>(&mut self, rt: &R, alloc: Global) -> Result<Snapshot, NoMemory>
+        ensures answer { Snaps (shown_shared D.shown self.old) (shown_shared D.shown self.new) result }
+        ensures lock { self.new.lock ≡ self.old.lock }
+    {
         self.snapshots = self.snapshots.saturating_add(1);
         let Some(pass) = self.pass.take() else {
             unreachable!()

@@ -24,7 +24,7 @@ pub(crate) fn logs_all<R: Wait>(
     request: &UpdRequest,
     count: u32,
 ) -> bool
-    ensures { session.new.home ≡ session.old.home }
+    ensures { session.new.lock ≡ session.old.lock }
 {
     for _ in 0..count {
         let UpdTurn::Logged { .. } = session.upd(rt, alloc, request, NOW) else {

@@ -68,7 +68,7 @@ pub(crate) fn logs<R: Wait>(
     session: &mut Shared<'_, MemDisk>,
     request: &UpdRequest,
 ) -> Option<u64>
-    ensures { session.new.home ≡ session.old.home }
+    ensures { session.new.lock ≡ session.old.lock }
 {
     match session.upd(rt, alloc, request, NOW) {
         UpdTurn::Logged {
@@ -90,7 +90,7 @@ pub(crate) fn found<R: Wait>(
     alloc: Global,
     session: &mut Shared<'_, MemDisk>,
 ) -> Result<u64, NoMemory>
-    ensures { session.new.home ≡ session.old.home }
+    ensures { session.new.lock ≡ session.old.lock }
 {
     Ok(session.snapshot(rt, alloc)?.updates_today())
 }

@@ -31,7 +31,7 @@ fn holds<R: Wait>(
     session: &mut Shared<'_, MemDisk>,
     place: u64,
 ) -> Result<bool, NoMemory>
-    ensures { session.new.home ≡ session.old.home }
+    ensures { session.new.lock ≡ session.old.lock }
 {
     let snapshot = session.snapshot(rt, alloc)?;
     let length = snapshot.length();
@@ -45,7 +45,7 @@ fn feed<R: Wait>(
     session: &mut Shared<'_, MemDisk>,
     count: u32,
 ) -> Result<bool, NoMemory>
-    ensures { session.new.home ≡ session.old.home }
+    ensures { session.new.lock ≡ session.old.lock }
 {
     let request = one_trade(alloc)?;
     for i in 0..count {

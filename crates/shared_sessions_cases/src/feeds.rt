@@ -18,7 +18,7 @@ fn feed<R: Wait>(
     session: &mut Shared<'_, MemDisk>,
     count: u32,
 ) -> Result<bool, NoMemory>
-    ensures { session.new.home ≡ session.old.home }
+    ensures { session.new.lock ≡ session.old.lock }
 {
     let request = one_trade(alloc)?;
     let mut least = 0;

@@ -72,7 +72,7 @@ pub(crate) fn logs<R: Wait>(
     session: &mut Shared<'_, MemDisk>,
     request: &UpdRequest,
 ) -> Option<u64>
-    ensures { session.new.home ≡ session.old.home }
+    ensures { session.new.lock ≡ session.old.lock }
 {
     match session.upd(rt, alloc, request, NOW) {
         UpdTurn::Logged {

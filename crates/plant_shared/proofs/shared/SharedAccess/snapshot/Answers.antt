@@ -20,4 +20,7 @@ invariant_of-self g c =
 pub returns : goal.returns
 returns g c =
     let here : c.self.inside.pass ≡ Some c.in-Some.pass = search rules in
-    rw (← c.self.view_is, here, c.saturating_add-self-inside.ensures) (c.snapshot-pass.ensures.answer c.self.inside.snapshots c.self.inside.ticks)
+    record {
+      answer = rw (← c.self.view_is, here, c.saturating_add-self-inside.ensures) (c.snapshot-pass.ensures.answer c.self.inside.snapshots c.self.inside.ticks);
+      lock = rw (← c.self.view_is, here) refl;
+    }
