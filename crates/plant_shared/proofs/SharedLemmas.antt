@@ -1,21 +1,16 @@
 -- What a step under the lock makes of the pass that took it.
-use Rattle.std.proofs.Common.{◌≡◌, ℕ, ℤ, ◌+◌, ◌<◌, ◌^◌, Bool, true, false, eqb, cond, List, [], ◌∷◌, ◌++◌, length, drop, Option, Some, None, Result, Ok, Err}
+use Rattle.std.proofs.Common.{◌≡◌, ℕ, ℤ, ◌+◌, Bool, true, false, eqb, cond, List, [], ◌∷◌, ◌++◌, length, drop, Option, Some, None, Result, Ok, Err}
 use Rattle.std.proofs.Common.{refl, sym, ap, ◌∙◌, subst, arith, append-nil, append_assoc, length-append}
 use Rattle.std.specs.Prelude.{unwrap_or, IfOk}
-use Rattle.std.proofs.lemmas.List.{drop-append-le}
 use Rattle.std.proofs.lemmas.Bool.{false≢true}
-use mathlib.Core.List.{IsPrefix}
 use Rattle.outside_api.specs.Disk.{DiskView}
 use Rattle.q_values.specs.Tree.{Tree, trees}
 use Rattle.q_values.specs.declared.refusal.NoMemory.{NoMemory}
-use Rattle.day_rows.specs.Chronicle.{date_of}
 use Rattle.day_rows.specs.declared.entry.Entry.{Entry}
 use Rattle.day_rows.specs.declared.entry.Entry.TheVariants as e
 use Rattle.plant_memory.specs.Chronicle.{by_of, last_fault_from, last_fault}
 use Rattle.plant_memory.specs.Frame.{Frame}
 use Rattle.plant_memory.specs.Memory.{MemoryView, SnapshotView, next_roll}
-use Rattle.plant_memory.specs.Verdict.{accepts, verdict, is_next_day}
-use Rattle.plant_memory.specs.Turns.{IsRefusal}
 use Rattle.plant_memory.specs.declared.refusal.UpdRefusal.{UpdRefusal}
 use Rattle.plant_memory.specs.declared.request.UpdRequest.{UpdRequest}
 use Rattle.plant_memory.proofs.MadeLemmas.{verdict_made}
@@ -336,11 +331,11 @@ pub tick_is : (origin : DiskView) (plant plant' new : MemoryView) (n n' : ℕ) (
 tick_is origin plant plant' new n n' now turn p q u = subst (λ (r : MemoryView × ℕ). TicksPlant origin r.0 new r.1 now turn) (λ i. (p i, q i)) u
 
 -- what no call changes of a plant
-pub unchanging : {D : Type 0} → PlantView D → Unchanging D
+abbrev pub unchanging : {D : Type 0} → PlantView D → Unchanging D
 unchanging plant = record { frame = plant.memory.frame; origin = plant.origin }
 
 -- a plant that was taken from a lock and then changed has what the lock's plants have in common
-pub frame_kept : {D : Type 0} (new was taken made made' : PlantView D) → new.memory.frame ≡ was.memory.frame → new.origin ≡ was.origin → was ≡ taken
-    → unchanging taken ≡ unchanging made → made' ≡ made → unchanging new ≡ unchanging made'
-frame_kept new was taken made made' frame origin same kept lock =
-    (λ i. record { frame = frame i; origin = origin i }) ∙ (ap unchanging same ∙ (kept ∙ sym (ap unchanging lock)))
+pub frame_kept : {D : Type 0} (new was taken first lock : PlantView D) → new.memory.frame ≡ was.memory.frame → new.origin ≡ was.origin → was ≡ taken
+    → unchanging taken ≡ unchanging first → lock ≡ first → unchanging new ≡ unchanging lock
+frame_kept new was taken first lock frame origin same kept is =
+    (λ i. record { frame = frame i; origin = origin i }) ∙ (ap unchanging same ∙ (kept ∙ sym (ap unchanging is)))

@@ -1,4 +1,4 @@
-use Rattle.std.proofs.Common.{◌≡◌, ℕ, ◌∙◌, List, length, w64, to_z, of_z, rules, refl, ap, sym, subst}
+use Rattle.std.proofs.Common.{◌≡◌, ◌∙◌, refl, ap, sym, subst}
 use Rattle.day_rows.specs.declared.entry.Entry.{Entry}
 use Rattle.plant_memory.specs.Memory.{MemoryView, SnapshotView}
 use Rattle.plant_lock.specs.Told.{Told}

@@ -1,4 +1,4 @@
-use Rattle.std.proofs.Common.{◌≡◌, ℕ, ◌∙◌, List, length, w64, to_z, of_z, rules, refl, ap, sym, subst}
+use Rattle.std.proofs.Common.{◌≡◌, ◌∙◌, w64, to_z, of_z, rules, ap, sym, subst}
 use Rattle.day_rows.specs.declared.entry.Entry.{Entry}
 use Rattle.plant_memory.specs.Memory.{MemoryView}
 use Rattle.plant_lock.specs.Told.{Told}
@@ -11,7 +11,8 @@ pub give-requires : goal.give-requires
 give-requires g c =
     let taken = c.take-held.ensures in
     record {
-      frame = frame_kept _ _ _ _ _ c.update-turn.ensures.frame c.update-turn.ensures.origin c.state.ensures.state taken.frame (ap (λ l. l.made) taken.lock);
+      frame = frame_kept c.update-turn.new.self c.state.result.now c.take-held.result.state c.args.lock.now.made c.take-held.result.lock.made c.update-turn.ensures.frame
+          c.update-turn.ensures.origin c.state.ensures.state taken.frame (ap (λ l. l.made) taken.lock);
       history = can_give _ _ _ _ _ c.number-by.ensures
           (ap (λ p. p.memory.entries) c.state.ensures.state ∙ sym (ap (λ (t : Told Entry). t.seen) taken.pass)) c.update-turn.ensures.made;
     }

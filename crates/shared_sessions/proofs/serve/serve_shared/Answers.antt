@@ -5,7 +5,7 @@ use Rattle.shared_sessions.proofs.serve.serve_shared.Goals as goal
 pub returns : goal.returns
 returns g c =
     let pass = c.into_parts.ensures in
-    let done = served _ _ _ _ _ _ c.requires.pass_is.of_lock _ _ _ _ c.serve_session-report.ensures pass.lock pass.number pass.seen pass.mine pass.own in
+    let done = served _ _ _ _ _ _ c.requires.pass_is.of_lock _ _ _ _ c.serve_session-report.ensures (ap Some (sym pass.lock)) pass.number pass.seen pass.mine pass.own in
     record {
       served = done;
       finished = λ unused. record {
