@@ -1,5 +1,6 @@
 //! Feeds and readers beside each other, each on a thread of its own.
 ghost use Rattle.std.specs.Prelude.{◌≡◌, [], IfSome};
+ghost use Rattle.plant_shared.specs.Shared.{IsPass};
 ghost use Rattle.shared_sessions.specs.Sessions.{MayServe};
 
 use crate::feeds::feed_as;
@@ -40,7 +41,7 @@ fn pair<R: Threads + Wait + Sync>(
     let (fed, read) = join(
         rt,
         move || -> Option<Note>
-            requires { MayServe lock.now feeder schema.now.value limits.now }
+            requires { IsPass lock.now.id feeder × (feeder.mine ≡ []) × (schema.now.value ≡ lock.now.made.memory.frame.schema) }
             ensures { IfSome result (λ note. note.lock ≡ lock.entry.now.id) }
         { feed_as(rt, alloc, lock, feeder, schema, work.updates) },
         move || -> Option<Note>
