@@ -1,5 +1,5 @@
 -- What the calls of a plant leave.
-use Rattle.std.proofs.Common.{◌≡◌, ◌⊎◌, ⊎_elim, ℕ, ℤ, zero, suc, ◌+◌, ◌+ℤ◌, ◌<◌, ◌≤◌, ◌<ℤ◌, ◌≤ℤ◌, ◌^◌, negsuc, pos, IsTrue, cond, List, [], ◌∷◌, ◌++◌, Option, Some, None, refl, sym, ap, subst, arith}
+use Rattle.std.proofs.Common.{◌≡◌, ◌⊎◌, ⊎_elim, inl, inr, ℕ, ℤ, zero, suc, ◌+◌, ◌+ℤ◌, ◌<◌, ◌≤◌, ◌<ℤ◌, ◌≤ℤ◌, ◌^◌, negsuc, pos, IsTrue, cond, List, [], ◌∷◌, ◌++◌, Option, Some, None, refl, sym, ap, subst, arith}
 use Rattle.outside_api.specs.Counts.{counted}
 use Rattle.outside_api.specs.Disk.{FileState, DiskView}
 use Rattle.day_rows.specs.Chronicle.{date_of, log}
@@ -27,7 +27,7 @@ use Rattle.std.specs.Prelude.{Result, Ok, Err, IfOk, OnErr}
 use Rattle.q_values.specs.Tree.{Tree}
 use Rattle.plant_memory.specs.Memory.{MemoryView, PreparedView, Prepares, due}
 use Rattle.plant_memory.specs.declared.refusal.UpdRefusal.{UpdRefusal}
-use Rattle.plant_core.specs.Plant.{ShownPlant, StoresLog, LeavesLog, RestartsAllAlong, fault_count, IsSound, IsPlant}
+use Rattle.plant_core.specs.Plant.{ShownPlant, StoresLog, LeavesLog, RestartsAllAlong, fault_count, EndsInFault, MayBeLate, IsSound, IsPlant}
 use Rattle.plant_core.proofs.LogLemmas.{log-update, log-roll, log-fault, date-update, date-roll, date-fault, ascend-update, ascend-roll, ascend-fault, faults-update, faults-roll, faults-fault, faults-counted, rows-before}
 use Rattle.plant_core.proofs.ManifestLemmas.{later-opens, open-lawful}
 
@@ -37,7 +37,7 @@ plant memory logs disk origin = record { memory = memory; logs = logs; disk = di
 pub sound-of : StoredRestarts → (p : ShownPlant) → IsPlant p → IsSound p
 sound-of law p h = record {
   ascend = h.ascend;
-  restarts = λ settled tells. (let s = h.stored settled in (s.0, law p.disk p.logs p.memory.frame.schema p.memory.frame.first (log p.memory.entries) s.0 tells s.1));
+  restarts = λ settled tells. (let s = h.stored settled in (s.0, s.1, law p.disk p.logs p.memory.frame.schema p.memory.frame.first (log p.memory.entries) s.0 tells s.2));
   faults = h.faults;
 }
 
@@ -72,7 +72,7 @@ module _ (memory memory' : MemoryView) (disk origin : DiskView) (frame : memory'
     ascend = rw (frame, entries) h.ascend;
     stored = λ settled.
         let s = h.stored settled in
-        (s.0, λ tells. rw (frame, entries) (room-stores disk.now logs room memory.frame.schema memory.frame.first (log memory.entries) s.0 (s.1 tells)));
+        (s.0, rw entries s.1, λ tells. rw (frame, entries) (room-stores disk.now logs room memory.frame.schema memory.frame.first (log memory.entries) s.0 (s.2 tells)));
     ready = record { manifest = h.ready.manifest; log = h.ready.log };
     lawful = h.lawful;
     latest = rw (frame, entries) h.latest;
@@ -91,8 +91,11 @@ module _ (memory memory' : MemoryView) (disk origin : DiskView) (frame : memory'
       subst (λ (l : DateLogsView). StoresLog (plant memory' l disk origin) late) (sym (roomy logs logs' records journal own)) roomed
 
 -- of what a failed call leaves, one is there
-left-one : (P : Option Entry → Type 0) (late : Option Entry) (entry : Entry) → P late ⊎ (P None ⊎ P (Some entry)) → (l : Option Entry) × P l
-left-one P late entry h = ⊎_elim (λ (a : P late). (late, a)) (λ (b : P None ⊎ P (Some entry)). ⊎_elim (λ (x : P None). (None, x)) (λ (y : P (Some entry)). (Some entry, y)) b) h
+left-one : (P : Option Entry → Type 0) (late : Option Entry) (entry : Entry) (entries : List Entry) → EndsInFault entries → P late ⊎ (P None ⊎ P (Some entry))
+    → (l : Option Entry) × MayBeLate entries l × P l
+left-one P late entry entries end h =
+    ⊎_elim (λ (a : P late). (late, inr end, a))
+    (λ (b : P None ⊎ P (Some entry)). ⊎_elim (λ (x : P None). (None, inr end, x)) (λ (y : P (Some entry)). (Some entry, inr end, y)) b) h
 
 -- the update's record fits the log
 pub fits : (memory : MemoryView) (update : PreparedView) (chunk : List ℕ) → update.frame ≡ memory.frame → memory.entries ≡ update.entries ++ due update
@@ -123,7 +126,7 @@ module _ (memory memory' : MemoryView) (logs logs' : DateLogsView) (disk disk' o
   pub update-plant : memory'.entries ≡ memory.entries ++ entry ∷ [] → Added → IsReady disk' logs' → logs'.manifest.records ≡ logs.manifest.records → disk'.faults ≡ disk.faults → IsPlant (plant memory logs disk origin) → IsPlant (plant memory' logs' disk' origin)
   update-plant entries added ready records faults h = record {
     ascend = rw (frame, entries) (ascend-update tables memory.frame.first memory.entries entry is h.ascend);
-    stored = λ settled. (let s = h.stored settled in (None, update-stored entries added s.0 s.1));
+    stored = λ settled. (let s = h.stored settled in (None, inl refl, update-stored entries added s.0 s.2));
     ready = ready;
     lawful = rw records h.lawful;
     latest = rw (records, frame, entries, date-update tables memory.frame.first memory.entries entry is) h.latest;
@@ -137,7 +140,7 @@ module _ (memory memory' : MemoryView) (logs logs' : DateLogsView) (disk disk' o
     pub update-failed : Failed → IsReady disk' logs' → logs'.manifest.records ≡ logs.manifest.records → disk'.faults ≡ counted disk.faults 1 → IsPlant (plant memory logs disk origin) → IsPlant (plant memory' logs' disk' origin)
     update-failed failed ready records faults h = record {
       ascend = rw (frame, entries) (ascend-fault memory.frame.first memory.entries by h.ascend);
-      stored = λ settled. (let s = h.stored settled in left-one (StoresLog (plant memory' logs' disk' origin)) s.0 entry (update-left failed s.0 s.1));
+      stored = λ settled. (let s = h.stored settled in left-one (StoresLog (plant memory' logs' disk' origin)) s.0 entry memory'.entries (memory.entries, by, entries) (update-left failed s.0 s.2));
       ready = ready;
       lawful = rw records h.lawful;
       latest = rw (records, frame, entries, date-fault memory.frame.first memory.entries by) h.latest;
@@ -165,7 +168,7 @@ module _ (memory memory' : MemoryView) (logs logs' : DateLogsView) (disk disk' o
       → date_of memory.frame.first memory.entries <ℤ date → disk'.faults ≡ disk.faults → IsPlant (plant memory logs disk origin) → IsPlant (plant memory' logs' disk' origin)
   roll-plant entries added ready records lawful later faults h = record {
     ascend = rw (frame, entries) (ascend-roll memory.frame.first memory.entries by date (sym (int_cmp_is (date_of memory.frame.first memory.entries) date Less later)) h.ascend);
-    stored = λ settled. (let s = h.stored settled in (None, roll-stored entries added s.0 s.1));
+    stored = λ settled. (let s = h.stored settled in (None, inl refl, roll-stored entries added s.0 s.2));
     ready = ready;
     lawful = rw records lawful;
     latest = rw (records, frame, entries, date-roll memory.frame.first memory.entries by date) (logs.manifest.records, by, refl);
@@ -179,7 +182,7 @@ module _ (memory memory' : MemoryView) (logs logs' : DateLogsView) (disk disk' o
     pub roll-failed : FailedRoll → IsReady disk' logs' → logs'.manifest.records ≡ logs.manifest.records → disk'.faults ≡ counted disk.faults 1 → IsPlant (plant memory logs disk origin) → IsPlant (plant memory' logs' disk' origin)
     roll-failed failed ready records faults h = record {
       ascend = rw (frame, entries) (ascend-fault memory.frame.first memory.entries by h.ascend);
-      stored = λ settled. (let s = h.stored settled in left-one (StoresLog (plant memory' logs' disk' origin)) s.0 (e.Roll by date) (roll-left failed s.0 s.1));
+      stored = λ settled. (let s = h.stored settled in left-one (StoresLog (plant memory' logs' disk' origin)) s.0 (e.Roll by date) memory'.entries (memory.entries, by, entries) (roll-left failed s.0 s.2));
       ready = ready;
       lawful = rw records h.lawful;
       latest = rw (records, frame, entries, date-fault memory.frame.first memory.entries by) h.latest;

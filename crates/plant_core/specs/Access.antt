@@ -163,6 +163,41 @@ access_of origin plant by began snapshots ticks = record {
   home = record { origin = origin; lock = None };
 }
 
+-- the same, as the value of an access that is alone
+pub record SoloView (D : Type 0) : Type 0 where
+  pub by : ℕ
+  pub frame : Frame
+  pub seen : List Entry
+  pub mine : List Entry
+  pub snapshots : ℕ
+  pub ticks : ℕ
+  -- the plant's disk as it was when the plant was loaded
+  pub origin : D
+
+abbrev pub solo_of : {D : Type 0} → D → MemoryView → ℕ → ℕ → ℕ → ℕ → SoloView D
+solo_of origin plant by began snapshots ticks = record {
+  by = by;
+  frame = plant.frame;
+  seen = plant.entries;
+  mine = drop began plant.entries;
+  snapshots = snapshots;
+  ticks = ticks;
+  origin = origin;
+}
+
+-- what it shows as an access
+abbrev pub shown_alone : {D : Type 0} → (D → DiskView) → SoloView D → AccessView
+shown_alone shown solo = record {
+  by = solo.by;
+  frame = solo.frame;
+  alone = true;
+  seen = solo.seen;
+  mine = solo.mine;
+  snapshots = solo.snapshots;
+  ticks = solo.ticks;
+  home = record { origin = shown solo.origin; lock = None };
+}
+
 -- the pass has a number of its own, and began when the plant had no more entries than now; its last fault, if there is one, has the
 -- index `latest`
 pub record IsSolo (plant : MemoryView) (by began latest : ℕ) : Type 0 where

@@ -1,5 +1,5 @@
 -- What a plant shows: its entries in memory, and what its disk holds of them.
-use Rattle.std.specs.Prelude.{◌≡◌, ◌≤◌, ◌+◌, ℕ, ℤ, IsTrue, List, [], ◌∷◌, ◌++◌, Option, Some}
+use Rattle.std.specs.Prelude.{◌≡◌, ◌≤◌, ◌+◌, ℕ, ℤ, IsTrue, List, [], ◌∷◌, ◌++◌, Option, Some, None, ◌⊎◌}
 use Rattle.outside_api.specs.Counts.{counted}
 use Rattle.outside_api.specs.Disk.{DiskView}
 use Rattle.date_loading.specs.Loading.{AreSettled}
@@ -51,14 +51,24 @@ fault_count (e.Upd by table columns ∷ entries) = fault_count entries
 fault_count (e.Roll by date ∷ entries) = fault_count entries
 fault_count (e.Fault by ∷ entries) = fault_count entries + 1
 
+-- the last entry is a fault: a commit failed, and none succeeded after it
+abbrev pub EndsInFault : List Entry → Type 0
+EndsInFault entries = (front : List Entry) × (by : ℕ) × (entries ≡ front ++ e.Fault by ∷ [])
+
+-- a late entry is there only where the last entry is a fault
+abbrev pub MayBeLate : List Entry → Option Entry → Type 0
+MayBeLate entries late = (late ≡ None) ⊎ EndsInFault entries
+
 -- what holds of each plant
 pub record IsSound (plant : ShownPlant) : Type 0 where
   -- each roll opens a later date
   pub ascend : DatesAscend plant.memory.frame.first plant.memory.entries
-  -- whatever a restart finds is the log, or the log and one late entry; where no sync had failed before the plant was loaded
+  -- whatever a restart finds is the log, or, where the last commit failed, maybe the log and one late entry; where no sync had failed
+  -- before the plant was loaded
   pub restarts :
       AreSettled plant.origin → IsTrue plant.disk.tells
-      → (late : Option Entry) × RestartsFrom plant.memory.frame.schema plant.memory.frame.first (log plant.memory.entries) late plant.disk.now
+      → (late : Option Entry) × MayBeLate plant.memory.entries late
+      × RestartsFrom plant.memory.frame.schema plant.memory.frame.first (log plant.memory.entries) late plant.disk.now
   -- there are no more faults than the disk has counted since then
   pub faults : counted plant.origin.faults (fault_count plant.memory.entries) ≤ plant.disk.faults
 
@@ -69,7 +79,7 @@ IsOpenDate records date = (front : List ManifestRecord) × (by : ℕ) × (record
 -- what the memory, the logs and the disk say of each other
 pub record IsPlant (plant : ShownPlant) : Type 0 where
   pub ascend : DatesAscend plant.memory.frame.first plant.memory.entries
-  pub stored : AreSettled plant.origin → (late : Option Entry) × StoresLog plant late
+  pub stored : AreSettled plant.origin → (late : Option Entry) × MayBeLate plant.memory.entries late × StoresLog plant late
   pub ready : IsReady plant.disk plant.logs
   pub lawful : IsManifest plant.logs.manifest.records
   pub latest : IsOpenDate plant.logs.manifest.records (date_of plant.memory.frame.first plant.memory.entries)

@@ -58,8 +58,10 @@ impl<D: Disk> Plant<D> {
 
         // Whatever a restart finds: after an `Ok` the log with this update, after a fault perhaps without it.
         ensures stored { OnOk result ((late : Option Entry) → StoresLog (shown_by D.shown self.old) late → StoresLog (shown_by D.shown self.new) None) }
-        ensures left { OnErr result ((late : Option Entry) → StoresLog (shown_by D.shown self.old) late → LeavesLog (shown_by D.shown self.new) late update.entry) }
-        ensures any_moment { (late : Option Entry) → StoresLog (shown_by D.shown self.old) late → RestartsAllAlong (shown_by D.shown self.old) (shown_by D.shown self.new) late update.entry }
+        ensures left { OnErr result ((late : Option Entry) → StoresLog (shown_by D.shown self.old) late
+            → LeavesLog (shown_by D.shown self.new) late update.entry) }
+        ensures any_moment { (late : Option Entry) → StoresLog (shown_by D.shown self.old) late
+            → RestartsAllAlong (shown_by D.shown self.old) (shown_by D.shown self.new) late update.entry }
 
         ensures origin { self.new.origin ≡ self.old.origin }
         ensures dates { self.new.logs.manifest.room ≡ self.old.logs.manifest.room }
@@ -98,8 +100,10 @@ impl<D: Disk> Plant<D> {
 
         // Whatever a restart finds: after an `Ok` the log with this roll, after a fault perhaps without it.
         ensures stored { OnOk result ((late : Option Entry) → StoresLog (shown_by D.shown self.old) late → StoresLog (shown_by D.shown self.new) None) }
-        ensures left { OnErr result ((late : Option Entry) → StoresLog (shown_by D.shown self.old) late → LeavesLog (shown_by D.shown self.new) late (e.Roll roll.by roll.date)) }
-        ensures any_moment { (late : Option Entry) → StoresLog (shown_by D.shown self.old) late → RestartsAllAlong (shown_by D.shown self.old) (shown_by D.shown self.new) late (e.Roll roll.by roll.date) }
+        ensures left { OnErr result ((late : Option Entry) → StoresLog (shown_by D.shown self.old) late
+            → LeavesLog (shown_by D.shown self.new) late (e.Roll roll.by roll.date)) }
+        ensures any_moment { (late : Option Entry) → StoresLog (shown_by D.shown self.old) late
+            → RestartsAllAlong (shown_by D.shown self.old) (shown_by D.shown self.new) late (e.Roll roll.by roll.date) }
 
         ensures origin { self.new.origin ≡ self.old.origin }
         ensures counts { Counts (D.shown self.old.disk) (D.shown self.new.disk) result }

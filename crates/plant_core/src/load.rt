@@ -324,7 +324,11 @@ impl<D: Disk> Plant<D> {
     /// yet gives a plant without entries, which begins at this date.
     ///
     /// A refusal is the first of these that holds: the manifest is damaged, its tables aren't those of the schema, it has
-    /// opened a later date, a log is damaged (the earliest), the numbers of passes are used up. The disk comes back with it.
+    /// opened a later date, a log is damaged (the earliest), the numbers of passes are used up. The disk comes back with it,
+    /// and has counted a fault exactly where the load is refused for one. Unless it is, each file reads as before.
+    ///
+    /// The entries are those that the files restart as, and then the roll. Whatever a later restart finds is this log, where
+    /// no sync of the files had failed before. A pass has a number left.
     pub fn load(
         alloc: Global,
         disk: D,
@@ -336,22 +340,14 @@ impl<D: Disk> Plant<D> {
         requires first { negsuc 106751 ≤ℤ date }
         requires last { date ≤ℤ pos 106751 }
 
-        // The entries are those that the files restart as, and then the roll.
         ensures loaded { IfOk result (λ plant. IsTrue (D.shown disk).tells → IsLoaded (D.shown disk) schema date plant.memory) }
         ensures schema { IfOk result (λ plant. plant.memory.frame.schema ≡ schema) }
         ensures limits { IfOk result (λ plant. plant.memory.frame.limits ≡ limits.now) }
         ensures origin { IfOk result (λ plant. plant.origin ≡ disk) }
-
-        // The plant is open at the date, and a pass has a number left.
         ensures opened { IfOk result (λ plant. date_of plant.memory.frame.first plant.memory.entries ≡ date) }
         ensures numbers { IfOk result (λ plant. top_by plant.memory.entries + 2 < 2 ^ 64) }
-
-        // Whatever a later restart finds is this log, where no sync of the files had failed before.
         ensures stored { IfOk result (λ plant. AreSettled (D.shown disk) → StoresLog (shown_by D.shown plant) None) }
         ensures refused { IfErr result (λ failure. LoadRefuses (D.shown disk) schema date failure.why) }
-
-        // The disk that comes back has counted a fault exactly where the load is refused for one. Unless it is, each file of a
-        // refused load reads as before.
         ensures quiet { IfOk result (λ plant. CountsNothing (D.shown disk) (D.shown plant.disk)) }
         ensures counts { IfErr result (λ failure. RefusalCounts (D.shown disk) (D.shown failure.disk) failure.why) }
         ensures unchanged { IfErr result (λ failure. LeavesFiles (D.shown disk) (D.shown failure.disk) failure.why) }

@@ -21,7 +21,7 @@ use std::marker::Model;
 /// was when the plant was loaded.
 ///
 /// Its log is its chronicle without the faults. Whatever a restart finds of the disk, at any moment, is that log, or the log
-/// and one late entry: that of the last commit that failed. `IsSound` says so.
+/// and one late entry: that of a commit that failed, and after which none succeeded. `IsSound` says so.
 #[derive(Drop)]
 pub struct Plant<D: Disk> {
     /// The entries in memory, faults included.
@@ -115,6 +115,7 @@ impl<D: Disk> Plant<D> {
             IsRefusal (verdict self.old.memory.frame by self.old.memory.entries request.now.table (trees request.now.items) now) why) }
         ensures err { OnErr result (self.new.memory ≡ record self.old.memory { spare = self.new.memory.spare }) }
         ensures disk { LeavesDisk (shown_by D.shown self.old) (shown_by D.shown self.new) }
+        ensures origin { self.new.origin ≡ self.old.origin }
     {
         self.memory.prepare(alloc, by, request, now)
     }
@@ -134,6 +135,7 @@ impl<D: Disk> Plant<D> {
         ensures room { OnOk result (0 < self.new.logs.manifest.room) }
         ensures unchanged { self.new.memory ≡ record self.old.memory { spare = self.new.memory.spare } }
         ensures disk { LeavesDisk (shown_by D.shown self.old) (shown_by D.shown self.new) }
+        ensures origin { self.new.origin ≡ self.old.origin }
     {
         self.logs.reserve()?;
         let date = next_date(self.memory.date());

@@ -1,5 +1,5 @@
 //! A plant that one pass holds alone.
-ghost use Rattle.std.specs.Prelude.{◌≡◌, ◌<◌, ◌+◌, ◌^◌, true, [], None};
+ghost use Rattle.std.specs.Prelude.{◌≡◌, ◌<◌, ◌+◌, ◌^◌, []};
 ghost use Rattle.plant_memory.specs.Chronicle.{top_by};
 
 use crate::access::{Access, TickTurn, UpdTurn};
@@ -31,11 +31,11 @@ pub struct Solo<D: Disk> {
 }
 
 impl<D: Disk> Model for Solo<D> {
-    ghost use Rattle.plant_core.specs.Access.{AccessView, IsSolo, access_of};
+    ghost use Rattle.plant_core.specs.Access.{SoloView, IsSolo, solo_of};
 
-    ghost Value = { AccessView };
+    ghost Value = { SoloView D };
 
-    ghost view = { λ s. access_of (D.shown s.plant.origin) s.plant.memory s.by s.began s.snapshots s.ticks };
+    ghost view = { λ s. solo_of s.plant.origin s.plant.memory s.by s.began s.snapshots s.ticks };
 
     ghost invariant = { λ s. IsSolo s.plant.memory s.by s.began s.latest };
 }
@@ -47,12 +47,11 @@ impl<D: Disk> Solo<D> {
         ensures { result ≡ record {
           by = top_by plant.memory.entries + 1;
           frame = plant.memory.frame;
-          alone = true;
           seen = plant.memory.entries;
           mine = [];
           snapshots = 0;
           ticks = 0;
-          home = record { origin = D.shown plant.origin; lock = None };
+          origin = plant.origin;
         } }
     {
         Solo {
@@ -69,7 +68,7 @@ impl<D: Disk> Solo<D> {
     pub fn into_plant(self) -> Plant<D>
         ensures frame { result.memory.frame ≡ self.frame }
         ensures entries { result.memory.entries ≡ self.seen }
-        ensures origin { D.shown result.origin ≡ self.home.origin }
+        ensures origin { result.origin ≡ self.origin }
     {
         let Solo { plant, .. } = self;
         plant
@@ -77,7 +76,9 @@ impl<D: Disk> Solo<D> {
 }
 
 impl<D: Disk> Access for Solo<D> {
-    ghost shown = { λ s. s };
+    ghost use Rattle.plant_core.specs.Access.{shown_alone};
+
+    ghost shown = { λ s. shown_alone D.shown s };
 
     fn by(&self) -> u64 {
         self.by

@@ -25,7 +25,8 @@ found-again once former date memory lawful sound settled told first loaded =
     let is : Restarts schema former.memory.frame.first files loaded.kept = subst (λ d. Restarts schema d files loaded.kept) first loaded.restarts in
     record {
       late = restarts.0;
+      allowed = restarts.1;
       kept = loaded.kept;
-      same = same-late once schema former.memory.frame.first files (log former.memory.entries) loaded.kept restarts.0 lawful (restarts.1 files (λ k. inr refl)) is;
+      same = same-late once schema former.memory.frame.first files (log former.memory.entries) loaded.kept restarts.0 lawful (restarts.2 files (λ k. inr refl)) is;
       entries = rw (← first) loaded.entries;
     }

@@ -10,7 +10,7 @@ use Rattle.date_loading.specs.declared.refusal.LoadRefusal.{LoadRefusal}
 use Rattle.date_loading.specs.declared.refusal.LoadRefusal.TheVariants as l
 use Rattle.plant_memory.specs.Memory.{MemoryView}
 use Rattle.plant_core.specs.Load.{roll_to, IsLoaded, LoadRefuses}
-use Rattle.plant_core.specs.Plant.{ShownPlant, IsSound}
+use Rattle.plant_core.specs.Plant.{ShownPlant, MayBeLate, IsSound}
 use Rattle.plant_core.specs.Progress.{IsFree}
 
 -- these entries, or these and the late one
@@ -18,9 +18,10 @@ abbrev pub IsWithLate : List Entry → Option Entry → List Entry → Type 0
 IsWithLate entries None found = found ≡ entries
 IsWithLate entries (Some late) found = (found ≡ entries) ⊎ (found ≡ entries ++ late ∷ [])
 
--- the entries are those of the former log, maybe with a late one, and then the roll of the load
+-- the entries are those of the former log, maybe with a late one where the last commit had failed, and then the roll of the load
 pub record IsFound (former : ShownPlant) (date : ℤ) (memory : MemoryView) : Type 0 where
   pub late : Option Entry
+  pub allowed : MayBeLate former.memory.entries late
   pub kept : List Entry
   pub same : IsWithLate (log former.memory.entries) late kept
   pub entries : memory.entries ≡ kept ++ roll_to (date_of former.memory.frame.first kept) date
@@ -28,8 +29,9 @@ pub record IsFound (former : ShownPlant) (date : ℤ) (memory : MemoryView) : Ty
 -- a plant on a disk that reports, and of which no sync had failed when it was loaded, is found again with the same first date
 abbrev pub FoundAgain : Type 0
 FoundAgain =
-    (former : ShownPlant) (date : ℤ) (memory : MemoryView) → IsSchema former.memory.frame.schema → IsSound former → AreSettled former.origin → IsTrue former.disk.tells
-    → memory.frame.first ≡ former.memory.frame.first → IsLoaded former.disk former.memory.frame.schema date memory → IsFound former date memory
+    (former : ShownPlant) (date : ℤ) (memory : MemoryView) → IsSchema former.memory.frame.schema → IsSound former
+    → AreSettled former.origin → IsTrue former.disk.tells → memory.frame.first ≡ former.memory.frame.first
+    → IsLoaded former.disk former.memory.frame.schema date memory → IsFound former date memory
 
 -- what a disk that reports can be loaded as leaves no cause to refuse it, but that the disk fails or memory runs out
 abbrev pub NoCause : Type 0

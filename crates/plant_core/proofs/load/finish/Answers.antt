@@ -5,7 +5,8 @@ use Rattle.plant_memory.specs.Chronicle.{top_by}
 use Rattle.plant_memory.specs.Memory.{MemoryView}
 use Rattle.plant_core.specs.Load.{roll_to}
 use Rattle.plant_core.specs.Progress.{IsWhole, IsReadPlant}
-use Rattle.plant_core.proofs.LoadLemmas.{whole-of, loaded-of, spent-of, opened-of, ok-three, top-loaded, all-leave}
+use Rattle.plant_core.proofs.LoadLemmas.{whole-of, loaded-of, spent-of, opened-of, ok-three, top-loaded}
+use Rattle.plant_core.proofs.ReadLemmas.{all-leave}
 use Rattle.plant_core.proofs.load.finish.Goals as goal
 
 pub roll_to-requires-clause-whole : goal.roll_to-requires-clause-whole

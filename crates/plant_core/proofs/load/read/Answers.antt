@@ -2,7 +2,7 @@ use Rattle.std.proofs.Common.{◌≡◌, [], ap, rules, w32, to_z, of_z}
 use Rattle.date_logs.specs.Restart.{Dated}
 use Rattle.date_loading.specs.Loading.{dated}
 use Rattle.plant_memory.specs.Frame.{Frame}
-use Rattle.plant_core.proofs.LoadLemmas.{opened-read, has-same, has-more, loading-first, next-refused, reads-on, leaves-any}
+use Rattle.plant_core.proofs.ReadLemmas.{opened-read, has-same, has-more, loading-first, next-refused, reads-on, leaves-any}
 use Rattle.plant_core.proofs.load.read.Goals as goal
 
 pub begin-requires-clause-read : goal.begin-requires-clause-read

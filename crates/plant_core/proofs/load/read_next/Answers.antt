@@ -2,7 +2,7 @@ use Rattle.std.proofs.Common.{◌∷◌, Option, ℤ, subst}
 use Rattle.date_logs.specs.Restart.{Dated}
 use Rattle.date_loading.specs.Loading.{dated}
 use Rattle.date_loading.specs.Manifests.{IsBefore}
-use Rattle.plant_core.proofs.LoadLemmas.{has-more, loading-more, next-refused, reads-on, leaves-any}
+use Rattle.plant_core.proofs.ReadLemmas.{has-more, loading-more, next-refused, reads-on, leaves-any}
 use Rattle.plant_core.proofs.load.read_next.Goals as goal
 
 pub returns-in-Ok-clause-loading : goal.returns-in-Ok-clause-loading
