@@ -1,5 +1,5 @@
 -- What the reading of dates leaves.
-use Rattle.std.proofs.Common.{IsTrue, List, None, Some, [], ap, append_assoc, arith, drop, refl, subst, suc, sym, take, zero, ℕ, ℤ, ◌++◌, ◌+◌, ◌-◌, ◌<ℤ◌, ◌<◌, ◌∙◌, ◌∷◌, ◌≡◌}
+use Rattle.std.proofs.Common.{IsTrue, List, None, Some, [], ap, append_assoc, arith, drop, refl, subst, suc, sym, take, zero, ℕ, ℤ, ◌++◌, ◌+◌, ◌<ℤ◌, ◌∙◌, ◌∷◌, ◌≡◌}
 use Rattle.std.specs.Prelude.{slice_get, Result, Ok, Err, IfErr}
 use Rattle.std.specs.List.{AllByRecursion}
 use Rattle.std.proofs.lemmas.List.{append-nil}

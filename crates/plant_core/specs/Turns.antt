@@ -1,5 +1,5 @@
 -- What one turn of a pass makes of a plant: seen by a pass that has the plant to itself, and has made nothing yet.
-use Rattle.std.specs.Prelude.{◌≡◌, ℕ, ℤ, length}
+use Rattle.std.specs.Prelude.{ℕ, ℤ, length}
 use Rattle.outside_api.specs.Disk.{DiskView}
 use Rattle.plant_memory.specs.Frame.{Frame}
 use Rattle.plant_memory.specs.Memory.{MemoryView}
