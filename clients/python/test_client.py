@@ -5,8 +5,10 @@ import datetime
 import io
 import os
 import re
+import shutil
 import subprocess
 import sys
+import tempfile
 import unittest
 
 from plant_client import (
@@ -216,6 +218,12 @@ class Readme(unittest.TestCase):
         (found,) = re.findall(rf"```{language}\n(.*?)```\n.*?```\n(.*?)```", look, re.DOTALL)
         return [block.replace("bin/plant", PLANT) for block in found]
 
+    def setUp(self):
+        self.base = tempfile.mkdtemp(prefix="plant_readme_")
+
+    def tearDown(self):
+        shutil.rmtree(self.base, ignore_errors=True)
+
     def test_shell(self):
         script, printed = self.blocks("sh")
         ran = subprocess.run(["sh", "-c", script], cwd=ROOT, capture_output=True, text=True, check=True)
@@ -223,6 +231,7 @@ class Readme(unittest.TestCase):
 
     def test_python(self):
         script, printed = self.blocks("python")
+        script = script.replace('"data"', repr(os.path.join(self.base, "data")))
         ran = subprocess.run([sys.executable, "-c", script], cwd=ROOT, capture_output=True, text=True, check=True)
         self.assertEqual(ran.stdout, printed)
 

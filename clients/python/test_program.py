@@ -10,7 +10,7 @@ import subprocess
 import tempfile
 import unittest
 
-from plant_client import Client, Error
+from plant_client import Client, Error, Vector
 
 ROOT = os.path.join(os.path.dirname(os.path.abspath(__file__)), "..", "..")
 PLANT = os.environ.get("PLANT", os.path.join(ROOT, "bin", "plant"))
@@ -74,6 +74,25 @@ class Folders(unittest.TestCase):
             self.assertEqual(plant.query("exec count i from trade"), 1002)
             self.assertEqual(plant.query("exec sum size from trade where sym=`a"), 499_500)
         self.assertEqual(plant.status, 0)
+
+    def test_many_rows_are_there_at_the_next_start(self):
+        """A thousand updates of one row and one of a hundred thousand, found by two more starts."""
+        self.init()
+        rows = 100_000
+        kinds = ("timespan", "symbol", "long", "long")
+        columns = ([34_200_000_000_000] * rows, ["KX", "AB"] * (rows // 2), list(range(rows)), [7] * rows)
+        with self.once() as plant:
+            for size in range(1000):
+                plant.update("trade", HALF_PAST_NINE, "KX", 10050, size)
+            plant.update("trade", *(Vector(kind, tuple(items)) for kind, items in zip(kinds, columns)))
+            self.assertEqual(plant.query("exec count i from trade"), 1000 + rows)
+        self.assertEqual(plant.status, 0)
+        for _ in range(2):
+            with self.once() as plant:
+                self.assertEqual(plant.query("exec count i from trade"), 1000 + rows)
+                self.assertEqual(plant.query("exec sum size from trade"), 499_500 + 7 * rows)
+                self.assertEqual(plant.query("exec sum price from trade where sym=`AB"), sum(range(1, rows, 2)))
+            self.assertEqual(plant.status, 0)
 
     def test_a_later_start_ends_the_date(self):
         self.init()
@@ -228,10 +247,34 @@ class Folders(unittest.TestCase):
         status, output, lines = self.run_plant("--help")
         self.assertEqual((status, lines), (0, []))
         self.assertIn(b"once", output)
+        self.assertTrue(output.endswith(b"\n") and not output.endswith(b"\n\n"), output[-20:])
         self.assertEqual(self.run_plant("--version")[0], 0)
         for words in (["serve"], ["once", "--dir"], ["init"], ["once", "--clock", "2024.13.02D09:30"]):
             status, output, lines = self.run_plant(*words)
             self.assertEqual((status, output, lines[0], len(lines)), (1, b"", "plant: usage", 2), words)
+
+    @unittest.skipUnless(os.path.exists("/dev/full"), "there is no file that is always full")
+    def test_help_that_is_not_printed(self):
+        for word in ("--help", "--version"):
+            with open("/dev/full", "wb") as full:
+                done = subprocess.run([PLANT, word], stdout=full, stderr=subprocess.PIPE, timeout=120)
+            self.assertEqual((done.returncode, done.stderr), (4, b"plant: link fault\n"))
+
+    @unittest.skipUnless(os.path.exists("/dev/full"), "there is no file that is always full")
+    def test_answers_that_are_not_written(self):
+        self.init()
+        with open("/dev/full", "wb") as full:
+            words = [PLANT, "once", "--dir", self.folder, "--clock", CLOCK]
+            done = subprocess.run(words, input=b"u:p\x03\x00", stdout=full, stderr=subprocess.PIPE, timeout=120)
+        self.assertEqual((done.returncode, done.stderr), (4, b"plant: link fault\n"))
+
+    def test_streams_that_end_badly(self):
+        """The statuses of an input that ends within a message, and of bytes that are none."""
+        for data, status, line in (
+            (b"u:p\x03\x00\x01", 2, "plant: input ends within a message"),
+            (b"u:p\x03\x00\x01\x01\x00\x00\x07\x00\x00\x00", 3, "plant: bad message 4 at 9"),
+        ):
+            self.assertEqual(self.run_plant("once", "--clock", CLOCK, data=data), (status, b"\x03", [line]))
 
 
 if __name__ == "__main__":

@@ -3,6 +3,7 @@ use Rattle.std.specs.Prelude.{◌≡◌, ◌⊎◌, ℕ, Bool, List, Option, cod
 use Rattle.day_rows.specs.declared.schema.Shape.{Shape}
 use Rattle.plant_words.specs.Asked.{Asked, init, once, IsAsked}
 use Rattle.plant_words.specs.declared.command.Ticking.{Ticking}
+use Rattle.outside_api.specs.Counts.{counted}
 use Rattle.program_outside.specs.Outside.{OutsideView, said_of, warned_of}
 use Rattle.q_values.specs.Limits.{standard_limits}
 use Rattle.q_values.specs.declared.limits.Limits.{Limits}
@@ -18,7 +19,8 @@ limits_with batch = record standard_limits { batch = batch }
 -- a folder is formatted for the tables that are found first
 abbrev pub RunsInit : List ℕ → Option (List ℕ) → OutsideView → OutsideView → ℕ → Type 0
 RunsInit path schema old new status =
-    HasNoTables schema old new status ⊎ ((tables : List Shape) × ((seen : OutsideView) × HasTables schema tables old seen × FormatsIn tables path seen new status))
+    HasNoTables schema old new status
+    ⊎ ((tables : List Shape) × ((seen : OutsideView) × HasTables schema tables old seen × FormatsIn tables path seen new status))
 
 -- a session is served within these limits, with the tables that are found first
 abbrev pub RunsOnce : Limits → Option (List ℕ) → Option (List ℕ) → Option Ticking → OutsideView → OutsideView → ℕ → Type 0
@@ -31,9 +33,14 @@ abbrev pub RunsFor : Asked → OutsideView → OutsideView → ℕ → Type 0
 RunsFor (init path schema) old new status = RunsInit path schema old new status
 RunsFor (once folder schema ticking batch) old new status = RunsOnce (limits_with batch) folder schema ticking old new status
 
--- a text is shown on standard output
+-- standard output can't be written, which is counted, and ends the program as a fault of a link does
+abbrev pub CannotSay : OutsideView → OutsideView → ℕ → Type 0
+CannotSay old new status =
+    (status ≡ 4) × (new ≡ warned_of (record old { say_faults = counted old.say_faults 1 }) (codes "plant: link fault"))
+
+-- a text is shown on standard output, or can't be
 abbrev pub Shows : OutsideView → OutsideView → ℕ → Type 0
-Shows old new status = (text : List ℕ) × (status ≡ 0) × (new ≡ said_of old text)
+Shows old new status = ((text : List ℕ) × (status ≡ 0) × (new ≡ said_of old text)) ⊎ CannotSay old new status
 
 -- the arguments are faulty, and a second line says in which way
 abbrev pub TellsUsage : OutsideView → OutsideView → ℕ → Type 0

@@ -39,4 +39,6 @@ FindsTables path old new result = MatchResult result (λ tables. HasTables path 
 -- the tables that these bytes of a file spell, or the exit status of a program that ends without them
 abbrev pub FindsIn : List ℕ → List ℕ → OutsideView → OutsideView → Result (List Shape) ℕ → Type 0
 FindsIn path bytes old new (Ok tables) = Spells bytes tables × (new ≡ old)
-FindsIn path bytes old new (Err status) = IsShort old new status ⊎ (((why : SchemaRefusal) × (why ≢ r.NoMemory) × IsFaultOf bytes why) × CannotStart path old new status)
+FindsIn path bytes old new (Err status) =
+    IsShort old new status
+    ⊎ (((why : SchemaRefusal) × (why ≢ r.NoMemory) × IsFaultOf bytes why) × CannotStart path old new status)

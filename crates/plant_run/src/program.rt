@@ -3,9 +3,9 @@ ghost use Rattle.std.specs.Prelude.{◌≡◌, codes, map, string_bytes};
 ghost use Rattle.std.specs.Option.{option_map};
 ghost use Rattle.program_outside.specs.Outside.{warned_of};
 ghost use Rattle.q_values.specs.Limits.{AreLimits};
-ghost use Rattle.plant_run.specs.Program.{Runs, RunsInit, RunsOnce, limits_with};
+ghost use Rattle.plant_run.specs.Program.{Runs, RunsInit, RunsOnce, Shows, limits_with};
 
-use crate::ends::short;
+use crate::ends::{short, warned};
 use crate::init::format_folder;
 use crate::once::serve_once;
 use crate::tables::find_tables;
@@ -25,15 +25,22 @@ pub fn run<O: Outside, R: Wait>(rt: &R, alloc: Global, arguments: &[String], out
     match read_words(alloc, arguments) {
         Ok(Command::Init(words)) => run_init(alloc, &words, outside),
         Ok(Command::Once(words)) => run_once(rt, alloc, &words, &limits_with(words.batch), outside),
-        Err(WordsRefusal::Shown(text)) => {
-            outside.say(text.as_bytes());
-            0
-        }
+        Err(WordsRefusal::Shown(text)) => show(text.as_str(), outside),
         Err(WordsRefusal::Usage(line)) => {
             warn_of_usage(line.as_bytes(), outside);
             1
         }
         Err(WordsRefusal::NoMemory) => short(outside),
+    }
+}
+
+/// Shows a text on standard output, and gives the exit status.
+fn show<O: Outside>(text: &str, outside: &mut O) -> u8
+    ensures { Shows (O.seen outside.old) (O.seen outside.new) result }
+{
+    match outside.say(text.trim_end().as_bytes()) {
+        Ok(()) => 0,
+        Err(_) => warned(outside, b"plant: link fault", 4),
     }
 }
 

@@ -5,7 +5,7 @@ ghost use Rattle.outside_api.specs.Told.{told};
 ghost use Rattle.ticking_clock.specs.Clock.{ticks};
 ghost use Rattle.plant_memory.specs.Chronicle.{moment_date, top_by};
 ghost use Rattle.q_values.specs.Limits.{AreLimits};
-ghost use Rattle.plant_run.specs.Once.{Goes, IsClock, GoesOn, course_of};
+ghost use Rattle.plant_run.specs.Once.{Goes, GoesOn, IsClock, Keeps, course_of};
 
 use crate::course::Course;
 use day_rows::Schema;
@@ -27,6 +27,13 @@ fn open_date(moment: i64) -> i32
     ensures last { result ≤ℤ pos 106751 }
 {
     moment.div_euclid(NANOSECONDS_PER_DAY) as i32
+}
+
+/// The disk of a plant that one pass had to itself. It keeps the log of all that the pass has seen.
+fn disk_of<D: Disk>(solo: Solo<D>) -> D
+    ensures { Keeps (D.shown solo.origin) (D.shown result) solo.frame solo.seen }
+{
+    solo.into_plant().close()
 }
 
 /// Serves one session over a plant that was just loaded, whose clock was read once.
@@ -59,7 +66,7 @@ fn serve_plant<O: Outside, D: Disk, C: Clock, R: Wait>(
         turns,
         end: report.end,
     };
-    (solo.into_plant().close(), course)
+    (disk_of(solo), course)
 }
 
 /// Loads the plant of a disk at the date of the clock's first reading, and serves one session over it. The disk comes

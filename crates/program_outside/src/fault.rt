@@ -1,4 +1,4 @@
-//! Why a device could not be made, or a file not read.
+//! Why a device could not be made, a file not read, or a line not printed.
 use thiserror::Error;
 
 /// Why a device could not be made, or a file not read.
@@ -13,6 +13,9 @@ pub enum Cause {
     /// Another process has it open.
     #[error("it is in use by another process")]
     InUse,
+    /// Another process listens on the port.
+    #[error("the port is in use")]
+    PortInUse,
     /// The system doesn't permit it.
     #[error("permission denied")]
     Denied,
@@ -42,6 +45,7 @@ impl Cause {
             Cause::Missing => "there is no such file or folder",
             Cause::NotAFolder => "it is not a folder",
             Cause::InUse => "it is in use by another process",
+            Cause::PortInUse => "the port is in use",
             Cause::Denied => "permission denied",
             Cause::Full => "no space is left, or the file system is read-only",
             Cause::TooLong => "it is too long",
@@ -58,6 +62,11 @@ pub struct MakeFault {
     /// Why not.
     pub cause: Cause,
 }
+
+/// Standard output could not be written.
+#[derive(Clone, Copy, Debug, PartialEq, Eq, Error)]
+#[error("standard output could not be written")]
+pub struct SayFault;
 
 /// Why a file isn't read.
 #[derive(Clone, Copy, Debug, PartialEq, Eq, Error)]

@@ -1,40 +1,51 @@
 //! What makes the devices of a program.
-ghost use Rattle.std.specs.Prelude.{◌≡◌, IfOk, string_bytes};
+ghost use Rattle.std.specs.Prelude.{◌≡◌};
 
-use crate::fault::{FileRefusal, MakeFault};
+use crate::fault::{FileRefusal, MakeFault, SayFault};
 use outside_api::{Clock, Disk, Gate, Link, Recorder};
 use std::alloc::Global;
 
-/// Makes the devices of a program, reads its files, prints its lines, and takes the devices back at its end.
+/// Makes the devices of a program, reads its files, prints its lines, listens for connections, and takes the devices back at
+/// its end.
 pub trait Outside {
     ghost use Rattle.outside_api.specs.Disk.{DiskView};
-    ghost use Rattle.outside_api.specs.Link.{LinkView, IsFresh};
+    ghost use Rattle.outside_api.specs.Link.{LinkView};
     ghost use Rattle.outside_api.specs.Told.{HasToldNothing};
-    ghost use Rattle.program_outside.specs.Outside.{OutsideView, Makes, Opens, ReadsFile, said_of, warned_of, handed_back, kept_of};
+    ghost use Rattle.program_outside.specs.Outside.{OutsideView, Links, Listens, Accepts, IsListening, Opens, ReadsFile, Says, warned_of, handed_back, kept_of};
     ghost use Rattle.std.specs.Option.{option_map};
 
-    /// Its links.
-    type Link: Link;
+    /// Its links: standard input and output, and the connections that it accepted.
+    type Link: Link + Send + Drop;
 
     /// The disks of its folders.
-    type Disk: Disk + Drop;
+    type Disk: Disk + Send + Drop;
 
     /// Its clocks.
-    type Clock: Clock;
+    type Clock: Clock + Send + Drop;
 
     /// Its gates.
-    type Gate: Gate + Drop;
+    type Gate: Gate + Send + Drop;
 
     /// Its recorders.
-    type Recorder: Recorder;
+    type Recorder: Recorder + Send + Drop;
 
-    /// What it shows: what it made, read, printed and took back where it reports that, and its count of faults.
+    /// What it shows: what it made, read, printed and took back where it reports that, its counts of faults, and the port
+    /// that it listens on.
     ghost seen: { Self → OutsideView };
 
     /// The link of standard input and output. It has given and taken nothing, and its counts are 0.
     fn standard(&mut self) -> Result<Self::Link, MakeFault>
-        ensures made { Makes (seen self.old) (seen self.new) result }
-        ensures fresh { IfOk result (λ link. IsFresh (Self.Link.shown link)) };
+        ensures { Links (λ l. Self.Link.shown l) (seen self.old) (seen self.new) result };
+
+    /// Listens for connections to this port of the machine itself. Where that fails, it listens as before.
+    fn listen(&mut self, port: u16) -> Result<(), MakeFault>
+        ensures { Listens port (seen self.old) (seen self.new) result };
+
+    /// The link of the next connection, which has given and taken nothing and whose counts are 0; none where no connection
+    /// came for a while.
+    fn accept(&mut self) -> Result<Option<Self::Link>, MakeFault>
+        requires { IsListening (seen self.old) }
+        ensures { Accepts (λ l. Self.Link.shown l) (seen self.old) (seen self.new) result };
 
     /// The disk of the folder of this path. Where another has it open, this is refused at once.
     fn folder(&mut self, alloc: Global, path: &str) -> Result<Self::Disk, MakeFault>
@@ -62,9 +73,9 @@ pub trait Outside {
     fn read_file(&mut self, alloc: Global, path: &str) -> Result<Vec<u8>, FileRefusal>
         ensures { ReadsFile path.now (λ v. v.items) (seen self.old) (seen self.new) result };
 
-    /// Prints a line on standard output.
-    fn say(&mut self, line: &[u8])
-        ensures { seen self.new ≡ said_of (seen self.old) line.now };
+    /// Prints a line on standard output, at once.
+    fn say(&mut self, line: &[u8]) -> Result<(), SayFault>
+        ensures { Says line.now (seen self.old) (seen self.new) result };
 
     /// Prints a line on standard error.
     fn warn(&mut self, line: &[u8])

@@ -9,10 +9,10 @@ returns-in-Ok g c =
     let moment : to_z w64 (of_z w64 c.now-first.result) ≡ c.now-first.result = search rules in
     let day : to_z w32 (of_z w32 c.open_date.result) ≡ c.open_date.result = search rules in
     let date : to_z w32 (of_z w32 c.open_date.result) ≡ moment_date c.now-first.result = day ∙ (rw moment at c.open_date.ensures.date) in
-    goes-on c.args.limits.now c.args.schema c.in-Ok.plant.memory _ (g.D.Disk.shown c.args.disk) (g.D.Disk.shown c.serve_plant.result.0)
+    goes-on c.args.limits.now c.args.schema c.in-Ok.plant.memory (g.D.Disk.shown c.args.disk) (g.D.Disk.shown c.serve_plant.result.0)
     (g.C.Clock.readings c.args.clock.now) (g.C.Clock.readings c.now-first.new.self) (g.C.Clock.readings c.serve_plant.new.clock)
     c.now-first.result (g.O.Outside.seen c.args.outside.now) (g.O.Outside.seen c.serve_plant.new.outside)
     (course_of g.O.Link.Link.shown g.O.Recorder.Recorder.noted c.serve_plant.result.1)
     (record { loaded = rw date at c.in-Ok.ensures.loaded; tables_are = c.in-Ok.ensures.schema; limits_are = c.in-Ok.ensures.limits })
     c.now-first.ensures
-    c.serve_plant.ensures
+    (rw c.in-Ok.ensures.origin at c.serve_plant.ensures)

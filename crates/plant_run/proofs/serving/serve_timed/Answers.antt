@@ -9,4 +9,9 @@ returns-in-Some g c =
 
 pub returns-in-None : goal.returns-in-None
 returns-in-None g c =
-    (g.O.Clock.Clock.readings c.clock-clock.result, g.O.Clock.Clock.readings c.serve-disk.new.clock, rw c.in-None.is (c.clock-clock.ensures.fresh, refl), rw c.clock-clock.ensures.same at c.serve-disk.ensures)
+    (
+      g.O.Clock.Clock.readings c.clock-clock.result,
+      g.O.Clock.Clock.readings c.serve-disk.new.clock,
+      rw c.in-None.is (c.clock-clock.ensures.fresh, refl),
+      rw c.clock-clock.ensures.same at c.serve-disk.ensures,
+    )
