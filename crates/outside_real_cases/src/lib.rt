@@ -9,6 +9,8 @@
 //! a journal          a thousand records, found again
 //! a clock            known times, one that isn't given, the ends of the range; the machine's
 //! a file             read whole, and refused
+//! a port             in use; no connection for a while
+//! a connection       what passes; a timeout; the end; a client that vanishes; a stream that fails as planned
 //! ```
 //!
 //! Each real folder stands in the machine's folder for temporary files, under a name that has the process's number,
@@ -23,3 +25,5 @@ mod planned;
 mod readings;
 #[cfg(test)]
 mod real;
+#[cfg(test)]
+mod sockets;

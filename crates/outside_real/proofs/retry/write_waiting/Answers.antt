@@ -1,8 +1,8 @@
 use Rattle.std.proofs.Common.{◌++◌, take}
 use Rattle.std.proofs.KnownBytes.{Appends-trans, Appends-kept}
-use Rattle.plant_edge.proofs.SentLemmas.{moves_slice, prefix_sent, prefix_taken, prefix_kept}
-use Rattle.plant_edge.proofs.retry.write_waiting.Goals.{in-Ok, in-Err+else-not-may_try_again}
-use Rattle.plant_edge.proofs.retry.write_waiting.Goals as goal
+use Rattle.outside_real.proofs.SentLemmas.{moves_slice, prefix_sent, prefix_taken, prefix_kept}
+use Rattle.outside_real.proofs.retry.write_waiting.Goals.{in-Ok, in-Err+else-not-may_try_again}
+use Rattle.outside_real.proofs.retry.write_waiting.Goals as goal
 
 pub returns-in-Ok-eq0 : goal.returns-in-Ok-eq0
 returns-in-Ok-eq0 g c =

@@ -1,6 +1,6 @@
 use Rattle.std.proofs.Common.{◌≡◌, ℕ, List, ◌++◌}
 use Rattle.std.specs.Io.KnownBytes.{Appends}
-use Rattle.plant_edge.proofs.retry.write_waiting.Given as goal
+use Rattle.outside_real.proofs.retry.write_waiting.Given as goal
 
 -- what is gone from the rest was appended
 abbrev pub invariant-loop : goal.invariant-loop

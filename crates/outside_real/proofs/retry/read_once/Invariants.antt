@@ -1,6 +1,6 @@
 use Rattle.std.proofs.Common.{◌≡◌, length}
 use Rattle.std.specs.Io.KnownBytes.{Keeps}
-use Rattle.plant_edge.proofs.retry.read_once.Given as goal
+use Rattle.outside_real.proofs.retry.read_once.Given as goal
 
 abbrev pub invariant-loop : goal.invariant-loop
 invariant-loop g l = (length l.buf ≡ length l.fn.buf) × Keeps (g.I.Read.remaining l.fn.input) (g.I.Read.remaining l.input)

@@ -1,9 +1,12 @@
-//! Reads and writes that are tried again where they would block, or where a signal interrupted them.
-ghost use Rattle.std.specs.Prelude.{◌≡◌, ◌≢◌, ◌<◌, length, take, IfOk, OnErr, OnOk, MatchBool};
+//! Reads and writes that are tried again where they would block, or where a signal interrupted them, and what a read means
+//! to a link.
+ghost use Rattle.std.specs.Prelude.{◌≡◌, ◌⊎◌, ◌<◌, length, take, IfOk, OnErr, MatchBool};
+ghost use Rattle.std.specs.IoError.{error_kind};
 ghost use Rattle.std.specs.Io.{ReadsAtMost};
 ghost use Rattle.std.specs.Io.KnownBytes.{Consumes, IsAtEnd, Keeps};
-ghost use Rattle.plant_edge.specs.Link.{Sent};
+ghost use Rattle.outside_real.specs.Passed.{Sent, Means, IsTimeout};
 
+use outside_api::Got;
 use std::io::{ErrorKind, Read, Write};
 use std::time::{Clock, Duration};
 use std::{io, thread};
@@ -14,11 +17,24 @@ const READ_TRIES: u32 = 50;
 /// How long a call that would block sleeps before it is tried again, in milliseconds.
 const PAUSE_MILLISECONDS: u64 = 1;
 
-/// Whether an error means that the read timed out.
-pub fn is_timeout(kind: ErrorKind) -> bool
-    ensures { MatchBool result (kind ≡ ErrorKind.TimedOut) (kind ≢ ErrorKind.TimedOut) }
+/// Whether a read that failed so timed out.
+fn is_timeout(kind: ErrorKind) -> bool
+    ensures { MatchBool result (IsTimeout kind) (IsTimeout kind → ⊥) }
 {
-    matches!(kind, ErrorKind::TimedOut)
+    matches!(kind, ErrorKind::TimedOut | ErrorKind::WouldBlock)
+}
+
+/// What the result of a read into a buffer of `room` bytes means to a link: a fault only where the read failed, a timeout
+/// only where it timed out or would block, the end only where it gave no byte though there was room.
+pub fn got_of(read: io::Result<usize>, room: usize) -> Got
+    ensures { Means (λ error. IsTimeout (error_kind error)) read room result }
+{
+    match read {
+        Ok(0) if 0 < room => Got::End,
+        Ok(count) => Got::Bytes(count),
+        Err(error) if is_timeout(error.kind()) => Got::Idle,
+        Err(_) => Got::Failed,
+    }
 }
 
 /// Whether a call that failed so is tried again at once: a signal interrupted it.
@@ -36,7 +52,7 @@ fn pause<R: Clock>(rt: &R) {
 }
 
 /// One read, which isn't interrupted by a signal.
-fn read_once<I: Read>(input: &mut I, buf: &mut [u8]) -> io::Result<usize>
+pub(crate) fn read_once<I: Read>(input: &mut I, buf: &mut [u8]) -> io::Result<usize>
     ensures bound { ReadsAtMost result buf.new }
     ensures ok { IfOk result (λ n. Consumes (I.remaining input.old) (I.remaining input.new) (take n buf.new)) }
     ensures end { IfOk result (λ n. n ≡ 0 → 0 < length buf.old → IsAtEnd (I.remaining input.new)) }
