@@ -1,5 +1,5 @@
 //! What the system's refusals are to a program.
-use outside_real::{FolderRefusal, ReadRefusal};
+use outside_real::{FolderRefusal, PortRefusal, ReadRefusal};
 use program_outside::{Cause, FileRefusal};
 use std::io::ErrorKind;
 
@@ -11,6 +11,14 @@ pub fn folder_cause(why: FolderRefusal) -> Cause {
         FolderRefusal::InUse => Cause::InUse,
         FolderRefusal::Failed(kind) => kind_cause(kind),
         FolderRefusal::NoMemory => Cause::NoMemory,
+    }
+}
+
+/// Why a port isn't listened on, or a connection not accepted.
+pub fn port_cause(why: PortRefusal) -> Cause {
+    match why {
+        PortRefusal::InUse => Cause::PortInUse,
+        PortRefusal::Failed(kind) => kind_cause(kind),
     }
 }
 
@@ -30,6 +38,7 @@ fn kind_cause(kind: ErrorKind) -> Cause {
         ErrorKind::PermissionDenied => Cause::Denied,
         ErrorKind::StorageFull => Cause::Full,
         ErrorKind::ReadOnlyFilesystem => Cause::Full,
+        ErrorKind::OutOfMemory => Cause::NoMemory,
         _ => Cause::Other,
     }
 }

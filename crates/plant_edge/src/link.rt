@@ -1,12 +1,9 @@
 //! A link over a reader and a writer.
 ghost use Rattle.std.specs.Prelude.{◌≡◌};
-ghost use Rattle.std.specs.IoError.{error_kind};
-ghost use Rattle.plant_edge.specs.Link.{Means};
 
-use crate::retry::{is_timeout, read_waiting, write_waiting};
 use outside_api::{Got, Link, LinkFault};
-use std::io;
-use std::io::{ErrorKind, Read, Write};
+use outside_real::{got_of, read_waiting, write_waiting};
+use std::io::{Read, Write};
 use std::time::Clock;
 
 /// The link of a reader and a writer, such as standard input and output. It counts its faults and its read timeouts, and
@@ -54,7 +51,8 @@ impl<'a, R: Clock, I: Read, O: Write> StandardLink<'a, R, I, O> {
 
 impl<'a, R: Clock, I: Read, O: Write> Link for StandardLink<'a, R, I, O> {
     ghost use Rattle.outside_api.specs.Link.{Reads, Writes};
-    ghost use Rattle.plant_edge.specs.Link.{link_shown, Came, Sent, coming_by, sent_by};
+    ghost use Rattle.outside_real.specs.Passed.{Came, Sent};
+    ghost use Rattle.plant_edge.specs.Link.{link_shown, coming_by, sent_by};
 
     ghost shown = { link_shown };
 
@@ -86,18 +84,5 @@ impl<'a, R: Clock, I: Read, O: Write> Link for StandardLink<'a, R, I, O> {
         }
         self.write_faults = self.write_faults.saturating_add(1);
         Err(LinkFault)
-    }
-}
-
-/// What the result of a read into a buffer of `room` bytes means to a link: a fault only where the read failed, a timeout
-/// only where it timed out, the end only where it gave no byte though there was room.
-fn got_of(read: io::Result<usize>, room: usize) -> Got
-    ensures { Means (λ error. error_kind error ≡ ErrorKind.TimedOut) read room result }
-{
-    match read {
-        Ok(0) if 0 < room => Got::End,
-        Ok(count) => Got::Bytes(count),
-        Err(error) if is_timeout(error.kind()) => Got::Idle,
-        Err(_) => Got::Failed,
     }
 }

@@ -1,23 +1,28 @@
 //! The devices of a program over its runtime.
-use crate::causes::{file_refusal, folder_cause};
+use crate::causes::{file_refusal, folder_cause, port_cause};
 use crate::link::StandardLink;
+use crate::machine_link::MachineLink;
 use crate::recorder::SilentRecorder;
 use outside_mem::NoGate;
-use outside_real::{FolderDisk, FolderRefusal, LockedFolder, RealClock, read_file};
-use program_outside::{FileRefusal, MakeFault, Outside};
+use outside_real::{
+    FolderDisk, FolderRefusal, LockedFolder, OpenPort, PortRefusal, RealClock, SocketLink,
+    read_file,
+};
+use program_outside::{FileRefusal, MakeFault, Outside, SayFault};
 use std::alloc::Global;
 use std::fs::File;
 use std::io;
 use std::io::{Input, Printer, Write};
+use std::net::{Net, TcpListener, TcpStream};
 use std::rt::Files;
 use std::time::Clock;
 
 /// The greatest number of bytes of a file that is read whole, such as a schema.
 const FILE_LIMIT: u64 = 1 << 20;
 
-/// The devices of a program over its runtime: standard input and output are its link, its folders are those of the
-/// machine, locked, and its clock is the machine's. Warnings go to a writer, which is standard error. What passes through
-/// them isn't kept.
+/// The devices of a program over its runtime: standard input and output and the connections that it accepts are its links,
+/// its folders are those of the machine, locked, and its clock is the machine's. Warnings go to a writer, which is standard
+/// error. What passes through them isn't kept.
 #[derive(Drop)]
 pub struct StandardOutside<'a, R, E> {
     /// The runtime, whose standard input and output are the link.
@@ -26,20 +31,29 @@ pub struct StandardOutside<'a, R, E> {
     errors: E,
     /// How many devices could not be made, and files not read; saturates.
     faults: u64,
+    /// The port that it listens on.
+    port: Option<OpenPort>,
+    /// How often it could not listen or accept; saturates.
+    listen_faults: u64,
+    /// How many lines could not be printed on standard output; saturates.
+    say_faults: u64,
 }
 
 impl<'a, R, E> StandardOutside<'a, R, E> {
     ghost use Rattle.std.specs.Prelude.{◌≡◌};
-    ghost use Rattle.plant_edge.specs.Outside.{silent_outside};
+    ghost use Rattle.plant_edge.specs.Outside.{silent_outside, unused_outside};
 
     /// The outside of a runtime, which has made nothing. Warnings go to this writer.
     pub fn new(rt: &'a R, errors: E) -> StandardOutside<'a, R, E>
-        ensures { (silent_outside result).make_faults ≡ 0 }
+        ensures { silent_outside result ≡ unused_outside }
     {
         StandardOutside {
             rt,
             errors,
             faults: 0,
+            port: None,
+            listen_faults: 0,
+            say_faults: 0,
         }
     }
 
@@ -75,15 +89,52 @@ impl<'a, R: Files<File = File>, E> StandardOutside<'a, R, E> {
     }
 }
 
-impl<'a, R: Input + Print + Clock + Files<File = File>, E: Write + Drop> Outside
-    for StandardOutside<'a, R, E> {
+impl<'a, R: Print, E> StandardOutside<'a, R, E> {
+    /// Prints a line on standard output, at once.
+    fn print_line(&self, line: &[u8]) -> io::Result<()> {
+        let mut output = io::writer(self.rt);
+        output.write_all(line)?;
+        output.write_all(b"\n")?;
+        output.flush()
+    }
+}
+
+impl<'a, R, E> StandardOutside<'a, R, E> {
+    ghost use Rattle.std.specs.Prelude.{◌≡◌};
+    ghost use Rattle.program_outside.specs.Outside.{with_listen_fault};
+    ghost use Rattle.plant_edge.specs.Outside.{silent_outside};
+
+    /// The fault that a port made, which is counted.
+    fn listen_fault(&mut self, why: PortRefusal) -> MakeFault
+        ensures { silent_outside self.new ≡ with_listen_fault (silent_outside self.old) }
+    {
+        self.listen_faults = self.listen_faults.saturating_add(1);
+        MakeFault {
+            cause: port_cause(why),
+        }
+    }
+}
+
+impl<
+    'a,
+    R: Input
+        + Print
+        + Clock
+        + Files<File = File>
+        + Net<Listener = TcpListener, Stream = TcpStream>
+        + Sync,
+    E: Write + Drop,
+> Outside for StandardOutside<'a, R, E>
+where
+    R::Reader: Send,
+{
     ghost use Rattle.std.specs.Prelude.{◌≡◌};
     ghost use Rattle.std.specs.Option.{option_map};
     ghost use Rattle.program_outside.specs.Outside.{handed_back};
-    ghost use Rattle.plant_edge.specs.Link.{link_shown};
+    ghost use Rattle.plant_edge.specs.Link.{machine_shown};
     ghost use Rattle.plant_edge.specs.Outside.{silent_outside, silent_recorder};
 
-    type Link = StandardLink<'a, R, R::Reader, Printer<'a, R>>;
+    type Link = MachineLink<'a, R, R::Reader, Printer<'a, R>, TcpStream>;
 
     type Disk = FolderDisk<LockedFolder<&'a R>>;
 
@@ -96,7 +147,31 @@ impl<'a, R: Input + Print + Clock + Files<File = File>, E: Write + Drop> Outside
     ghost seen = { silent_outside };
 
     fn standard(&mut self) -> Result<Self::Link, MakeFault> {
-        Ok(StandardLink::new(self.rt, self.rt.reader(), io::writer(self.rt)))
+        Ok(MachineLink::Standard(StandardLink::new(self.rt, self.rt.reader(), io::writer(self.rt))))
+    }
+
+    fn listen(&mut self, port: u16) -> Result<(), MakeFault> {
+        match OpenPort::listen(self.rt, port) {
+            Ok(open) => {
+                self.port = Some(open);
+                Ok(())
+            }
+            Err(why) => Err(self.listen_fault(why)),
+        }
+    }
+
+    fn accept(&mut self) -> Result<Option<Self::Link>, MakeFault> {
+        let Some(port) = &self.port else {
+            unreachable!()
+        };
+        match port.accept(self.rt) {
+            Ok(Some(stream)) => {
+                let link = SocketLink::new(self.rt, stream);
+                Ok(Some(MachineLink::Socket(link)))
+            }
+            Ok(None) => Ok(None),
+            Err(why) => Err(self.listen_fault(why)),
+        }
     }
 
     fn folder(&mut self, alloc: Global, path: &str) -> Result<Self::Disk, MakeFault> {
@@ -134,11 +209,12 @@ impl<'a, R: Input + Print + Clock + Files<File = File>, E: Write + Drop> Outside
         }
     }
 
-    fn say(&mut self, line: &[u8]) {
-        let mut output = io::writer(self.rt);
-        let _written = output.write_all(line);
-        let _ended = output.write_all(b"\n");
-        let _flushed = output.flush();
+    fn say(&mut self, line: &[u8]) -> Result<(), SayFault> {
+        if self.print_line(line).is_ok() {
+            return Ok(());
+        }
+        self.say_faults = self.say_faults.saturating_add(1);
+        Err(SayFault)
     }
 
     fn warn(&mut self, line: &[u8]) {
@@ -152,7 +228,7 @@ impl<'a, R: Input + Print + Clock + Files<File = File>, E: Write + Drop> Outside
         clock: Option<RealClock<&'a R>>,
         recorder: Option<SilentRecorder>,
     )
-        ensures { silent_outside self.new ≡ handed_back (silent_outside self.old) (option_map (λ l. link_shown l) link.entry)
+        ensures { silent_outside self.new ≡ handed_back (silent_outside self.old) (option_map (λ l. machine_shown l) link.entry)
             (option_map (λ c. None) clock.entry) (option_map (λ r. silent_recorder r) recorder) }
     {
         let _handed = (link, clock, recorder);

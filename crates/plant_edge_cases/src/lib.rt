@@ -8,6 +8,7 @@
 //! a read that is interrupted, a read that fails, one byte, the end
 //! a write that fails
 //! warnings, as a writer gets them
+//! a port that is listened on once, and a connection that is handed back
 //! command lines that are read, and those that aren't
 //! ```
 //!

@@ -5,6 +5,7 @@ use program_outside::{Cause, FileRefusal, MakeFault, Outside};
 use q_values::Turn;
 use std::alloc::Global;
 use std::io::{ErrorKind, Read, Write};
+use std::net::{TcpListener, TcpStream};
 use std::sync::atomic::AtomicU64;
 use std::sync::atomic::Ordering::SeqCst;
 use std::test::Fail;
@@ -175,9 +176,9 @@ fn use_once<O: Outside>(outside: &mut O) -> bool {
     let _gate = outside.gate();
     let written = write_one(&mut link).is_ok();
     outside.warn(b"plant: idle");
-    outside.say(b"a line");
+    let said = outside.say(b"a line").is_ok();
     outside.back(Some(link), None, Some(recorder));
-    written
+    written && said
 }
 
 /// Keeps what is written to it.
@@ -265,5 +266,47 @@ fn folders_are_made_opened_and_locked(rt: HostRuntime) -> Result<(), Fail> {
     assert!(rt; matches!(&refused, Err(FileRefusal::MakeFault(Cause::Missing))));
     let _reading = outside.clock().now();
     fs::remove_dir_all(&rt, path.as_str())?;
+    Ok(())
+}
+
+/// A port of this machine that nothing listens on.
+fn free_port(rt: &HostRuntime) -> io::Result<u16> {
+    let listener = TcpListener::bind(rt, ("127.0.0.1", 0))?;
+    Ok(listener.local_addr()?.port())
+}
+
+#[test]
+fn a_port_is_listened_on_once(rt: HostRuntime) -> Result<(), Fail> {
+    let port = free_port(&rt)?;
+    let mut outside = StandardOutside::new(&rt, FullWriter);
+    outside.listen(port)?;
+    let mut other = StandardOutside::new(&rt, FullWriter);
+    let refused = MakeFault {
+        cause: Cause::PortInUse,
+    };
+    assert_eq!(rt; other.listen(port), Err(refused));
+    assert!(rt; outside.accept()?.is_none(), "no connection came");
+    Ok(())
+}
+
+#[test]
+fn a_connection_is_a_link(rt: HostRuntime) -> Result<(), Fail> {
+    let port = free_port(&rt)?;
+    let mut outside = StandardOutside::new(&rt, FullWriter);
+    outside.listen(port)?;
+    let mut client = TcpStream::connect(&rt, ("127.0.0.1", port))?;
+    let Some(mut link) = outside.accept()? else {
+        return Err(Fail::new("no connection"));
+    };
+    assert_eq!(rt; read_one(&mut link), (Got::Idle, 0));
+    client.write_all(&[7])?;
+    assert_eq!(rt; read_one(&mut link), (Got::Bytes(1), 7));
+    assert!(rt; write_one(&mut link).is_ok());
+    let clock = outside.clock();
+    let recorder = outside.recorder();
+    outside.back(Some(link), Some(clock), Some(recorder));
+    let mut all = Vec::new(rt.alloc());
+    client.read_to_end(&mut all)?;
+    assert_eq!(rt; all.as_slice(), [3].as_slice());
     Ok(())
 }
