@@ -4,6 +4,9 @@
         plant.update("trade", "KX", 10050, 200)
         print(plant.query("select last price by sym from trade"))
 
+    with Client.connect("127.0.0.1", 5010) as plant:
+        print(plant.query("exec count i from trade"))
+
 What is sent and what comes back are plain Python values where these are clear:
 
     bool, int                      boolean, long
@@ -32,6 +35,7 @@ library is used.
 """
 
 import datetime
+import socket
 import struct
 import subprocess
 from dataclasses import dataclass
@@ -548,8 +552,17 @@ def message(value, sync, order=LITTLE):
     return struct.pack(f"{order}BBBBI", 1 if order == LITTLE else 0, 1 if sync else 0, 0, 0, length) + body
 
 
+def close_all(*streams):
+    """Closes the streams. What could not be written any more is lost."""
+    for stream in streams:
+        try:
+            stream.close()
+        except ConnectionError:
+            pass
+
+
 class Client:
-    """Talks to a plant over two binary streams, such as the pipes of a process or a socket's file.
+    """Talks to a plant over two binary streams, such as the pipes of a process (`run`) or a connection to its port (`connect`).
 
     As a context manager it closes the streams at the end, and waits for the process that `run` started; its exit status is
     then in `status`.
@@ -570,6 +583,20 @@ class Client:
         client.process = process
         return client
 
+    @classmethod
+    def connect(cls, host, port, timeout=None, **options):
+        """A client of a plant that listens on this port. A wait of more than `timeout` seconds, if given, is a TimeoutError,
+        and the client is of no use after it."""
+        connection = socket.create_connection((host, port), timeout)
+        connection.setsockopt(socket.IPPROTO_TCP, socket.TCP_NODELAY, 1)
+        reads, writes = connection.makefile("rb"), connection.makefile("wb")
+        connection.close()  # once both files are closed too
+        try:
+            return cls(reads, writes, **options)
+        except BaseException:
+            close_all(writes, reads)
+            raise
+
     def __enter__(self):
         return self
 
@@ -578,10 +605,7 @@ class Client:
 
     def close(self):
         """Ends the link. A plant that `run` started is waited for."""
-        try:
-            self.writes.close()
-        except BrokenPipeError:
-            pass
+        close_all(self.writes)
         if self.process is not None:
             self.status = self.process.wait()
         self.reads.close()
@@ -623,7 +647,10 @@ class Client:
     def _take(self, count, sent):
         parts = []
         while count > 0:
-            part = self.reads.read(count)
+            try:
+                part = self.reads.read(count)
+            except ConnectionError:
+                part = b""
             if not part:
                 raise PlantEnded(sent)
             parts.append(part)

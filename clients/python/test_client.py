@@ -1,14 +1,17 @@
-"""Tests of the client: its codec against KX's published bytes, values as people write them, what it refuses to send, and a
-plant run as a process, in both byte orders."""
+"""Tests of the client: its codec against KX's published bytes, values as people write them, what it refuses to send, connections
+to a port, and a plant run as a process, in both byte orders."""
 
 import datetime
 import io
 import os
 import re
 import shutil
+import socket
+import struct
 import subprocess
 import sys
 import tempfile
+import threading
 import unittest
 
 from plant_client import (
@@ -175,6 +178,113 @@ class Refused(unittest.TestCase):
             client.query("select from trade")
         self.assertEqual(ended.exception.sent, b"select from trade")
         self.assertIn("select from trade", str(ended.exception))
+
+
+class Port:
+    """A port on which `serve` talks to one client over a socket; it is then closed."""
+
+    def __init__(self, serve):
+        self.listener = socket.create_server(("127.0.0.1", 0))
+        self.number = self.listener.getsockname()[1]
+        self.thread = threading.Thread(target=self.run, args=(serve,))
+
+    def run(self, serve):
+        with self.listener, self.listener.accept()[0] as client:
+            serve(client, client.makefile("rb"))
+
+    def __enter__(self):
+        self.thread.start()
+        return self.number
+
+    def __exit__(self, *_):
+        self.thread.join()
+
+
+def read_message(reads):
+    """The order, the kind (1 is sync) and the value of the next message; None at the end."""
+    header = reads.read(8)
+    if len(header) < 8:
+        return None
+    order = LITTLE if header[0] == 1 else BIG
+    (length,) = struct.unpack(f"{order}I", header[4:])
+    return order, header[1], decode(reads.read(length - 8), order)
+
+
+def response(value, order):
+    body = encode(value, order)
+    return struct.pack(f"{order}BBBBI", 1 if order == LITTLE else 0, 2, 0, 0, len(body) + 8) + body
+
+
+class Connection(unittest.TestCase):
+    def answers(self, order):
+        """Both sides of a talk: the server answers a text with its length, and else with an error; it cuts its answers."""
+        came = []
+
+        def serve(client, reads):
+            came.append(reads.read(5))
+            client.sendall(b"\x03")
+            while (message := read_message(reads)) is not None:
+                came.append(message)
+                if message[1] == 1:
+                    is_text = isinstance(message[2], Vector)
+                    answer = response(Atom("long", len(message[2])) if is_text else Error(b"nyi"), order)
+                    for part in (answer[:3], answer[3:]):
+                        client.sendall(part)
+
+        with Port(serve) as port:
+            with Client.connect("127.0.0.1", port, order=order, user=b"u:p", timeout=30) as plant:
+                self.assertEqual(plant.capability, 3)
+                self.assertEqual(plant.query("1+1"), 3)
+                plant.send(IDENTITY)
+                with self.assertRaises(Error) as refused:
+                    plant.sync(IDENTITY)
+                self.assertEqual(refused.exception.text, b"nyi")
+                self.assertEqual(plant.query("x" * 100_000), 100_000)
+            self.assertIsNone(plant.status)
+        texts = [Vector("char", tuple(bytes([b]) for b in text)) for text in (b"1+1", b"x" * 100_000)]
+        self.assertEqual(came, [b"u:p\x03\x00", (order, 1, texts[0]), (order, 0, IDENTITY), (order, 1, IDENTITY), (order, 1, texts[1])])
+
+    def test_little_endian(self):
+        self.answers(LITTLE)
+
+    def test_big_endian(self):
+        self.answers(BIG)
+
+    def test_nothing_listens(self):
+        with socket.create_server(("127.0.0.1", 0)) as listener:
+            free = listener.getsockname()[1]
+        with self.assertRaises(ConnectionRefusedError):
+            Client.connect("127.0.0.1", free)
+
+    def test_the_plant_hangs_up(self):
+        with Port(lambda client, reads: None) as port:
+            with self.assertRaises(PlantEnded):
+                Client.connect("127.0.0.1", port, timeout=30)
+
+        def greet(client, reads):
+            reads.read(2)
+            client.sendall(b"\x03\x01")
+            reads.read(8)
+
+        with Port(greet) as port:
+            with Client.connect("127.0.0.1", port, timeout=30) as plant:
+                with self.assertRaises(PlantEnded) as ended:
+                    plant.query("1+1")
+                self.assertEqual(ended.exception.sent, b"1+1")
+                with self.assertRaises(PlantEnded):
+                    for _ in range(100):
+                        plant.send(b"x" * 100_000)
+
+    def test_a_plant_that_does_not_answer(self):
+        done = threading.Event()
+
+        def wait(client, reads):
+            done.wait(30)
+
+        with Port(wait) as port:
+            with self.assertRaises(TimeoutError):
+                Client.connect("127.0.0.1", port, timeout=0.2)
+            done.set()
 
 
 class Plant(unittest.TestCase):
