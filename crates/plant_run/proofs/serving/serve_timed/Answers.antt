@@ -8,10 +8,9 @@ returns-in-Some g c =
     (Some [], Some (ticks c.in-Some.ticking.start c.in-Some.ticking.step n), rw c.in-Some.is (refl, (n, refl), refl), c.serve_ticking-disk.ensures.1)
 
 pub returns-in-None : goal.returns-in-None
-returns-in-None g c =
-    (
-      g.O.Clock.Clock.readings c.clock-clock.result,
-      g.O.Clock.Clock.readings c.serve-disk.new.clock,
-      rw c.in-None.is (c.clock-clock.ensures.fresh, refl),
-      rw c.clock-clock.ensures.same at c.serve-disk.ensures,
-    )
+returns-in-None g c = (
+  g.O.Clock.Clock.readings c.clock-clock.result,
+  g.O.Clock.Clock.readings c.serve-disk.new.clock,
+  rw c.in-None.is (c.clock-clock.ensures.fresh, refl),
+  rw c.clock-clock.ensures.same at c.serve-disk.ensures,
+)
