@@ -140,7 +140,10 @@ struct WatchedAccess {
 }
 
 impl Access for WatchedAccess {
-    ghost shown = { λ a. a.solo };
+    ghost use Rattle.outside_mem.specs.MemDisk.{shown_by};
+    ghost use Rattle.plant_core.specs.Access.{shown_alone};
+
+    ghost shown = { λ a. shown_alone shown_by a.solo };
 
     fn by(&self) -> u64 {
         self.solo.by()
