@@ -19,13 +19,14 @@ use Rattle.plant_lock.specs.Told.{Told}
 use Rattle.plant_lock.proofs.ListLemmas.{own-append, nil_of_length}
 use Rattle.plant_core.specs.Access.{AccessView, Home, SeesMore, Logs, Looks, Fails, Waits, Rolls, FailsRoll, Wants, Asks, Snaps, next_count}
 use Rattle.plant_core.specs.Adds.{roll_place}
-use Rattle.plant_core.specs.Plant.{PlantView}
-use Rattle.plant_core.specs.Turns.{Unchanging, turn_of, UpdatesPlant, TicksPlant}
+use Rattle.plant_core.specs.Plant.{PlantView, IsSound, shown_by}
+use Rattle.plant_core.specs.Turns.{turn_of, UpdatesPlant, TicksPlant}
 use Rattle.plant_core.specs.declared.access.TickTurn.{TickTurn}
 use Rattle.plant_core.specs.declared.access.TickTurn.TheVariants as t
 use Rattle.plant_core.specs.declared.access.UpdTurn.{UpdTurn}
 use Rattle.plant_core.specs.declared.access.UpdTurn.TheVariants as u
 use Rattle.plant_core.proofs.SoloLemmas.{last_fault-append, last_fault-more, last_fault-own, made_logged}
+use Rattle.plant_shared.specs.Steps.{IsLocked, unchanging}
 use Rattle.plant_shared.specs.Took.{Took, given}
 use Rattle.atomic_table.specs.Seated.{TableId}
 use Rattle.day_rows.specs.declared.schema.Shape.{Shape}
@@ -321,18 +322,28 @@ stays_pass lock old result plant new is h own_is =
     let number : result.number ≡ old.number = ap (λ (q : Told Entry). q.number) is in
     record { of_lock = ap (λ (q : Told Entry). q.lock) is ∙ h.of_lock; few = let few = h.few in omega arith; own_is = own_is }
 
-pub update_is : (origin : DiskView) (plant plant' new : MemoryView) (n n' : ℕ) (request : UpdRequest) (now : ℤ) (turn : UpdTurn) → plant' ≡ plant → n' ≡ n
-    → UpdatesPlant origin plant' new n' request now turn → UpdatesPlant origin plant new n request now turn
-update_is origin plant plant' new n n' request now turn p q u =
-    subst (λ (r : MemoryView × ℕ). UpdatesPlant origin r.0 new r.1 request now turn) (λ i. (p i, q i)) u
+pub update_is : (origin origin' : DiskView) (plant plant' new : MemoryView) (n n' : ℕ) (request : UpdRequest) (now : ℤ) (turn : UpdTurn) → origin' ≡ origin
+    → plant' ≡ plant → n' ≡ n → UpdatesPlant origin' plant' new n' request now turn → UpdatesPlant origin plant new n request now turn
+update_is origin origin' plant plant' new n n' request now turn o p q u =
+    subst (λ (r : DiskView × (MemoryView × ℕ)). UpdatesPlant r.0 r.1.0 new r.1.1 request now turn) (λ i. (o i, (p i, q i))) u
 
-pub tick_is : (origin : DiskView) (plant plant' new : MemoryView) (n n' : ℕ) (now : ℤ) (turn : TickTurn) → plant' ≡ plant → n' ≡ n
-    → TicksPlant origin plant' new n' now turn → TicksPlant origin plant new n now turn
-tick_is origin plant plant' new n n' now turn p q u = subst (λ (r : MemoryView × ℕ). TicksPlant origin r.0 new r.1 now turn) (λ i. (p i, q i)) u
+pub tick_is : (origin origin' : DiskView) (plant plant' new : MemoryView) (n n' : ℕ) (now : ℤ) (turn : TickTurn) → origin' ≡ origin → plant' ≡ plant
+    → n' ≡ n → TicksPlant origin' plant' new n' now turn → TicksPlant origin plant new n now turn
+tick_is origin origin' plant plant' new n n' now turn o p q u =
+    subst (λ (r : DiskView × (MemoryView × ℕ)). TicksPlant r.0 r.1.0 new r.1.1 now turn) (λ i. (o i, (p i, q i))) u
 
--- what no call changes of a plant
-abbrev pub unchanging : {D : Type 0} → PlantView D → Unchanging D
-unchanging plant = record { frame = plant.memory.frame; origin = plant.origin }
+-- the plant that was taken, which is sound as it is lent
+pub is_found : {D : Type 0} (shown : D → DiskView) (lock found lent : PlantView D) → unchanging found ≡ unchanging lock → lent ≡ found
+    → IsSound (shown_by shown lent) → IsLocked shown (unchanging lock) found
+is_found shown lock found lent unchanged same sound = record {
+  unchanged = unchanged;
+  sound = subst (λ (p : PlantView _). IsSound (shown_by shown p)) same sound;
+}
+
+-- the disk that it was loaded from, which is the one of the lock
+pub origin_is : {D : Type 0} (shown : D → DiskView) (lock found lent : PlantView D) → unchanging found ≡ unchanging lock → lent ≡ found
+    → shown lent.origin ≡ shown lock.origin
+origin_is shown lock found lent unchanged same = ap (λ p. shown p.origin) same ∙ ap (λ u. shown u.origin) unchanged
 
 -- a plant that was taken from a lock and then changed has what the lock's plants have in common
 pub frame_kept : {D : Type 0} (new was taken first lock : PlantView D) → new.memory.frame ≡ was.memory.frame → new.origin ≡ was.origin → was ≡ taken

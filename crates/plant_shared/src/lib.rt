@@ -3,7 +3,7 @@
 //! [`Shared`] implements `plant_core::Access`, as `Solo` does for a plant that one session has to itself. Each call that
 //! reaches the plant takes the lock round it once, makes one step, and gives it back; `by`, `schema` and `last_fault` take
 //! no lock. What the access then shows as seen is the plant's whole chronicle at that moment. It begins with all that it had
-//! seen before, and has of the access's number just the entries that this access made.
+//! seen before, and its entries with the access's number are exactly those that this access made.
 //!
 //! ```text
 //! let schema = plant.shared_schema(alloc)?;

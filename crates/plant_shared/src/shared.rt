@@ -2,8 +2,9 @@
 ghost use Rattle.std.specs.Prelude.{◌≡◌, ◌+◌, ◌<◌, ◌^◌, []};
 ghost use Rattle.plant_lock.specs.Entries.{own};
 ghost use Rattle.plant_memory.specs.Chronicle.{by_of};
-ghost use Rattle.plant_core.specs.Access.{Updates, Ticks, Snaps};
+ghost use Rattle.plant_core.specs.Access.{Updates, Ticks, Snaps, next_count};
 ghost use Rattle.plant_shared.specs.Shared.{shared_of, shown_shared};
+ghost use Rattle.plant_shared.specs.Steps.{lock_of, UpdatesOnce, TicksOnce, SnapsOnce};
 
 use crate::turns::{
     Lock, PlantPass, latest_after_tick, latest_after_update, snapshot, tick, update,
@@ -16,6 +17,13 @@ use q_values::NoMemory;
 use std::alloc::Global;
 use std::marker::Model;
 use std::sync::{Arc, Wait};
+
+// A count after one more; it saturates.
+fn raised(count: u64) -> u64
+    ensures { result ≡ next_count count }
+{
+    count.saturating_add(1)
+}
 
 /// A pass's way to a plant that others reach too. Each call that reaches the plant takes the lock once, and waits for
 /// nothing else.
@@ -99,6 +107,7 @@ impl<'a, D: Disk> Access for Shared<'a, D> {
 
     fn upd<R: Wait>(&mut self, rt: &R, alloc: Global, request: &UpdRequest, now: i64) -> UpdTurn
         ensures turn { Updates (shown_shared D.shown self.old) (shown_shared D.shown self.new) request.now now result }
+        ensures step { UpdatesOnce D.shown (lock_of self.old) self.old.by self.old.seen self.new.seen request.now now result }
         ensures lock { self.new.lock ≡ self.old.lock }
     {
         let Some(pass) = self.pass.take() else {
@@ -112,9 +121,10 @@ impl<'a, D: Disk> Access for Shared<'a, D> {
 
     fn tick<R: Wait>(&mut self, rt: &R, alloc: Global, now: i64) -> TickTurn
         ensures turn { Ticks (shown_shared D.shown self.old) (shown_shared D.shown self.new) now result }
+        ensures step { TicksOnce D.shown (lock_of self.old) self.old.by self.old.seen self.new.seen now result }
         ensures lock { self.new.lock ≡ self.old.lock }
     {
-        self.ticks = self.ticks.saturating_add(1);
+        self.ticks = raised(self.ticks);
         let Some(pass) = self.pass.take() else {
             unreachable!()
         };
@@ -126,9 +136,10 @@ impl<'a, D: Disk> Access for Shared<'a, D> {
 
     fn snapshot<R: Wait>(&mut self, rt: &R, alloc: Global) -> Result<Snapshot, NoMemory>
         ensures answer { Snaps (shown_shared D.shown self.old) (shown_shared D.shown self.new) result }
+        ensures step { SnapsOnce D.shown (lock_of self.old) self.old.seen self.new.seen result }
         ensures lock { self.new.lock ≡ self.old.lock }
     {
-        self.snapshots = self.snapshots.saturating_add(1);
+        self.snapshots = raised(self.snapshots);
         let Some(pass) = self.pass.take() else {
             unreachable!()
         };

@@ -1,6 +1,11 @@
 //! One call under the lock: take it, make one step of the plant, and give it back.
-ghost use Rattle.std.specs.Prelude.{◌≡◌, ℕ};
+ghost use Rattle.std.specs.Prelude.{◌≡◌, ◌<◌, ◌+◌, ◌^◌, ℕ, IfOk};
+ghost use Rattle.plant_lock.specs.Entries.{IsExtendedBy};
+ghost use Rattle.plant_memory.specs.Chronicle.{by_of};
+ghost use Rattle.plant_core.specs.Plant.{IsSound, shown_by};
+ghost use Rattle.plant_core.specs.Turns.{UpdatesPlant, TicksPlant};
 ghost use Rattle.plant_shared.specs.Shared.{locked, IsPass, IsLatest, UpdatesPass, TicksPass, SnapsPass, latest_update, latest_tick};
+ghost use Rattle.plant_shared.specs.Steps.{unchanging, UpdatesOnce, TicksOnce, SnapsOnce};
 
 use outside_api::Disk;
 use plant_core::{Plant, TickTurn, UpdTurn};
@@ -16,6 +21,60 @@ pub type Lock<D> = PlantLock<Plant<D>>;
 /// A pass of a lock round a plant.
 pub type PlantPass<D> = PassOf<Plant<D>>;
 
+// Every plant is sound, as a call that changes nothing tells.
+fn learn_sound<D: Disk>(plant: &Plant<D>)
+    ensures { IsSound (shown_by D.shown plant.now) }
+{
+    let _length = plant.length();
+}
+
+// An update of a plant, which is sound before it and after it.
+fn updated<D: Disk>(
+    plant: &mut Plant<D>,
+    alloc: Global,
+    by: u64,
+    request: &UpdRequest,
+    now: i64,
+) -> UpdTurn
+    requires { by + 1 < 2 ^ 64 }
+    ensures turn { UpdatesPlant (D.shown plant.old.origin) plant.old.memory plant.new.memory by request.now now result }
+    ensures made { IsExtendedBy by_of by plant.old.memory.entries plant.new.memory.entries }
+    ensures frame { plant.new.memory.frame ≡ plant.old.memory.frame }
+    ensures origin { plant.new.origin ≡ plant.old.origin }
+    ensures before { IsSound (shown_by D.shown plant.old) }
+    ensures after { IsSound (shown_by D.shown plant.new) }
+{
+    learn_sound(plant);
+    let turn = plant.update(alloc, by, request, now);
+    learn_sound(plant);
+    turn
+}
+
+// A look at the clock, by a plant which is sound before it and after it.
+fn ticked<D: Disk>(plant: &mut Plant<D>, alloc: Global, by: u64, now: i64) -> TickTurn
+    requires { by + 1 < 2 ^ 64 }
+    ensures turn { TicksPlant (D.shown plant.old.origin) plant.old.memory plant.new.memory by now result }
+    ensures made { IsExtendedBy by_of by plant.old.memory.entries plant.new.memory.entries }
+    ensures frame { plant.new.memory.frame ≡ plant.old.memory.frame }
+    ensures origin { plant.new.origin ≡ plant.old.origin }
+    ensures before { IsSound (shown_by D.shown plant.old) }
+    ensures after { IsSound (shown_by D.shown plant.new) }
+{
+    learn_sound(plant);
+    let turn = plant.tick(alloc, by, now);
+    learn_sound(plant);
+    turn
+}
+
+// A snapshot of a plant, which is sound.
+fn shown<D: Disk>(plant: &Plant<D>, alloc: Global) -> Result<Snapshot, NoMemory>
+    ensures answer { IfOk result (λ s. s ≡ record { frame = plant.now.memory.frame; entries = plant.now.memory.entries }) }
+    ensures sound { IsSound (shown_by D.shown plant.now) }
+{
+    learn_sound(plant);
+    plant.snapshot(alloc)
+}
+
 /// Takes the lock, and logs the update or refuses it.
 pub(crate) fn update<D: Disk, R: Wait>(
     rt: &R,
@@ -29,11 +88,12 @@ pub(crate) fn update<D: Disk, R: Wait>(
     ensures pass { IsPass lock.now.id result.0 }
     ensures number { result.0.number ≡ pass.number }
     ensures turn { UpdatesPass lock.now.made.memory.frame (locked (D.shown lock.now.made.origin) lock.now.id) pass result.0 request.now now result.1 }
+    ensures step { UpdatesOnce D.shown (unchanging lock.now.made) pass.number pass.seen result.0.seen request.now now result.1 }
     ensures latest { (latest : ℕ) → IsLatest pass latest → IsLatest result.0 (latest_update latest result.1) }
 {
     let mut held = lock.take(rt, pass);
     let by = held.number();
-    let turn = held.state().update(alloc, by, request, now);
+    let turn = updated(held.state(), alloc, by, request, now);
     (held.give(), turn)
 }
 
@@ -49,11 +109,12 @@ pub(crate) fn tick<D: Disk, R: Wait>(
     ensures pass { IsPass lock.now.id result.0 }
     ensures number { result.0.number ≡ pass.number }
     ensures turn { TicksPass lock.now.made.memory.frame (locked (D.shown lock.now.made.origin) lock.now.id) pass result.0 now result.1 }
+    ensures step { TicksOnce D.shown (unchanging lock.now.made) pass.number pass.seen result.0.seen now result.1 }
     ensures latest { (latest : ℕ) → IsLatest pass latest → IsLatest result.0 (latest_tick latest result.1) }
 {
     let mut held = lock.take(rt, pass);
     let by = held.number();
-    let turn = held.state().tick(alloc, by, now);
+    let turn = ticked(held.state(), alloc, by, now);
     (held.give(), turn)
 }
 
@@ -68,10 +129,11 @@ pub(crate) fn snapshot<D: Disk, R: Wait>(
     ensures pass { IsPass lock.now.id result.0 }
     ensures number { result.0.number ≡ pass.number }
     ensures answer { SnapsPass lock.now.made.memory.frame (locked (D.shown lock.now.made.origin) lock.now.id) pass result.0 result.1 }
+    ensures step { SnapsOnce D.shown (unchanging lock.now.made) pass.seen result.0.seen result.1 }
     ensures latest { (latest : ℕ) → IsLatest pass latest → IsLatest result.0 latest }
 {
     let mut held = lock.take(rt, pass);
-    let answer = held.state().snapshot(alloc);
+    let answer = shown(held.state(), alloc);
     (held.give(), answer)
 }
 

@@ -6,7 +6,7 @@ use Rattle.plant_shared.specs.Took.{Took, given}
 use Rattle.plant_shared.specs.Shared.{locked, IsLatest, SnapsPass}
 use Rattle.std.specs.Prelude.{IfOk}
 use Rattle.plant_core.proofs.TurnLemmas.{none_added}
-use Rattle.plant_shared.proofs.SharedLemmas.{is_given, stays_pass, snaps_shared, latest_same}
+use Rattle.plant_shared.proofs.SharedLemmas.{is_found, is_given, stays_pass, snaps_shared, latest_same}
 use Rattle.plant_shared.proofs.turns.snapshot.Goals as goal
 
 pub give-requires-clause-history : goal.give-requires-clause-history
@@ -31,12 +31,23 @@ returns g c =
     let same : new ≡ plant = ap (λ p. p.memory) c.state.ensures.state in
     let is : c.give.result ≡ given old plant plant =
     is_given old c.take-held.result.pass c.give.result plant new taken.pass c.give.ensures.pass ∙ (λ i. given old plant (same i)) in
-    let found = subst (λ (m : MemoryView). IfOk c.snapshot-answer.result (λ (s : SnapshotView). s ≡ record { frame = m.frame; entries = m.entries })) same
-    c.snapshot-answer.ensures in
+    let found = subst (λ (m : MemoryView). IfOk c.shown-answer.result (λ (s : SnapshotView). s ≡ record { frame = m.frame; entries = m.entries })) same
+    c.shown-answer.ensures.answer in
+    let locked_is = is_found g.D.Disk.shown c.args.lock.now.made c.take-held.result.state c.state.result.now taken.frame c.state.ensures.state
+    c.shown-answer.ensures.sound in
     record {
       pass = stays_pass c.args.lock.now.id old c.give.result plant plant is c.requires c.give.ensures.own;
       number = ap (λ (t : Told Entry). t.number) is;
-      answer = subst (λ (q : Told Entry). SnapsPass frame home old q c.snapshot-answer.result) (sym is)
-          (snaps_shared frame home old plant took c.snapshot-answer.result found);
+      answer = subst (λ (q : Told Entry). SnapsPass frame home old q c.shown-answer.result) (sym is)
+          (snaps_shared frame home old plant took c.shown-answer.result found);
+      step = record {
+        before = c.take-held.result.state;
+        after = c.take-held.result.state;
+        found = locked_is;
+        left = locked_is;
+        begins = taken.history;
+        whole = ap (λ (t : Told Entry). t.seen) is;
+        made = (refl, found);
+      };
       latest = λ latest h. subst (λ (q : Told Entry). IsLatest q latest) (sym is) (latest_same frame home.origin old plant plant took latest h refl);
     }

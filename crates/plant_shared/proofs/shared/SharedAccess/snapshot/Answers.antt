@@ -21,6 +21,7 @@ pub returns : goal.returns
 returns g c =
     let here : c.self.inside.pass ≡ Some c.in-Some.pass = search rules in
     record {
-      answer = rw (← c.self.view_is, here, c.saturating_add-self-inside.ensures) (c.snapshot-pass.ensures.answer c.self.inside.snapshots c.self.inside.ticks);
+      answer = rw (← c.self.view_is, here, c.raised-self-inside.ensures) (c.snapshot-pass.ensures.answer c.self.inside.snapshots c.self.inside.ticks);
+      step = rw (← c.self.view_is, here) c.snapshot-pass.ensures.step;
       lock = rw (← c.self.view_is, here) refl;
     }
