@@ -21,7 +21,7 @@ pub goes-on : (limits : Limits) (tables : List Shape) (plant : MemoryView) (disk
     → GoesOn limits plant disk_old disk_new clock_read clock_new old new course
     → Goes limits tables disk_old disk_new clock_old clock_new old new course
 goes-on limits tables plant disk_old disk_new clock_old clock_read clock_new first old new (not_loaded why) loaded read went = absurd went
-goes-on limits tables plant disk_old disk_new clock_old clock_read clock_new first old new not_linked loaded read went =
+goes-on limits tables plant disk_old disk_new clock_old clock_read clock_new first old new (not_linked cause) loaded read went =
     (went.0, record { first = first; read = went.1 ∙ read; plant = plant; is_plant = loaded; kept = went.2 })
 goes-on limits tables plant disk_old disk_new clock_old clock_read clock_new first old new (ended link notes end) loaded read went =
     let before : Option (List ℤ) → World = λ readings. world went.link_old readings went.notes_old (first_shown disk_old plant) in

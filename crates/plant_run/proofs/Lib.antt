@@ -1,1 +1,2 @@
 pub mod GoesLemmas
+pub mod TablesLemmas

@@ -1,11 +1,15 @@
 -- The exit statuses and the lines of a run's ends.
 use Rattle.std.specs.Prelude.{◌≡◌, ◌⊎◌, ℕ, List, ◌++◌, Option, Some, None, codes}
 use Rattle.std.specs.Fmt.{decimal}
-use Rattle.program_outside.specs.Outside.{OutsideView, warned_of}
+use Rattle.program_outside.specs.Outside.{OutsideView, with_fault, warned_of}
+use Rattle.program_outside.specs.declared.fault.Cause.{Cause}
 use Rattle.ipc_frame.specs.declared.bad.Bad.{Bad}
 use Rattle.ipc_frame.specs.declared.bad.Bad.TheVariants as b
 use Rattle.session.specs.declared.end.End.{End}
 use Rattle.session.specs.declared.end.End.TheVariants.{Closed, Truncated, BadMessage, ReadFault, WriteFault, Idle, NoMemory}
+use Rattle.plant_run.specs.Causes.{Says}
+use Rattle.plant_run.specs.declared.causes.StartRefusal.{StartRefusal}
+use Rattle.plant_run.specs.declared.causes.StartRefusal.TheVariants as s
 
 -- the number of the rule that a bad message breaks
 abbrev pub number_of : Bad → ℕ
@@ -54,15 +58,20 @@ Concludes end old new status = (status ≡ status_of end) × (new ≡ printed ol
 abbrev pub IsShort : OutsideView → OutsideView → ℕ → Type 0
 IsShort old new status = (status ≡ 7) × (new ≡ warned_of old (codes "plant: wsfull"))
 
--- the line that says why something of this name refused, in these words
+-- the line that says in these words why something of this name refused
 abbrev pub cause_line : List ℕ → List ℕ → List ℕ
 cause_line name words = codes "plant: " ++ name ++ codes ": " ++ words
 
--- the line that says why, unless there is no memory for it
-abbrev pub TellsWhy : List ℕ → List ℕ → Type 0
-TellsWhy name line = ((words : List ℕ) × (line ≡ cause_line name words)) ⊎ (line ≡ codes "plant: there is no memory to say why")
+-- the line says why, unless there is no memory for it
+abbrev pub TellsWhy : List ℕ → StartRefusal → List ℕ → Type 0
+TellsWhy name why line =
+    ((words : List ℕ) × Says why words × (line ≡ cause_line name words)) ⊎ (line ≡ codes "plant: there is no memory to say why")
 
--- the program can't start, for a cause that it names; what failed has this name
-abbrev pub CannotStart : List ℕ → OutsideView → OutsideView → ℕ → Type 0
-CannotStart name old new status =
-    (status ≡ 6) × ((line : List ℕ) × TellsWhy name line × (new ≡ warned_of (warned_of old (codes "plant: cannot start")) line))
+-- the program can't start, and a second line says why; what refused has this name
+abbrev pub CannotStart : List ℕ → StartRefusal → OutsideView → OutsideView → ℕ → Type 0
+CannotStart name why old new status =
+    (status ≡ 6) × ((line : List ℕ) × TellsWhy name why line × (new ≡ warned_of (warned_of old (codes "plant: cannot start")) line))
+
+-- what has this name couldn't be made or read, which is counted, and the program can't start
+abbrev pub CannotMake : List ℕ → OutsideView → OutsideView → ℕ → Type 0
+CannotMake name old new status = (cause : Cause) × CannotStart name (s.Device cause) (with_fault old) new status

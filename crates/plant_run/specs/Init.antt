@@ -9,8 +9,9 @@ use Rattle.gated_journal.specs.Format.{Reads}
 use Rattle.outside_api.specs.Disk.{DiskView}
 use Rattle.partition_set.specs.Records.{payloads_of}
 use Rattle.partition_set.specs.declared.record.ManifestRecord.TheVariants as m
-use Rattle.program_outside.specs.Outside.{OutsideView, with_fault, opened_of, kept_of}
-use Rattle.plant_run.specs.Ends.{IsShort, CannotStart}
+use Rattle.program_outside.specs.Outside.{OutsideView, opened_of, kept_of}
+use Rattle.plant_run.specs.Ends.{IsShort, CannotStart, CannotMake}
+use Rattle.plant_run.specs.declared.causes.StartRefusal.TheVariants as s
 
 -- what formatting a disk for a plant of these tables answers and leaves
 pub record Formats (tables : List Shape) (old new : DiskView) (result : Result (Unit {0}) FormatRefusal) : Type 0 where
@@ -24,12 +25,12 @@ pub record Formats (tables : List Shape) (old new : DiskView) (result : Result (
 abbrev pub EndsFormat : List ℕ → OutsideView → OutsideView → ℕ → Result (Unit {0}) FormatRefusal → Type 0
 EndsFormat path old new status (Ok _) = (status ≡ 0) × (new ≡ old)
 EndsFormat path old new status (Err f.NoMemory) = IsShort old new status
-EndsFormat path old new status (Err f.AlreadyMade) = CannotStart path old new status
-EndsFormat path old new status (Err f.DiskFault) = CannotStart path old new status
+EndsFormat path old new status (Err f.AlreadyMade) = CannotStart path (s.Format f.AlreadyMade) old new status
+EndsFormat path old new status (Err f.DiskFault) = CannotStart path (s.Format f.DiskFault) old new status
 
 -- the folder can't be opened, and that is counted; or its disk is formatted and handed back
 abbrev pub FormatsIn : List Shape → List ℕ → OutsideView → OutsideView → ℕ → Type 0
 FormatsIn tables path old new status =
-    CannotStart path (with_fault old) new status
+    CannotMake path old new status
     ⊎ ((disk_old disk_new : DiskView) × ((result : Result (Unit {0}) FormatRefusal) × Formats tables disk_old disk_new result
     × EndsFormat path (kept_of (opened_of old path disk_old) disk_new) new status result))

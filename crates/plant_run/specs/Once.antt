@@ -22,13 +22,15 @@ use Rattle.plant_memory.specs.Frame.{Frame}
 use Rattle.plant_memory.specs.Memory.{MemoryView}
 use Rattle.plant_words.specs.declared.command.Ticking.{Ticking}
 use Rattle.program_outside.specs.Outside.{OutsideView, HasLinked, with_fault, opened_of, handed_back, kept_of}
+use Rattle.program_outside.specs.declared.fault.Cause.{Cause}
 use Rattle.q_values.specs.declared.limits.Limits.{Limits}
 use Rattle.q_values.specs.declared.turn.Turn.{Turn}
 use Rattle.session.specs.Run.{world}
 use Rattle.session.specs.Session.{IsSession}
 use Rattle.session.specs.declared.end.End.{End}
-use Rattle.plant_run.specs.Ends.{Concludes, IsShort, CannotStart}
+use Rattle.plant_run.specs.Ends.{Concludes, IsShort, CannotStart, CannotMake}
 use Rattle.plant_run.specs.Init.{Formats}
+use Rattle.plant_run.specs.declared.causes.StartRefusal.TheVariants as s
 use Rattle.plant_run.specs.declared.course.Course.{Course}
 use Rattle.plant_run.specs.declared.course.Course.TheVariants as c
 
@@ -94,13 +96,14 @@ pub record IsClosed (limits : Limits) (tables : List Shape) (disk_old disk_new :
 -- how a run over a disk went
 pub data CourseView : Type 0 where
   not_loaded : LoadRefusal → CourseView
-  not_linked : CourseView
+  -- there was no link, for this cause
+  not_linked : Cause → CourseView
   -- a session ended; its link and its notes at the end
   ended : LinkView → Option (List Turn) → End → CourseView
 
 abbrev pub course_of : {L N : Type 0} → (L → LinkView) → (N → Option (List Turn)) → Course L N → CourseView
 course_of shown noted (c.NotLoaded why) = not_loaded why
-course_of shown noted (c.NotLinked cause) = not_linked
+course_of shown noted (c.NotLinked cause) = not_linked cause
 course_of shown noted (c.Ended link turns end) = ended (shown link) (noted turns) end
 
 -- one link was made, for the session; nothing had passed through it, and nothing was noted before
@@ -115,7 +118,7 @@ pub record Serves (limits : Limits) (tables : List Shape) (disk_old disk_new : D
 -- what a run over a disk did, up to the handing back of its devices
 abbrev pub Goes : Limits → List Shape → DiskView → DiskView → Option (List ℤ) → Option (List ℤ) → OutsideView → OutsideView → CourseView → Type 0
 Goes limits tables disk_old disk_new clock_old clock_new old new (not_loaded why) = (new ≡ old) × IsRefused tables disk_old disk_new clock_old clock_new why
-Goes limits tables disk_old disk_new clock_old clock_new old new not_linked =
+Goes limits tables disk_old disk_new clock_old clock_new old new (not_linked cause) =
     (new ≡ with_fault old) × IsClosed limits tables disk_old disk_new clock_old clock_new
 Goes limits tables disk_old disk_new clock_old clock_new old new (ended link notes end) =
     Serves limits tables disk_old disk_new clock_old clock_new old new link notes end
@@ -134,12 +137,14 @@ clock_back seen (Some readings) = handed_back seen None (Some readings) None
 -- a load that is refused: out of memory, as is each refusal of a disk in memory; or the program can't start
 abbrev pub Refuses : Option (List ℕ) → LoadRefusal → OutsideView → OutsideView → ℕ → Type 0
 Refuses None why old new status = IsShort old new status
-Refuses (Some path) why old new status = ((why ≡ l.NoMemory) × IsShort old new status) ⊎ ((why ≢ l.NoMemory) × CannotStart path old new status)
+Refuses (Some path) why old new status =
+    ((why ≡ l.NoMemory) × IsShort old new status) ⊎ ((why ≢ l.NoMemory) × CannotStart path (s.Load why) old new status)
 
 -- the devices are handed back, and the program ends with the status and the lines of its course
 abbrev pub Finishes : Option (List ℕ) → Option (Option (List ℤ)) → OutsideView → OutsideView → ℕ → CourseView → Type 0
 Finishes folder handed old new status (not_loaded why) = Refuses folder why (clock_back old handed) new status
-Finishes folder handed old new status not_linked = CannotStart (codes "standard input and output") (clock_back old handed) new status
+Finishes folder handed old new status (not_linked cause) =
+    CannotStart (codes "standard input and output") (s.Device cause) (clock_back old handed) new status
 Finishes folder handed old new status (ended link notes end) = Concludes end (handed_back old (Some link) handed (Some notes)) new status
 
 -- a whole run over a disk, in a folder of this path or in memory
@@ -161,7 +166,7 @@ IsBlank limits tables disk = (date : ℤ) (plant : MemoryView) → IsPlantOf lim
 -- a run in a folder: the folder can't be opened, and that is counted; or it runs over the folder's disk, which is handed back
 abbrev pub RunsIn : Limits → List Shape → Option Ticking → List ℕ → OutsideView → OutsideView → ℕ → Type 0
 RunsIn limits tables ticking path old new status =
-    CannotStart path (with_fault old) new status
+    CannotMake path old new status
     ⊎ ((disk_old disk_new : DiskView) × ((after : OutsideView)
     × RunsOver limits tables ticking (Some path) disk_old disk_new (opened_of old path disk_old) after status
     × (new ≡ kept_of after disk_new)))
@@ -196,7 +201,7 @@ pub record ServesOn (limits : Limits) (plant : MemoryView) (disk_old disk_new : 
 -- the same of a run whose plant was loaded from a disk, and whose clock was read once
 abbrev pub GoesOn : Limits → MemoryView → DiskView → DiskView → Option (List ℤ) → Option (List ℤ) → OutsideView → OutsideView → CourseView → Type 0
 GoesOn limits plant disk_old disk_new clock_old clock_new old new (not_loaded why) = ⊥
-GoesOn limits plant disk_old disk_new clock_old clock_new old new not_linked =
+GoesOn limits plant disk_old disk_new clock_old clock_new old new (not_linked cause) =
     (new ≡ with_fault old) × (clock_new ≡ clock_old) × Keeps disk_old disk_new plant.frame plant.entries
 GoesOn limits plant disk_old disk_new clock_old clock_new old new (ended link notes end) =
     ServesOn limits plant disk_old disk_new clock_old clock_new old new link notes end

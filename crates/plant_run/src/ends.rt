@@ -1,8 +1,10 @@
 //! The exit statuses of a run, and its lines on standard error.
-ghost use Rattle.std.specs.Prelude.{◌≡◌, ◌≢◌, IfOk, codes};
+ghost use Rattle.std.specs.Prelude.{◌≡◌, ℕ, List, IfOk};
 ghost use Rattle.program_outside.specs.Outside.{warned_of};
+ghost use Rattle.plant_run.specs.Causes.{Says};
 ghost use Rattle.plant_run.specs.Ends.{Concludes, IsShort, CannotStart, cause_line, number_of, bad_message};
 
+use crate::causes::StartRefusal;
 use arrayvec::ArrayString;
 use itoa::Buffer;
 use program_outside::Outside;
@@ -64,25 +66,30 @@ pub fn short<O: Outside>(outside: &mut O) -> u8
     warned(outside, b"plant: wsfull", 7)
 }
 
-/// Ends a program that can't start: a second line says, in these words, why what has this name refused.
-pub fn cannot_start<O: Outside>(alloc: Global, name: &str, words: &[u8], outside: &mut O) -> u8
-    ensures { CannotStart name.now (O.seen outside.old) (O.seen outside.new) result }
+/// Ends a program that can't start: a second line says why. What refused has this name.
+pub fn cannot_start<O: Outside>(
+    alloc: Global,
+    name: &str,
+    why: &StartRefusal,
+    outside: &mut O,
+) -> u8
+    ensures { CannotStart name.now why.now (O.seen outside.old) (O.seen outside.new) result }
 {
     outside.warn(b"plant: cannot start");
-    match cause_line(alloc, name.as_bytes(), words) {
+    match cause_line(alloc, name.as_bytes(), why) {
         Ok(line) => outside.warn(&line),
         Err(_) => outside.warn(b"plant: there is no memory to say why"),
     }
     6
 }
 
-/// The line that says why something refused.
-fn cause_line(alloc: Global, name: &[u8], words: &[u8]) -> Result<Vec<u8>, NoMemory>
-    ensures { IfOk result (λ line. line.items ≡ cause_line name.now words.now) }
+/// The line that says why what has this name refused.
+fn cause_line(alloc: Global, name: &[u8], why: &StartRefusal) -> Result<Vec<u8>, NoMemory>
+    ensures { IfOk result (λ line. (words : List ℕ) × Says why.now words × (line.items ≡ cause_line name.now words)) }
 {
     let mut line = Vec::from_slice(alloc, b"plant: ")?;
     line.extend_from_slice(name)?;
     line.extend_from_slice(b": ")?;
-    line.extend_from_slice(words)?;
+    why.push_words(&mut line)?;
     Ok(line)
 }

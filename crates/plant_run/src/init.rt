@@ -2,6 +2,7 @@
 ghost use Rattle.std.specs.Prelude.{◌≡◌};
 ghost use Rattle.plant_run.specs.Init.{FormatsIn, EndsFormat};
 
+use crate::causes::StartRefusal;
 use crate::ends::{cannot_start, short};
 use date_logs::FormatRefusal;
 use day_rows::Schema;
@@ -16,7 +17,7 @@ pub fn format_folder<O: Outside>(alloc: Global, path: &str, schema: &Schema, out
     let mut disk = match outside.make_folder(alloc, path) {
         Ok(disk) => disk,
         Err(MakeFault { cause }) => {
-            return cannot_start(alloc, path, cause.words().as_bytes(), outside);
+            return cannot_start(alloc, path, &StartRefusal::Device(cause), outside);
         }
     };
     let formatted = Plant::<O::Disk>::format(alloc, &mut disk, schema);
@@ -35,12 +36,7 @@ fn end_format<O: Outside>(
 {
     match formatted {
         Ok(()) => 0,
-        Err(FormatRefusal::AlreadyMade) => {
-            cannot_start(alloc, path, b"it is formatted already", outside)
-        }
-        Err(FormatRefusal::DiskFault) => {
-            cannot_start(alloc, path, b"the disk failed as it was formatted", outside)
-        }
         Err(FormatRefusal::NoMemory) => short(outside),
+        Err(why) => cannot_start(alloc, path, &StartRefusal::Format(why), outside),
     }
 }

@@ -5,7 +5,7 @@ ghost use Rattle.date_loading.specs.declared.refusal.LoadRefusal.TheVariants as 
 ghost use Rattle.q_values.specs.Limits.{AreLimits};
 ghost use Rattle.plant_run.specs.Once.{RunsIn, RunsInMemory, RunsWith, Finishes, Refuses, clock_back, course_of};
 
-use crate::causes::load_words;
+use crate::causes::StartRefusal;
 use crate::course::Course;
 use crate::ends::{cannot_start, conclude, short};
 use crate::serving::serve_timed;
@@ -53,7 +53,7 @@ fn once_in_folder<O: Outside, R: Wait>(
     let disk = match outside.folder(alloc, path) {
         Ok(disk) => disk,
         Err(MakeFault { cause }) => {
-            return cannot_start(alloc, path, cause.words().as_bytes(), outside);
+            return cannot_start(alloc, path, &StartRefusal::Device(cause), outside);
         }
     };
     let (disk, course, clock) = serve_timed(rt, alloc, disk, schema, limits, ticking, outside);
@@ -96,14 +96,14 @@ fn finish<O: Outside>(
     match course {
         Course::NotLoaded(why) => {
             give_clock_back(clock, outside);
-            not_loaded(alloc, folder, &why, outside)
+            not_loaded(alloc, folder, why, outside)
         }
         Course::NotLinked(cause) => {
             give_clock_back(clock, outside);
             cannot_start(
                 alloc,
                 "standard input and output",
-                cause.words().as_bytes(),
+                &StartRefusal::Device(cause),
                 outside,
             )
         }
@@ -129,17 +129,14 @@ fn give_clock_back<O: Outside>(clock: Option<O::Clock>, outside: &mut O)
 fn not_loaded<O: Outside>(
     alloc: Global,
     folder: Option<&str>,
-    why: &LoadRefusal,
+    why: LoadRefusal,
     outside: &mut O,
 ) -> u8
-    ensures { Refuses (option_map (λ s. s.now) folder.entry) why.now (O.seen outside.old) (O.seen outside.new) result }
+    ensures { Refuses (option_map (λ s. s.now) folder.entry) why (O.seen outside.old) (O.seen outside.new) result }
 {
     match (folder, why) {
         (None, _) => short(outside),
         (Some(_), LoadRefusal::NoMemory) => short(outside),
-        (Some(path), why) => match load_words(alloc, why) {
-            Ok(words) => cannot_start(alloc, path, &words, outside),
-            Err(_) => cannot_start(alloc, path, b"its plant can't be loaded", outside),
-        },
+        (Some(path), why) => cannot_start(alloc, path, &StartRefusal::Load(why), outside),
     }
 }

@@ -4,7 +4,7 @@ ghost use Rattle.std.specs.Option.{option_map};
 ghost use Rattle.program_outside.specs.Outside.{read_of};
 ghost use Rattle.plant_run.specs.Tables.{FindsTables, FindsIn};
 
-use crate::causes::schema_words;
+use crate::causes::StartRefusal;
 use crate::ends::{cannot_start, short};
 use day_rows::Schema;
 use program_outside::{FileRefusal, Outside};
@@ -28,7 +28,7 @@ pub fn find_tables<O: Outside>(
         Some(path) => match outside.read_file(alloc, path) {
             Ok(text) => tables_in(alloc, path, &text, outside),
             Err(FileRefusal::MakeFault(cause)) => {
-                Err(cannot_start(alloc, path, cause.words().as_bytes(), outside))
+                Err(cannot_start(alloc, path, &StartRefusal::Device(cause), outside))
             }
             Err(FileRefusal::NoMemory) => Err(short(outside)),
         },
@@ -47,9 +47,6 @@ fn tables_in<O: Outside>(
     match read_schema(alloc, text) {
         Ok(schema) => Ok(schema),
         Err(SchemaRefusal::NoMemory) => Err(short(outside)),
-        Err(why) => Err(match schema_words(alloc, &why) {
-            Ok(words) => cannot_start(alloc, path, &words, outside),
-            Err(_) => cannot_start(alloc, path, b"it is no schema", outside),
-        }),
+        Err(why) => Err(cannot_start(alloc, path, &StartRefusal::Schema(why), outside)),
     }
 }

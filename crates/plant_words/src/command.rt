@@ -27,7 +27,7 @@ pub struct Once<'a> {
     pub schema: Option<&'a str>,
     /// The clock; without it the session has the machine's.
     pub clock: Option<Ticking>,
-    /// Whether updates are logged in batches.
+    /// Whether publications are joined: one message a table for up to 16 updates, in place of one for each.
     pub batch: bool,
 }
 

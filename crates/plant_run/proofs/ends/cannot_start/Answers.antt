@@ -1,7 +1,15 @@
-use Rattle.std.proofs.Common.{refl, inr, ap, ◌∙◌}
+use Rattle.std.proofs.Common.{◌≡◌, refl, inl, inr, ap, ◌∙◌}
 use Rattle.std.specs.Prelude.{codes}
 use Rattle.program_outside.specs.Outside.{warned_of}
+use Rattle.plant_run.specs.Ends.{cause_line}
 use Rattle.plant_run.proofs.ends.cannot_start.Goals as goal
+
+pub returns-in-Ok : goal.returns-in-Ok
+returns-in-Ok g c =
+    let told = c.in-Ok.ensures in
+    let line = c.deref.result.now in
+    let line_is : line ≡ cause_line c.args.name.now told.0 = cc (told.2, c.deref.ensures.value, c.as_bytes.ensures.value) in
+    (refl, (line, inl (told.0, told.1, line_is), c.warn-in-Ok.ensures ∙ ap (λ s. warned_of s line) c.warn.ensures))
 
 pub returns-in-Err : goal.returns-in-Err
 returns-in-Err g c =
