@@ -1,5 +1,6 @@
 //! A log whose file was spoiled.
 
+use crate::closed::one_update;
 use date_loading::LoadRefusal;
 use outside_api::Disk;
 use outside_mem::MemDisk;
@@ -7,32 +8,20 @@ use q_values::NoMemory;
 use std::alloc::Global;
 use std::sync::Wait;
 use std::test::Fail;
-use test_plants::{FIRST, NINE_THIRTY, NOW, Row, load, logs, new_solo};
+use test_plants::{FIRST, NINE_THIRTY, Row, load};
 
 // The file of the first date's log.
 const LOG: u64 = 1_008_767;
 
 const ROW: Row = (NINE_THIRTY, "KX", 10_050, 200);
 
-// The disk of a plant with one update of pass 1, after it was closed.
-fn closed<R: Wait>(rt: &R, alloc: Global) -> Result<Option<MemDisk>, NoMemory> {
-    let Some(mut solo) = new_solo(alloc)? else {
-        return Ok(None);
-    };
-    if logs(rt, alloc, &mut solo, ROW, NOW)? {
-        Ok(Some(solo.into_plant().close()))
-    } else {
-        Ok(None)
-    }
-}
-
-// Whether its log has 97 bytes, with the length of the update's chunk at 9, and the next gate at the end.
+// Whether the log of one update has 97 bytes, with the length of the update's chunk at 9, and the next gate at the end.
 fn is_one_chunk(log: &[u8]) -> bool {
     log.len() == 97 && &log[9..13] == b"\x53\0\0\0".as_slice() && log[96] == 0
 }
 
 fn first_is_one_chunk<R: Wait>(rt: &R, alloc: Global) -> Result<bool, NoMemory> {
-    match closed(rt, alloc)? {
+    match one_update(rt, alloc, ROW)? {
         Some(disk) => Ok(is_one_chunk(disk.bytes_of(LOG))),
         None => Ok(false),
     }
@@ -86,7 +75,7 @@ fn found_in(alloc: Global, disk: MemDisk) -> Found {
 
 // What a load finds where the log is truncated to this size.
 fn after_cut<R: Wait>(rt: &R, alloc: Global, size: u64) -> Result<Found, NoMemory> {
-    let Some(mut disk) = closed(rt, alloc)? else {
+    let Some(mut disk) = one_update(rt, alloc, ROW)? else {
         return Ok(Found::Other);
     };
     if !cut(&mut disk, size) {
@@ -97,7 +86,7 @@ fn after_cut<R: Wait>(rt: &R, alloc: Global, size: u64) -> Result<Found, NoMemor
 
 // What a load finds where these bytes stand at this offset of the log.
 fn after_put<R: Wait>(rt: &R, alloc: Global, at: u64, bytes: &[u8]) -> Result<Found, NoMemory> {
-    let Some(mut disk) = closed(rt, alloc)? else {
+    let Some(mut disk) = one_update(rt, alloc, ROW)? else {
         return Ok(Found::Other);
     };
     if !put(&mut disk, at, bytes) {

@@ -1,8 +1,7 @@
 //! Tests of `plant_core` over a disk in memory, through its public calls.
 //!
-//! `passes` goes through the calls of a pass that has a plant to itself; `reload` closes plants and loads them again, at
-//! the same date, at a later one, and where the load is refused; `damaged` spoils a log; `sizes` logs many rows and many
-//! updates, and loads them again.
+//! `passes` goes through the calls of a pass that has a plant to itself; `damaged` spoils a log; `sizes` logs many rows and
+//! many updates, and loads them again; `closed` gives the disks and the plants that they share.
 //!
 //! ```text
 //! let mut solo = new_solo(alloc)?;                       // a plant on a new disk, held by one pass
@@ -12,16 +11,17 @@
 //! load(alloc, disk, date)                                // `CorruptLog`, with the date, the whole chunks and their bytes
 //! ```
 //!
-//! The expected values come from kdb+'s documented order and from the documented layout of the log, not from the
-//! contracts. The tests are in a crate of their own since a crate with tests is proved twice, with and without them. No
-//! call of the disk fails here (`plant_core_stops` makes each of them fail), and no session asks (`disk_sessions`).
+//! The expected values come from the documented layout of the log, not from the contracts. The tests are in a crate of
+//! their own since a crate with tests is proved twice, with and without them. No call of the disk fails here
+//! (`plant_core_stops` makes each of them fail), no session asks (`disk_sessions`), and what a plant shows once it is
+//! closed and loaded again is compared in `plant_reload_cases`.
 #![tactic(auto)]
 
+#[cfg(test)]
+mod closed;
 #[cfg(test)]
 mod damaged;
 #[cfg(test)]
 mod passes;
-#[cfg(test)]
-mod reload;
 #[cfg(test)]
 mod sizes;

@@ -34,17 +34,19 @@ fn places<R: Wait>(
 }
 
 fn passes<R: Wait>(rt: &R, alloc: Global, solo: &mut Solo<MemDisk>) -> Result<bool, NoMemory> {
+    let tables = solo.schema().len();
     let first = places(rt, alloc, solo, NOW)? == Some((None, 0));
     let quiet = solo.tick(rt, alloc, NOW) == TickTurn::Quiet { length: 1 };
     let rolled = solo.tick(rt, alloc, NOW + NANOSECONDS_PER_DAY) == TickTurn::Rolled { place: 1 };
     let second = places(rt, alloc, solo, NOW + 2 * NANOSECONDS_PER_DAY)? == Some((Some(2), 3));
     let length = solo.snapshot(rt, alloc)?.length();
-    Ok(first && quiet && rolled && second && length == 4 && solo.by() == 1)
+    let turns = first && quiet && rolled && second;
+    Ok(turns && tables == 2 && length == 4 && solo.by() == 1)
 }
 
 fn passes_alone<R: Wait>(rt: &R, alloc: Global) -> Result<bool, NoMemory> {
     match solo(alloc)? {
-        Some(mut solo) => Ok(solo.schema().len() == 2 && passes(rt, alloc, &mut solo)?),
+        Some(mut solo) => passes(rt, alloc, &mut solo),
         None => Ok(false),
     }
 }

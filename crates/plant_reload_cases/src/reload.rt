@@ -1,5 +1,5 @@
 //! A plant that is closed and loaded again from its disk.
-ghost use Rattle.std.specs.Prelude.{◌≡◌};
+ghost use Rattle.std.specs.Prelude.{◌≡◌, ◌≤ℤ◌, negsuc, pos};
 
 use date_loading::LoadRefusal;
 use date_logs::FormatRefusal;
@@ -127,42 +127,63 @@ fn logs_all<R: Wait>(
     Ok(true)
 }
 
-// A new plant after three updates, a roll and two updates.
-fn fed<R: Wait>(rt: &R, alloc: Global) -> Result<Option<Plant<MemDisk>>, NoMemory> {
-    let Some(mut solo) = new_solo(alloc)? else {
-        return Ok(None);
-    };
-    let first = logs_all(rt, alloc, &mut solo, &FIRST_ROWS, NOW)?;
+// The plant of this disk, if it is loaded.
+fn loaded(alloc: Global, disk: MemDisk, date: i32) -> Option<Plant<MemDisk>>
+    requires first { negsuc 106751 ≤ℤ date }
+    requires last { date ≤ℤ pos 106751 }
+{
+    load(alloc, disk, date).ok()
+}
+
+// Three updates, a roll and two updates.
+fn feeds<R: Wait>(rt: &R, alloc: Global, solo: &mut Solo<MemDisk>) -> Result<bool, NoMemory> {
+    let first = logs_all(rt, alloc, solo, &FIRST_ROWS, NOW)?;
     let rolled = solo.tick(rt, alloc, NEXT_DAY) == TickTurn::Rolled { place: 3 };
-    let second = logs_all(rt, alloc, &mut solo, &SECOND_ROWS, NEXT_DAY)?;
-    if first && rolled && second && solo.by() == 1 {
-        Ok(Some(solo.into_plant()))
-    } else {
-        Ok(None)
-    }
+    let second = logs_all(rt, alloc, solo, &SECOND_ROWS, NEXT_DAY)?;
+    Ok(first && rolled && second && solo.by() == 1)
+}
+
+// Whether the snapshot has the rows of both dates.
+fn shows_both(alloc: Global, snapshot: &Snapshot, schema: &Schema) -> Result<bool, NoMemory>
+    requires { snapshot.now.frame.schema ≡ schema.now }
+{
+    Ok(
+        shows(alloc, snapshot, schema, 0, &FIRST_SHOWN)?
+            && shows(alloc, snapshot, schema, 1, &SECOND_SHOWN)?,
+    )
 }
 
 // Whether the plant has the updates of both dates.
 fn has_both(alloc: Global, plant: &Plant<MemDisk>) -> Result<bool, NoMemory> {
+    if plant.length() != 6 || plant.next_by() != 2 || plant.date() != SECOND {
+        return Ok(false);
+    }
     let snapshot = plant.snapshot(alloc)?;
-    let schema = plant.schema();
-    let counted = plant.length() == 6 && plant.next_by() == 2 && plant.date() == SECOND;
-    Ok(
-        counted
-            && shows(alloc, &snapshot, schema, 0, &FIRST_SHOWN)?
-            && shows(alloc, &snapshot, schema, 1, &SECOND_SHOWN)?,
-    )
+    shows_both(alloc, &snapshot, plant.schema())
+}
+
+// The disk of the plant, if it has the updates of both dates.
+fn closed(alloc: Global, plant: Plant<MemDisk>) -> Result<Option<MemDisk>, NoMemory> {
+    let both = has_both(alloc, &plant);
+    let disk = plant.close();
+    if both? { Ok(Some(disk)) } else { Ok(None) }
+}
+
+// The disk of a new plant after three updates, a roll and two updates, if it has them.
+fn fed<R: Wait>(rt: &R, alloc: Global) -> Result<Option<MemDisk>, NoMemory> {
+    let Some(mut solo) = new_solo(alloc)? else {
+        return Ok(None);
+    };
+    let logged = feeds(rt, alloc, &mut solo);
+    let back = closed(alloc, solo.into_plant());
+    if logged? { back } else { Ok(None) }
 }
 
 // The disk, if a plant that is loaded from it has the updates of both dates.
 fn reloads(alloc: Global, disk: MemDisk) -> Result<Option<MemDisk>, NoMemory> {
-    let Ok(plant) = load(alloc, disk, SECOND) else {
-        return Ok(None);
-    };
-    if has_both(alloc, &plant)? {
-        Ok(Some(plant.close()))
-    } else {
-        Ok(None)
+    match loaded(alloc, disk, SECOND) {
+        Some(plant) => closed(alloc, plant),
+        None => Ok(None),
     }
 }
 
@@ -184,29 +205,37 @@ fn is_size(why: &LoadRefusal) -> bool {
     }
 }
 
+// The disk that came back, where the refusal is as expected.
+fn disk_of(failure: LoadFailure<MemDisk>, expected: bool) -> Option<MemDisk> {
+    let LoadFailure { disk, why: _ } = failure;
+    if expected { Some(disk) } else { None }
+}
+
+// What refuses to load a plant with a size that is an int.
+fn with_integers(alloc: Global, disk: MemDisk) -> Option<LoadFailure<MemDisk>> {
+    match read_schema(alloc, INTEGER_SIZE) {
+        Ok(schema) => Plant::load(alloc, disk, schema, SECOND, &Limits::standard()).err(),
+        Err(_) => None,
+    }
+}
+
 // The disk, if it isn't loaded with a size that is an int.
 fn differs(alloc: Global, disk: MemDisk) -> Option<MemDisk> {
-    let Ok(schema) = read_schema(alloc, INTEGER_SIZE) else {
-        return None;
-    };
-    let Err(failure) = Plant::load(alloc, disk, schema, SECOND, &Limits::standard()) else {
-        return None;
-    };
-    let LoadFailure { disk, why } = failure;
-    if is_size(&why) { Some(disk) } else { None }
+    let failure = with_integers(alloc, disk)?;
+    let expected = is_size(&failure.why);
+    disk_of(failure, expected)
+}
+
+// What refuses to load a plant at the first date.
+fn at_first(alloc: Global, disk: MemDisk) -> Option<LoadFailure<MemDisk>> {
+    load(alloc, disk, FIRST).err()
 }
 
 // The disk, if it isn't loaded at the first date.
 fn is_later(alloc: Global, disk: MemDisk) -> Option<MemDisk> {
-    match load(alloc, disk, FIRST) {
-        Err(
-            LoadFailure {
-                disk,
-                why: LoadRefusal::EarlierDate { kept: SECOND },
-            },
-        ) => Some(disk),
-        _ => None,
-    }
+    let failure = at_first(alloc, disk)?;
+    let expected = matches!(&failure.why, LoadRefusal::EarlierDate { kept: SECOND });
+    disk_of(failure, expected)
 }
 
 // The disk, if it isn't formatted again.
@@ -219,10 +248,10 @@ fn is_made(alloc: Global, mut disk: MemDisk) -> Result<Option<MemDisk>, NoMemory
 }
 
 fn answers_are_same<R: Wait>(rt: &R, alloc: Global) -> Result<bool, NoMemory> {
-    let Some(plant) = fed(rt, alloc)? else {
-        return Ok(false);
-    };
-    Ok(has_both(alloc, &plant)? && reloads(alloc, plant.close())?.is_some())
+    match fed(rt, alloc)? {
+        Some(disk) => Ok(reloads(alloc, disk)?.is_some()),
+        None => Ok(false),
+    }
 }
 
 // The disk, if it loads after it came back with a refusal.
@@ -246,7 +275,7 @@ fn comes_back(alloc: Global, disk: MemDisk) -> Result<Option<MemDisk>, NoMemory>
 
 fn refusals_keep<R: Wait>(rt: &R, alloc: Global) -> Result<bool, NoMemory> {
     match fed(rt, alloc)? {
-        Some(plant) => Ok(comes_back(alloc, plant.close())?.is_some()),
+        Some(disk) => Ok(comes_back(alloc, disk)?.is_some()),
         None => Ok(false),
     }
 }
@@ -258,35 +287,53 @@ fn reload_same_answers(rt: HostRuntime) -> Result<(), Fail> {
     Ok(())
 }
 
-// Whether the plant opened a date five days later, with nothing in it.
-fn has_rolled(alloc: Global, plant: &Plant<MemDisk>) -> Result<bool, NoMemory> {
-    let snapshot = plant.snapshot(alloc)?;
-    let schema = plant.schema();
-    let counted = plant.length() == 2 && plant.opened_at() == 2 && plant.date() == FIRST + 5;
+// Whether the snapshot has the update on its first date, and a second date with nothing in it.
+fn shows_one(alloc: Global, snapshot: &Snapshot, schema: &Schema) -> Result<bool, NoMemory>
+    requires { snapshot.now.frame.schema ≡ schema.now }
+{
     Ok(
-        counted
-            && snapshot.dates() == 2
-            && shows_symbols(alloc, &snapshot, schema, 0, &["b"])?
-            && shows_symbols(alloc, &snapshot, schema, 1, &[])?,
+        snapshot.dates() == 2
+            && shows_symbols(alloc, snapshot, schema, 0, &["b"])?
+            && shows_symbols(alloc, snapshot, schema, 1, &[])?,
     )
 }
 
-// Loads a plant of one update five days later.
-fn rolls_once<R: Wait>(rt: &R, alloc: Global) -> Result<bool, NoMemory> {
-    let Some(mut solo) = new_solo(alloc)? else {
-        return Ok(false);
-    };
-    if !logs(rt, alloc, &mut solo, FIRST_ROWS[0], NOW)? {
+// Whether the plant opened a date five days later, with nothing in it.
+fn has_rolled(alloc: Global, plant: &Plant<MemDisk>) -> Result<bool, NoMemory> {
+    if plant.length() != 2 || plant.opened_at() != 2 || plant.date() != FIRST + 5 {
         return Ok(false);
     }
-    match load(alloc, solo.into_plant().close(), FIRST + 5) {
-        Ok(plant) => has_rolled(alloc, &plant),
-        Err(_) => Ok(false),
+    let snapshot = plant.snapshot(alloc)?;
+    shows_one(alloc, &snapshot, plant.schema())
+}
+
+// The disk of a new plant after one update, closed.
+fn one_update<R: Wait>(rt: &R, alloc: Global) -> Result<Option<MemDisk>, NoMemory> {
+    let Some(mut solo) = new_solo(alloc)? else {
+        return Ok(None);
+    };
+    let logged = logs(rt, alloc, &mut solo, FIRST_ROWS[0], NOW);
+    let disk = solo.into_plant().close();
+    if logged? { Ok(Some(disk)) } else { Ok(None) }
+}
+
+// Loads a plant of one update five days later.
+fn rolls_once(alloc: Global, disk: MemDisk) -> Result<bool, NoMemory> {
+    match loaded(alloc, disk, FIRST + 5) {
+        Some(plant) => has_rolled(alloc, &plant),
+        None => Ok(false),
+    }
+}
+
+fn loads_later<R: Wait>(rt: &R, alloc: Global) -> Result<bool, NoMemory> {
+    match one_update(rt, alloc)? {
+        Some(disk) => rolls_once(alloc, disk),
+        None => Ok(false),
     }
 }
 
 #[test]
 fn reload_days_later(rt: HostRuntime) -> Result<(), Fail> {
-    assert!(rt; rolls_once(&rt, rt.alloc())?);
+    assert!(rt; loads_later(&rt, rt.alloc())?);
     Ok(())
 }
