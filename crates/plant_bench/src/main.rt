@@ -58,15 +58,25 @@ fn log_all<R: Wait>(
 }
 
 // The only pass of a new plant.
-fn begun(alloc: Global) -> Result<Solo<MemDisk>> {
-    let plant = new_plant(alloc, built_in_schema(alloc)?, DATE, &Limits::standard())?;
-    if plant.next_by() != 1 {
-        bail!("a new plant with entries");
+fn begun(alloc: Global) -> Option<Solo<MemDisk>> {
+    let schema = built_in_schema(alloc).ok()?;
+    let plant = new_plant(alloc, schema, DATE, &Limits::standard()).ok()?;
+    if plant.next_by() == 1 {
+        Some(Solo::new(plant))
+    } else {
+        None
     }
-    Ok(Solo::new(plant))
 }
 
-// The disk of a plant that has logged the updates.
+// The disk of a new plant that has logged the updates.
+fn logged<R: Wait>(rt: &R, alloc: Global, request: &UpdRequest, count: u32) -> Option<MemDisk> {
+    let mut solo = begun(alloc)?;
+    let all = log_all(rt, alloc, &mut solo, request, count);
+    let disk = solo.into_plant().close();
+    if all { Some(disk) } else { None }
+}
+
+// The disk of a plant that has logged the updates. Prints the time that they took.
 fn log_timed<R: Clock + Print + Wait>(
     rt: &R,
     alloc: Global,
@@ -74,47 +84,55 @@ fn log_timed<R: Clock + Print + Wait>(
     count: u32,
     rows: u32,
 ) -> Result<MemDisk> {
-    let mut solo = begun(alloc)?;
     let start = Instant::now(rt)?;
-    if !log_all(rt, alloc, &mut solo, request, count) {
+    let Some(disk) = logged(rt, alloc, request, count) else {
         bail!("an update was not logged");
-    }
+    };
     let nanos = start.elapsed(rt)?.as_nanos();
-    let disk = solo.into_plant().close();
     let size = disk.bytes_of(FILE).len();
     println!(rt; "{rows} log {nanos} {size}")?;
     Ok(disk)
 }
 
-// Loads the plant of the disk, and returns the disk.
+// The disk of the plant that is loaded from it, and the number of its entries.
+fn loaded(alloc: Global, disk: MemDisk) -> Option<(MemDisk, u64)> {
+    let schema = built_in_schema(alloc).ok()?;
+    let plant = Plant::load(alloc, disk, schema, DATE, &Limits::standard()).ok()?;
+    let length = plant.length();
+    Some((plant.close(), length))
+}
+
+// Loads the plant of the disk, and returns the disk. Prints the time that the load took.
 fn load_timed<R: Clock + Print>(
     rt: &R,
     alloc: Global,
     disk: MemDisk,
     rows: u32,
 ) -> Result<MemDisk> {
-    let schema = built_in_schema(alloc)?;
-    let limits = Limits::standard();
     let start = Instant::now(rt)?;
-    let Ok(plant) = Plant::load(alloc, disk, schema, DATE, &limits) else {
+    let Some((disk, length)) = loaded(alloc, disk) else {
         bail!("no plant");
     };
     let nanos = start.elapsed(rt)?.as_nanos();
-    let length = plant.length();
     println!(rt; "{rows} load {nanos} {length}")?;
-    Ok(plant.close())
+    Ok(disk)
 }
 
-// Keeps the updates in memory, logs them, and loads their plant three times.
-fn log_and_load<R: Clock + Print + Wait>(
+// Keeps the updates in memory, and returns the disk of a plant that has logged them.
+fn keep_and_log<R: Clock + Print + Wait>(
     rt: &R,
     alloc: Global,
     count: u32,
     rows: u32,
-) -> Result<()> {
+) -> Result<MemDisk> {
     let request = trades(alloc, rows as usize)?;
     keep_timed(rt, alloc, &request, count, rows)?;
-    let mut disk = log_timed(rt, alloc, &request, count, rows)?;
+    log_timed(rt, alloc, &request, count, rows)
+}
+
+// Keeps the updates in memory, logs them, and loads their plant three times.
+fn time_all<R: Clock + Print + Wait>(rt: &R, alloc: Global, count: u32, rows: u32) -> Result<()> {
+    let mut disk = keep_and_log(rt, alloc, count, rows)?;
     for _ in 0..3 {
         disk = load_timed(rt, alloc, disk, rows)?;
     }
@@ -131,5 +149,5 @@ fn main(rt: HostRuntime) -> Result<()> {
         count.as_str().parse::<u32>()?,
         rows.as_str().parse::<u32>()?,
     );
-    log_and_load(&rt, rt.alloc(), count, rows)
+    time_all(&rt, rt.alloc(), count, rows)
 }

@@ -23,6 +23,17 @@ fn keep_all(alloc: Global, memory: &mut Memory, request: &UpdRequest, count: u32
     true
 }
 
+// The number of entries once the updates are kept in memory, if each was.
+fn kept(alloc: Global, request: &UpdRequest, count: u32) -> Option<u64> {
+    let schema = built_in_schema(alloc).ok()?;
+    let mut memory = Memory::begin(alloc, schema, DATE, &Limits::standard()).ok()?;
+    if keep_all(alloc, &mut memory, request, count) {
+        Some(memory.length())
+    } else {
+        None
+    }
+}
+
 /// Prints the time that the updates take in memory alone, with their log records made and not written, and the entries.
 pub fn keep_timed<R: Clock + Print>(
     rt: &R,
@@ -31,13 +42,11 @@ pub fn keep_timed<R: Clock + Print>(
     count: u32,
     rows: u32,
 ) -> Result<()> {
-    let mut memory = Memory::begin(alloc, built_in_schema(alloc)?, DATE, &Limits::standard())?;
     let start = Instant::now(rt)?;
-    if !keep_all(alloc, &mut memory, request, count) {
+    let Some(length) = kept(alloc, request, count) else {
         bail!("an update was not kept");
-    }
+    };
     let nanos = start.elapsed(rt)?.as_nanos();
-    let length = memory.length();
     println!(rt; "{rows} memory {nanos} {length}")?;
     Ok(())
 }
