@@ -3,6 +3,7 @@
 use denote.RattleType.{RattleType}
 use denote.Param.Send.{IsSend, IsSync, sendable}
 use Rattle.std.proofs.Crossing.{crosses}
+use Rattle.atomic_table.proofs.badge.Badge.TheSendSync as badge
 use Rattle.atomic_table.proofs.send_lease.SendLease.TheSendSync as lease
 use Rattle.atomic_table.proofs.shared.Shared.TheSendSync as table
 use Rattle.day_rows.specs.contracts.block.Block as Block
@@ -124,5 +125,5 @@ module _ (S E F : RattleType) (c : chronicle.Ghosts S.Denot E.Denot F.Denot) whe
   PlantLock-sync s =
       let a = Sleepers-sync in search (table.the_sync, lease.the_sync, sendable, crosses) depth 60 fits 20000
 
--- all that `search` needs to send a closure which borrows a lock round a plant
-pub ruleset locked = (PlantLock-sync, Plant-send, sendable, crosses)
+-- all that `search` needs to send a closure which borrows a lock round a plant, and has a pass
+pub ruleset locked = (PlantLock-sync, Plant-send, badge.the_send, sendable, crosses)
