@@ -50,8 +50,8 @@ pub record IsUnused (line : Line) : Type 0 where
 abbrev pub world_at : Line → AccessView → World
 world_at line access = world line.link line.clock line.notes access
 
--- the pass that an access had when it ended: still of its lock and of its number, it has seen what the access saw, and of its
--- number just the entries that the access made
+-- the pass that an access had when it ended: still of its lock and of its number, it has seen what the access saw, and the entries
+-- of its number in that are exactly those that the access made
 pub record Leaves (old new : Told Entry) (access : AccessView) : Type 0 where
   pub lock : new.lock ≡ old.lock
   pub number : new.number ≡ old.number

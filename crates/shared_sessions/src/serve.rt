@@ -59,28 +59,23 @@ pub fn serve_shared<D: Disk, L: Link, C: Clock, G: Gate + Drop, N: Recorder, R: 
         let b = line (L.shown result.link) (C.readings result.clock) (N.noted result.recorder) in
         IsUnused a → IsFinishedAs D.shown lock.now limits.now pass.number result.pass b result.end }
 {
-    let Connection {
-        mut link,
-        mut clock,
-        mut gate,
-        mut recorder,
-    } = connection;
+    let mut connection = connection;
     let mut access = Shared::new(lock, pass, schema);
     let report = serve_session(
         rt,
         alloc,
         &mut access,
-        &mut link,
-        &mut clock,
-        &mut gate,
-        &mut recorder,
+        &mut connection.link,
+        &mut connection.clock,
+        &mut connection.gate,
+        &mut connection.recorder,
         limits,
     );
     Finished {
         end: report.end,
-        link,
-        clock,
-        recorder,
+        link: connection.link,
+        clock: connection.clock,
+        recorder: connection.recorder,
         pass: access.into_parts(),
     }
 }
