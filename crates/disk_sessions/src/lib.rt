@@ -1,7 +1,7 @@
 //! Tests of sessions whose disk fails: the error `disk`, and what follows it.
 //!
 //! Each test serves one session over a plant on a disk in memory, one call of which fails. Then it loads the plant again
-//! from what a crash leaves of the disk. The expected bytes are those of the IPC reference, written out in `bytes`.
+//! from what a crash leaves of the disk. The bytes are those of the IPC reference, written out in `test_sessions`.
 //!
 //! ```text
 //! in      u:p 03 00, an update of trade by one row, the same again, "select from trade"
@@ -13,8 +13,6 @@
 //! The crate has no code outside its tests. What a session answers over a disk that works is in `plant_vectors`.
 #![tactic(auto)]
 
-#[cfg(test)]
-mod bytes;
 #[cfg(test)]
 mod sessions;
 #[cfg(test)]

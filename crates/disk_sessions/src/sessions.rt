@@ -1,6 +1,5 @@
 //! Sessions that meet a call of the disk that fails.
 
-use crate::bytes::{DISK, DONE, GREETED, GREETING, ONE_ROW, QUERY, UPDATE};
 use crate::sitting::{Wanted, goes};
 use outside_mem::Calling;
 use q_values::{NANOSECONDS_PER_DAY, NoMemory, Turn};
@@ -8,10 +7,19 @@ use std::alloc::Global;
 use std::sync::Wait;
 use std::test::Fail;
 use test_plants::{LOAD_CALLS, NOW, one_failing};
+use test_sessions::bytes::{DONE, GREETED, GREETING, ONE_ROW, QUERY, UPDATE};
+use test_sessions::{GREETED_TURN, Read};
 
 const NEXT_DAY: i64 = NOW + NANOSECONDS_PER_DAY;
 
-const GREETED_TURN: Turn = Turn::Greeted { capability: 3 };
+// The error `disk`.
+const DISK: &[u8] = b"\x01\x02\0\0\x0e\0\0\0\x80disk\0";
+
+const GREETS: Read<'static> = Read::Bytes(GREETING);
+
+const UPDATES: Read<'static> = Read::Bytes(UPDATE);
+
+const ASKS: Read<'static> = Read::Bytes(QUERY);
 
 // The calls of the disk before those of the first update, before those of what comes next, and before what follows a roll: an
 // update makes four calls, and a roll seven.
@@ -46,7 +54,7 @@ fn update_fails<R: Wait>(
         entries: 2,
     };
     let callings = one_failing(alloc, calls, how)?;
-    let reads = [GREETING, UPDATE, UPDATE, QUERY];
+    let reads = [GREETS, UPDATES, UPDATES, ASKS];
     goes(rt, alloc, callings, &[NOW], &reads, wanted)
 }
 
@@ -82,7 +90,7 @@ fn roll_fails<R: Wait>(rt: &R, alloc: Global, calls: u64, how: Calling) -> Resul
         entries: 2,
     };
     let callings = one_failing(alloc, calls, how)?;
-    let reads = [GREETING, UPDATE, b"", b"", QUERY];
+    let reads = [GREETS, UPDATES, Read::Idle, Read::Idle, ASKS];
     goes(rt, alloc, callings, &[NOW, NEXT_DAY], &reads, wanted)
 }
 
@@ -127,7 +135,7 @@ fn roll_of_an_update_fails<R: Wait>(
         entries: 3,
     };
     let callings = one_failing(alloc, calls, how)?;
-    let reads = [GREETING, UPDATE, UPDATE, UPDATE];
+    let reads = [GREETS, UPDATES, UPDATES, UPDATES];
     goes(rt, alloc, callings, &[NOW, NEXT_DAY], &reads, wanted)
 }
 

@@ -1,15 +1,14 @@
 //! One session over a disk of which one call fails, and what a later load finds.
 ghost use Rattle.std.specs.Prelude.{◌≡◌, ◌≤ℤ◌, negsuc, pos};
 
-use outside_mem::{
-    Callings, Leaving, MemClock, MemDisk, MemLink, MemRecorder, NoGate, Piece, Pieces, Takings,
-};
+use outside_mem::{Callings, Leaving, MemClock, MemDisk, MemLink, MemRecorder, NoGate};
 use plant_core::{Plant, Solo};
-use q_values::{NoMemory, Sequence, Text, Turn};
+use q_values::{NoMemory, Turn};
 use session::{End, serve_session};
 use std::alloc::Global;
 use std::sync::Wait;
 use test_plants::{FIRST, are_longs, formatted, load, shown};
+use test_sessions::{Read, are_joined, clock_of, link_of};
 
 /// What is expected of a session, and of a load after it.
 #[derive(Clone, Copy)]
@@ -24,18 +23,6 @@ pub struct Wanted<'a> {
 
 /// 2024.01.03, in days since 2000.01.01.
 const SECOND: i32 = FIRST + 1;
-
-// Whether the bytes are the concatenation of these parts.
-fn are_joined(bytes: &[u8], parts: &[&[u8]]) -> bool {
-    let mut rest = bytes;
-    for part in parts {
-        match rest.strip_prefix(*part) {
-            Some(more) => rest = more,
-            None => return false,
-        }
-    }
-    rest.is_empty()
-}
 
 // The plant of a new disk whose calls go as these, if it is loaded.
 fn planned(alloc: Global, callings: Callings) -> Result<Option<Plant<MemDisk>>, NoMemory> {
@@ -103,39 +90,16 @@ fn goes_on<R: Wait>(
     Ok(told && disk.faults() == 1 && is_found(alloc, &disk, wanted.entries)?)
 }
 
-// A clock that gives these readings, if there are any.
-fn clock_of(alloc: Global, readings: &[i64]) -> Result<Option<MemClock>, NoMemory> {
-    let moments = Sequence::from_vec(Vec::from_slice(alloc, readings)?);
-    if moments.len() == 0 {
-        return Ok(None);
-    }
-    Ok(Some(MemClock::new(moments)))
-}
-
-// A link whose reads give these bytes, and time out where there are none.
-fn link_of(alloc: Global, reads: &[&[u8]]) -> Result<MemLink, NoMemory> {
-    let mut pieces = Pieces::new(alloc);
-    for bytes in reads {
-        if bytes.is_empty() {
-            pieces.push(Piece::Idle)?;
-        } else {
-            pieces.push(Piece::Bytes(Text::from_vec(Vec::from_slice(alloc, bytes)?)))?;
-        }
-    }
-    Ok(MemLink::script(alloc, pieces, Takings::new(alloc)))
-}
-
-/// Whether a session goes as expected whose reads give these bytes, and time out where there are none, with these readings
-/// of the clock, and over a disk whose calls go as these.
+/// Whether a session goes as expected with these reads, these readings of the clock, and a disk whose calls go as these.
 pub fn goes<R: Wait>(
     rt: &R,
     alloc: Global,
     callings: Callings,
     readings: &[i64],
-    reads: &[&[u8]],
+    reads: &[Read],
     wanted: Wanted,
 ) -> Result<bool, NoMemory> {
-    let mut link = link_of(alloc, reads)?;
+    let mut link = link_of(alloc, reads, &[])?;
     let Some(mut clock) = clock_of(alloc, readings)? else {
         return Ok(false);
     };

@@ -1,14 +1,14 @@
 //! Sessions whose link fails or times out.
-use crate::bytes::{
-    DONE, FIRST, GREETED, GREETING, NO_ROW, ONE_ROW, ORDERED, QUERY, SECOND, THIRD, UPDATE,
-};
-use crate::sitting::{GREETED_TURN, LOGGED_TURN, NOW, Read, Wanted, script_goes, script_goes_at};
 use outside_mem::Taking;
 use q_values::{NANOSECONDS_PER_DAY, NoMemory, Turn};
 use session::End;
 use std::alloc::Global;
 use std::sync::Wait;
 use std::test::Fail;
+use test_sessions::bytes::{
+    DONE, FIRST, GREETED, GREETING, NO_ROW, ONE_ROW, ORDERED, QUERY, SECOND, THIRD, UPDATE,
+};
+use test_sessions::{GREETED_TURN, LOGGED_TURN, NOW, Read, Wanted, script_goes, script_goes_at};
 
 const QUIET_TURN: Turn = Turn::Quiet {
     length: 0,

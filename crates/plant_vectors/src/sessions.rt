@@ -1,17 +1,17 @@
 //! Sessions that read well-formed and malformed messages to their end.
-use crate::bytes::{
-    BIG_QUERY, CHARACTER, DONE, FLOAT, GREETED, GREETING, NEGATIVE, NO_QUOTE, NO_ROW, NYI, ONE_ROW,
-    PARSE, PAST_THE_END, QUERY, QUOTE_QUERY, UPDATE,
-};
-use crate::sitting::{
-    GREETED_TURN, LOGGED_TURN, Read, Wanted, bytes_go, greeted, messages_go, pieces_go,
-    script_goes, single_bytes,
-};
 use q_values::{Limits, NoMemory, Turn};
 use session::{Bad, End};
 use std::alloc::Global;
 use std::sync::Wait;
 use std::test::Fail;
+use test_sessions::bytes::{
+    BIG_QUERY, CHARACTER, DONE, FLOAT, GREETED, GREETING, NEGATIVE, NO_QUOTE, NO_ROW, NYI, ONE_ROW,
+    PARSE, PAST_THE_END, QUERY, QUOTE_QUERY, UPDATE,
+};
+use test_sessions::{
+    GREETED_TURN, LOGGED_TURN, Read, Wanted, bytes_go, greeted, messages_go, pieces_go,
+    script_goes, single_bytes,
+};
 
 /// The responses to the handshake, the first update and the query after it.
 const SENT: &[&[u8]] = &[GREETED, DONE, ONE_ROW];

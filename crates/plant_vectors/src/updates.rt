@@ -1,16 +1,16 @@
 //! Sessions that update tables: dates, row order, and refusals.
-use crate::bytes::{
-    ARRIVED, ASYNC_FLOAT, ASYNC_QUERY, ASYNC_THREE_SYMBOLS, ASYNC_UPDATE, BOTH_DATES, CHARACTERS,
-    DONE, EMPTY_COLUMNS, FIRST, FOO, FOURTH, GREETED, LENGTH, LIMIT, LONG_BACK, LONG_FRONT,
-    MORE_THAN_ONE_DAY, NO_ROW, OF_FOO, OF_INT, OF_TWO, ONE_ROW, QUERY, SECOND, SPREAD, SPREAD_ROWS,
-    THIRD, THREE_SYMBOLS, TYPE, UPDATE, WITHOUT_TIME,
-};
-use crate::sitting::{GREETED_TURN, LOGGED_TURN, NOW, Wanted, joined, messages_go, messages_go_at};
 use q_values::{NANOSECONDS_PER_DAY, NoMemory, Turn};
 use session::End;
 use std::alloc::Global;
 use std::sync::Wait;
 use std::test::Fail;
+use test_sessions::bytes::{
+    ARRIVED, ASYNC_FLOAT, ASYNC_QUERY, ASYNC_THREE_SYMBOLS, ASYNC_UPDATE, BOTH_DATES, CHARACTERS,
+    DONE, EMPTY_COLUMNS, FIRST, FOO, FOURTH, GREETED, LENGTH, LIMIT, LONG_BACK, LONG_FRONT,
+    MORE_THAN_ONE_DAY, NO_ROW, OF_FOO, OF_INT, OF_TWO, ONE_ROW, QUERY, SECOND, SPREAD, SPREAD_ROWS,
+    THIRD, THREE_SYMBOLS, TYPE, UPDATE, WITHOUT_TIME,
+};
+use test_sessions::{GREETED_TURN, LOGGED_TURN, NOW, Wanted, joined, messages_go, messages_go_at};
 
 const SECOND_TURN: Turn = Turn::Logged { place: 1, now: NOW };
 

@@ -1,10 +1,11 @@
 //! Queries over two dates: phrases, aggregates, groups, an as-of join, the count of updates and the open date.
 use crate::building::{Row, put_updates, text_of, update_by, update_of};
-use crate::sitting::{Asked, Given, NOW, answers, done_times};
+use crate::sitting::{Asked, Given, answers, done_times};
 use q_values::{NANOSECONDS_PER_DAY, NoMemory, Turn};
 use std::alloc::Global;
 use std::sync::Wait;
 use std::test::Fail;
+use test_sessions::NOW;
 
 /// A moment of the next date.
 const NEXT: i64 = NOW + NANOSECONDS_PER_DAY;

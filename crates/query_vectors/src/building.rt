@@ -2,9 +2,6 @@
 use q_values::NoMemory;
 use std::alloc::Global;
 
-/// The handshake of the user `u` with the password `p` and the capability 3.
-const GREETING: &[u8] = b"u:p\x03\0";
-
 /// One minute, in nanoseconds.
 const MINUTE: i64 = 60_000_000_000;
 
@@ -81,9 +78,4 @@ pub fn update_by(alloc: Global, items: &[u8]) -> Result<Vec<u8>, NoMemory> {
     let mut body = Vec::from_slice(alloc, b"\0\0\x03\0\0\0\xf5.u.upd\0\xf5trade\0")?;
     body.extend_from_slice(items)?;
     message_of(alloc, 1, body.as_slice())
-}
-
-/// The bytes of the handshake.
-pub fn greeting(alloc: Global) -> Result<Vec<u8>, NoMemory> {
-    Ok(Vec::from_slice(alloc, GREETING)?)
 }

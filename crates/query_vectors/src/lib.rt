@@ -1,10 +1,10 @@
 //! Worked sessions that ask in texts, as tests: updates and texts come in, and the bytes of each response are compared.
 //!
-//! Each test serves one session over devices in memory (`outside_mem`) and a plant of the built-in tables that is open on
-//! 2024.01.02. The expected bytes were written down by hand from the IPC reference; none comes from the program.
+//! Each test serves one session over devices in memory and a plant of the built-in tables that is open on 2024.01.02, by
+//! `test_sessions`. The expected bytes were written down by hand from the IPC reference; none comes from the program.
 //!
 //! - `building` makes messages: updates of `trade` and `quote`, texts, and responses round a value's bytes.
-//! - `sitting` serves a session and compares it with a `Wanted`: what it sends, and the turns that it notes.
+//! - `sitting` has what a session is given and asked, and compares what it sends and the turns that it notes.
 //! - `answers` has queries over two dates: phrases, aggregates, groups, an as-of join, the count of updates and the date.
 //! - `refusals` has texts that are answered with errors, and updates and texts that change nothing.
 //! - `sizes` has answers over a hundred thousand rows, and the limit on a response.

@@ -1,10 +1,11 @@
 //! Texts that are answered with errors, and messages that change nothing.
 use crate::building::{Row, text_of, update_by, update_of};
-use crate::sitting::{Asked, Given, NOW, answers};
+use crate::sitting::{Asked, Given, answers};
 use q_values::{NANOSECONDS_PER_DAY, NoMemory, Turn};
 use std::alloc::Global;
 use std::sync::Wait;
 use std::test::Fail;
+use test_sessions::NOW;
 
 /// The long 0.
 const NONE: &[u8] = b"\xf9\0\0\0\0\0\0\0\0";

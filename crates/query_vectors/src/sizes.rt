@@ -1,11 +1,13 @@
 //! Answers over a hundred thousand rows, and the limit on a response, with ample memory.
-use crate::building::{greeting, message_of, text_of, update_by};
-use crate::sitting::{Asked, Given, NOW, Outcome, answers, done_times, sat};
+use crate::building::{message_of, text_of, update_by};
+use crate::sitting::{Asked, Given, answers, done_times};
 use q_values::{Limits, NoMemory, Turn};
 use session::End;
 use std::alloc::Global;
 use std::sync::Wait;
 use std::test::Fail;
+use test_sessions::bytes::{GREETED, GREETING};
+use test_sessions::{NOW, Outcome, sat};
 
 /// The number of rows.
 const ROWS: u32 = 100_000;
@@ -126,10 +128,10 @@ fn a_hundred_thousand_groups(rt: HostRuntime) -> Result<(), Fail> {
 fn is_limited<R: Wait>(rt: &R, alloc: Global, most: u32, value: &[u8]) -> Result<bool, NoMemory> {
     let mut limits = Limits::standard();
     limits.reply = most.min(1_000_000);
-    let mut input = greeting(alloc)?;
+    let mut input = Vec::from_slice(alloc, GREETING)?;
     let text = text_of(alloc, 1, b"exec time from trade")?;
     input.extend_from_slice(text.as_slice())?;
-    let mut output = Vec::from_slice(alloc, b"\x03")?;
+    let mut output = Vec::from_slice(alloc, GREETED)?;
     let response = message_of(alloc, 2, value)?;
     output.extend_from_slice(response.as_slice())?;
     match sat(rt, alloc, &limits, &[NOW], input.as_slice())? {

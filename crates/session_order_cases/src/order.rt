@@ -1,12 +1,12 @@
 //! In which order a session calls its devices: what it asks of the access, where it pauses, and that each turn is noted
 //! before its bytes are written.
-use crate::bytes::{GREETING, QUERY, UPDATE};
-use crate::sitting::{NOW, Read, clock_of, link_of};
 use crate::watched::{Call, calls_of, number_of};
 use q_values::{NANOSECONDS_PER_DAY, NoMemory};
 use std::alloc::Global;
 use std::sync::Wait;
 use std::test::Fail;
+use test_sessions::bytes::{GREETING, QUERY, UPDATE};
+use test_sessions::{NOW, Read, clock_of, link_of};
 
 // Whether a session with these readings and reads makes these calls, and no others.
 fn makes<R: Wait>(

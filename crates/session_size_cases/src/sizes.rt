@@ -1,12 +1,12 @@
 //! Sessions at real sizes, with ample memory: none of their messages is answered `wsfull`.
 use crate::building::{Rows, answer_of, input_of, update_by, update_of};
-use crate::bytes::{DONE, GREETED, LENGTH, NO_ROW, QUERY, TYPE};
-use crate::sitting::{NOW, Outcome, greeted, sat};
-use q_values::{NANOSECONDS_PER_DAY, NoMemory, Turn};
+use q_values::{Limits, NANOSECONDS_PER_DAY, NoMemory, Turn};
 use session::End;
 use std::alloc::Global;
 use std::sync::Wait;
 use std::test::Fail;
+use test_sessions::bytes::{DONE, GREETED, LENGTH, NO_ROW, QUERY, TYPE};
+use test_sessions::{NOW, Outcome, greeted, sat};
 
 // Whether a session sends the handshake's answer, this many times `(::)`, and then this answer.
 fn sends(taken: &[u8], done: u32, answer: &[u8]) -> bool {
@@ -27,7 +27,7 @@ fn are_shown<R: Wait>(rt: &R, alloc: Global, daily: Rows) -> Result<bool, NoMemo
     let update = update_of(alloc, daily.rows)?;
     let input = input_of(alloc, update.as_slice(), daily.updates)?;
     let answer = answer_of(alloc, daily, 1)?;
-    match sat(rt, alloc, &[NOW], input.as_slice())? {
+    match sat(rt, alloc, &Limits::standard(), &[NOW], input.as_slice())? {
         Some(Outcome { end, link, .. }) => {
             Ok(end == End::Closed && sends(link.taken(), daily.updates, answer.as_slice()))
         }
@@ -141,7 +141,13 @@ fn dates_end<R: Wait>(rt: &R, alloc: Global, dates: u16) -> Result<bool, NoMemor
         updates: 100,
     };
     let answer = answer_of(alloc, daily, dates)?;
-    match sat(rt, alloc, readings.as_slice(), input.as_slice())? {
+    match sat(
+        rt,
+        alloc,
+        &Limits::standard(),
+        readings.as_slice(),
+        input.as_slice(),
+    )? {
         Some(
             Outcome {
                 end,
@@ -181,7 +187,7 @@ fn is_refused_by<R: Wait>(
     let input = greeted(alloc, &[update.as_slice(), QUERY])?;
     let mut wanted = Vec::from_slice(alloc, error)?;
     wanted.extend_from_slice(NO_ROW)?;
-    match sat(rt, alloc, &[NOW], input.as_slice())? {
+    match sat(rt, alloc, &Limits::standard(), &[NOW], input.as_slice())? {
         Some(Outcome { end, link, .. }) => {
             Ok(end == End::Closed && sends(link.taken(), 0, wanted.as_slice()))
         }

@@ -1,7 +1,7 @@
 //! The bytes of large messages: updates of `trade` by many rows, and the answers that show them.
-use crate::bytes::{GREETING, QUERY};
 use q_values::NoMemory;
 use std::alloc::Global;
+use test_sessions::bytes::{GREETING, QUERY};
 
 /// The date of the first day of the tests, in days since 2000.01.01, and its bytes.
 const FIRST_DATE: i32 = 8767;

@@ -38,7 +38,7 @@ pub struct Wanted<'a> {
 }
 
 /// Whether the bytes are the concatenation of these parts.
-fn are_joined(bytes: &[u8], parts: &[&[u8]]) -> bool {
+pub fn are_joined(bytes: &[u8], parts: &[&[u8]]) -> bool {
     let mut rest = bytes;
     for part in parts {
         match rest.strip_prefix(*part) {
@@ -113,20 +113,22 @@ pub struct Outcome {
     pub recorder: MemRecorder,
 }
 
-/// A session whose input is these bytes, with these readings of the clock and room for many turns.
+/// A session whose input is these bytes, with these limits, these readings of the clock, and room for many turns.
 pub fn sat<R: Wait>(
     rt: &R,
     alloc: Global,
+    limits: &Limits,
     readings: &[i64],
     bytes: &[u8],
-) -> Result<Option<Outcome>, NoMemory> {
+) -> Result<Option<Outcome>, NoMemory>
+    requires { AreLimits limits.now }
+{
     let Some(mut clock) = clock_of(alloc, readings)? else {
         return Ok(None);
     };
     let mut link = MemLink::from_bytes(alloc, bytes)?;
     let mut recorder = MemRecorder::with_room(alloc, 20_000)?;
-    let limits = Limits::standard();
-    match serve(rt, alloc, &limits, &mut clock, &mut link, &mut recorder)? {
+    match serve(rt, alloc, limits, &mut clock, &mut link, &mut recorder)? {
         Some(end) => Ok(Some(Outcome {
             end,
             link,

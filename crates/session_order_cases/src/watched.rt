@@ -2,7 +2,6 @@
 ghost use Rattle.std.specs.Prelude.{◌≡◌};
 ghost use Rattle.q_values.specs.Limits.{AreLimits};
 
-use crate::sitting::TODAY;
 use day_rows::Schema;
 use mem_plant::new_plant;
 use outside_api::{Gate, Got, Link, LinkFault, Point, Recorder};
@@ -16,6 +15,7 @@ use std::alloc::Global;
 use std::sync::atomic::AtomicU64;
 use std::sync::atomic::Ordering::SeqCst;
 use std::sync::{Arc, Wait};
+use test_sessions::TODAY;
 
 /// A call that a session makes of a device.
 #[derive(Clone, Copy)]
