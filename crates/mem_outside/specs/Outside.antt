@@ -47,11 +47,12 @@ opened_of folder = record { path = folder.path; disk = folder.disk.value }
 abbrev pub file_of : ReadFile → FileRead
 file_of file = record { path = file.path; bytes = file.bytes }
 
--- an outside in memory: how often something couldn't be made or read, it couldn't listen, and a line couldn't be printed; and all
--- that it made, read, printed and took back
+-- an outside in memory: how often something couldn't be made or read, it couldn't accept a connection, and a line couldn't be
+-- printed; the port that it listens on; and all that it made, read, printed and took back
 pub record MemOutsideView : Type 0 where
   pub make_faults : ℕ
   pub listen_faults : ℕ
+  pub listening : Option ℕ
   pub say_faults : ℕ
   pub links : List MemLinkView
   pub opened : List MemOpened
@@ -66,6 +67,7 @@ abbrev pub new_outside : MemOutsideView
 new_outside = record {
   make_faults = 0;
   listen_faults = 0;
+  listening = None;
   say_faults = 0;
   links = [];
   opened = [];
@@ -87,13 +89,13 @@ pub record IsLeft (o : MemOutsideView) (left : MemLeft) : Type 0 where
 abbrev pub shown_opened : MemOpened → Opened
 shown_opened folder = record { path = folder.path; disk = shown_by folder.disk }
 
--- it reports all of it; it listens on no port
+-- it reports all of it
 abbrev pub outside_shown : MemOutsideView → OutsideView
 outside_shown o = record {
   make_faults = o.make_faults;
   listen_faults = o.listen_faults;
   say_faults = o.say_faults;
-  listening = None;
+  listening = o.listening;
   links = Some (map (λ l. l.shown) o.links);
   opened = Some (map shown_opened o.opened);
   files = Some o.files;

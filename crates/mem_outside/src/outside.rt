@@ -24,7 +24,8 @@ struct ReadFile {
 }
 
 /// An outside in memory: it gives one link, one recorder, one folder and one file, made beforehand, and steady clocks, and
-/// keeps what was printed and what was handed back. It reports all of it. It listens on no port.
+/// keeps what was printed and what was handed back. It reports all of it. It listens on the port that it is told to, but no
+/// connection can be accepted there: each accept is a fault.
 #[derive(Drop)]
 pub struct MemOutside {
     alloc: Global,
@@ -32,8 +33,10 @@ pub struct MemOutside {
     devices: MemDevices,
     // How many devices could not be made, and files not read.
     make_faults: u64,
-    // How often it could not listen.
+    // How often it could not accept a connection.
     listen_faults: u64,
+    // The port that it listens on.
+    listening: Option<u16>,
     // How many lines could not be printed on standard output.
     say_faults: u64,
     // The links that it gave, as they were then, which only contracts see.
@@ -64,6 +67,7 @@ impl Model for MemOutside {
     ghost view = { λ o. record {
       make_faults = o.make_faults;
       listen_faults = o.listen_faults;
+      listening = o.listening;
       say_faults = o.say_faults;
       links = o.links;
       opened = map opened_of o.opened;
@@ -96,6 +100,7 @@ impl MemOutside {
             devices,
             make_faults: 0,
             listen_faults: 0,
+            listening: None,
             say_faults: 0,
             links: History::new(),
             opened: History::new(),
@@ -194,15 +199,16 @@ impl Outside for MemOutside {
         }
     }
 
-    fn listen(&mut self, _port: u16) -> Result<(), MakeFault> {
+    fn listen(&mut self, port: u16) -> Result<(), MakeFault> {
+        self.listening = Some(port);
+        Ok(())
+    }
+
+    fn accept(&mut self) -> Result<Option<MemLink>, MakeFault> {
         self.listen_faults = self.listen_faults.saturating_add(1);
         Err(MakeFault {
             cause: Cause::Other,
         })
-    }
-
-    fn accept(&mut self) -> Result<Option<MemLink>, MakeFault> {
-        Ok(None)
     }
 
     fn folder(&mut self, _alloc: Global, path: &str) -> Result<MemDisk, MakeFault> {
