@@ -1,4 +1,4 @@
-//! Tests of `date_logs` over a disk in memory: a script of twenty updates and two rolls, with a stop after each call
+//! Tests of `date_logs` over a disk in memory: a script of twenty updates and two rolls, with a crash after each call
 //! of the disk and with each call failing once.
 //!
 //! `script` goes through the script and reads back what a restart finds, with the journals alone; `stops` takes the

@@ -36,7 +36,7 @@ fn push_dates(dates: &mut Vec<i32>, date: i32, rows: u32) -> Result<(), NoMemory
 }
 
 #[tactic(auto, using(crate::proofs::ColumnLemmas::numbers_pushed))]
-// Puts the numbers from 0 of so many rows at the end.
+// Appends the numbers from 0 to that of the last row.
 fn push_numbers(numbers: &mut Vec<i64>, rows: u32) -> Result<(), NoMemory>
     ensures { OnOk result (numbers.new.items ≡ numbers.old.items ++ map (λ i. pos i) (range_with_len 0 rows)) }
 {

@@ -37,7 +37,7 @@ pub fn new_plant(
 {
     let mut disk = MemDisk::new(alloc);
     date_logs::files_restart_once();
-    // A disk that has just been made is refused for want of memory alone.
+    // A disk that has just been made is refused only where memory runs out.
     let Ok(()) = Plant::<MemDisk>::format(alloc, &mut disk, &schema) else {
         return Err(NoMemory);
     };

@@ -1,6 +1,8 @@
 //! Loading a plant from its disk.
-ghost use Rattle.std.specs.Prelude.{◌≡◌, ◌<◌, ◌+◌, ◌^◌, ◌≤ℤ◌, ◌<ℤ◌, ◌∷◌, ◌++◌, [], negsuc, pos, length, IsTrue, None, IfOk, IfErr, OnOk, map, ℤ, false};
+ghost use Rattle.std.specs.Prelude.{◌≡◌, ◌≢◌, ◌<◌, ◌+◌, ◌^◌, ◌≤ℤ◌, ◌<ℤ◌, ◌∷◌, ◌++◌, [], negsuc, pos, length, IsTrue};
+ghost use Rattle.std.specs.Prelude.{None, ℕ, List, IfOk, IfErr, OnOk, map, ℤ, false};
 ghost use Rattle.std.specs.List.{AllByRecursion};
+ghost use Rattle.outside_api.specs.Disk.{IsImage};
 ghost use Rattle.q_values.specs.Limits.{AreLimits};
 ghost use Rattle.day_rows.specs.Chronicle.{date_of};
 ghost use Rattle.day_rows.specs.Day.{IsUpdate};
@@ -305,7 +307,7 @@ impl<D: Disk> Plant<D> {
     /// Makes the files of a plant with these tables and no date yet, on a disk that has no plant.
     ///
     /// The answer is `AlreadyMade` exactly where the manifest's file isn't empty, and then nothing was changed. A crash
-    /// within this call may leave any bytes in the files that it makes.
+    /// within this call may leave any bytes in the files that it makes. No other file is changed.
     pub fn format(alloc: Global, disk: &mut D, schema: &Schema) -> Result<(), FormatRefusal>
         ensures made { IsTrue (D.shown disk.old).tells → IsMadeFrom (length ((D.shown disk.old).now 0).bytes) result }
         ensures unchanged { IfMade result (IsTrue (D.shown disk.old).tells
@@ -314,6 +316,10 @@ impl<D: Disk> Plant<D> {
             → RestartsFrom schema.now first [] None (D.shown disk.new).now) }
         ensures manifest { OnOk result (IsTrue (D.shown disk.old).tells
             → Reads ((D.shown disk.new).now 0).bytes (payloads_of (map m.Shape schema.now))) }
+        ensures names { OnOk result (IsTrue (D.shown disk.old).tells → (image : List ℕ)
+            → IsImage ((D.shown disk.new).now 1) image → Reads image []) }
+        ensures others { IsTrue (D.shown disk.old).tells → (k : ℕ) → k ≢ 0 → k ≢ 1
+            → (D.shown disk.new).now k ≡ (D.shown disk.old).now k }
         ensures counts { FormatCounts (D.shown disk.old) (D.shown disk.new) result }
     {
         date_logs::format(alloc, disk, schema)
