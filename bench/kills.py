@@ -1,12 +1,16 @@
 #!/usr/bin/env python3
 """Kills the plant at random moments and compares what it finds at its next start with what it had acknowledged.
 
-    bench/kills.py [--rounds N] [--seed S] [--program PATH]
+    bench/kills.py [--serve] [--rounds N] [--seed S] [--program PATH]
 
 One folder is formatted. In each round `once --dir` is started on a pipe and fed one-row updates, numbered on from the last
 round, some of them before earlier ones are answered; at a random moment the process is killed by SIGKILL. At the next
 start every update that was acknowledged must be there, in order, none twice, and after them at most one more. The exit
 status is 1 at the first round that fails. A tenth of the rounds kills the process while it starts.
+
+With --serve a server is killed to which four clients feed, each its own symbol, while four others ask: of each symbol every
+update that was acknowledged must be found, in order, none twice, and after them at most one more; and each answer of one
+client has at least the rows of its answer before.
 
 Needs what `bin/plant` needs, and nothing else but Python 3. A killed process leaves to the system what it wrote, so this
 says nothing of a power cut; the proofs do.
@@ -23,6 +27,8 @@ import subprocess
 import sys
 import tempfile
 import time
+
+import kills_served
 
 ROOT = os.path.dirname(os.path.dirname(os.path.realpath(__file__)))
 HANDSHAKE, CAPABILITY = b"u:p\x03\x00", b"\x03"
@@ -148,34 +154,63 @@ def one_round(program, folder, chance, known):
     return found, done, len(found) - len(wanted)
 
 
+class Piped:
+    """Rounds over `once`: what is known of the folder, and what a round adds."""
+
+    def __init__(self, program, folder, chance):
+        self.program, self.folder, self.chance, self.known = program, folder, chance, []
+
+    def round(self):
+        """How many more updates were acknowledged, and how many were found that weren't."""
+        self.known, done, more = one_round(self.program, self.folder, self.chance, self.known)
+        return done, more
+
+    def close(self):
+        pass
+
+
+def plain_program(program):
+    """The program without the script that starts it, which a kill would leave running. It is started once, so that it is built."""
+    if os.path.basename(program) != "plant":
+        return program
+    subprocess.run([program, "--version"], stdout=subprocess.DEVNULL, check=True)
+    return os.path.join(ROOT, "crates", "plant_cli", "out", "plant_cli")
+
+
+def play(rounds, number_of_rounds, plant, seed):
+    """Plays the rounds; gives how many updates were acknowledged, and how many were found that weren't."""
+    done = more = 0
+    for number in range(number_of_rounds):
+        try:
+            acknowledged_now, late = rounds.round()
+        except AssertionError as failure:
+            kept = os.path.join(tempfile.gettempdir(), f"plant_kills_failed_{seed}")
+            shutil.copytree(plant, kept)
+            sys.exit(f"round {number + 1} of seed {seed} failed: {failure}; the folder is kept in {kept}")
+        done += acknowledged_now
+        more += late
+    return done, more
+
+
 def main():
     parser = argparse.ArgumentParser(description=__doc__, formatter_class=argparse.RawDescriptionHelpFormatter)
+    parser.add_argument("--serve", action="store_true", help="kills a server with eight clients")
     parser.add_argument("--rounds", type=int, default=20)
     parser.add_argument("--seed", type=int, default=None)
     parser.add_argument("--program", default=os.path.join(ROOT, "bin", "plant"))
     words = parser.parse_args()
     seed = random.randrange(2**32) if words.seed is None else words.seed
-    chance = random.Random(seed)
-    program = words.program
-    if os.path.basename(program) == "plant":
-        # It is started once, so that it is built, and then without the script, which a kill would leave running.
-        subprocess.run([program, "--version"], stdout=subprocess.DEVNULL, check=True)
-        program = os.path.join(ROOT, "crates", "plant_cli", "out", "plant_cli")
+    program = plain_program(words.program)
     folder = tempfile.mkdtemp(prefix="plant_kills_")
     plant = os.path.join(folder, "plant")
     try:
         subprocess.run([program, "init", "--dir", plant], check=True)
-        known, acks, late = [], 0, 0
-        for number in range(words.rounds):
-            try:
-                known, done, more = one_round(program, plant, chance, known)
-            except AssertionError as failure:
-                kept = os.path.join(tempfile.gettempdir(), f"plant_kills_failed_{seed}")
-                shutil.copytree(plant, kept)
-                sys.exit(f"round {number + 1} of seed {seed} failed: {failure}; the folder is kept in {kept}")
-            acks += done
-            late += more
-        print(f"{words.rounds} kills, {acks} updates acknowledged, all found; {late} more found that were not acknowledged (seed {seed})")
+        rounds = (kills_served.Served if words.serve else Piped)(program, plant, random.Random(seed))
+        try:
+            done, more = play(rounds, words.rounds, plant, seed)
+        finally:
+            rounds.close()
+        print(f"{words.rounds} kills, {done} updates acknowledged, all found; {more} more found that were not acknowledged (seed {seed})")
     finally:
         shutil.rmtree(folder, ignore_errors=True)
 

@@ -3,9 +3,10 @@
 and then queries over a day of a million rows, one after the other.
 
 Prints, for each, the messages per second, the seconds, the bytes in and out and the peak memory, and then the ratio; for the
-queries of a day, the messages per second, and by how many bytes a row the peak of the memory rose above the day's own: in
+updates also what their log costs: `plant_bench` makes the same updates without a session, with a log and in memory alone; for
+the queries of a day, the messages per second, and by how many bytes a row the peak of the memory rose above the day's own: in
 all, and for each of the columns that the query reads (at most 24 is wanted).
-Needs rustc, a C compiler (gcc, or the one that CC names) and what `bin/plant` needs, and nothing else but Python 3.
+Needs rustc, a C compiler (gcc, or the one that CC names), the kit's `rt` and what `bin/plant` needs, and nothing else but Python 3.
 """
 
 import argparse
@@ -20,6 +21,7 @@ HERE = os.path.dirname(os.path.realpath(__file__))
 sys.path.insert(0, os.path.join(os.path.dirname(HERE), "clients", "python"))
 
 from plant_client import Client, Vector, plain  # noqa: E402
+from programs import best_of, proved  # noqa: E402
 
 PLANT = [os.path.join(os.path.dirname(HERE), "bin", "plant"), "once", "--clock", "2024.01.02D09:30:00.000000000"]
 
@@ -167,6 +169,18 @@ def compare(folder, programs, what, front, one, reply, count, runs):
     for name, seconds, kib in rows:
         print(f"{name:14} {count / seconds:12,.0f} {seconds:9.3f} {sizes} {kib / 1024:9.1f}")
     print(f"{'ratio':14} {rows[1][1] / rows[0][1]:12.2f}")
+    return rows[0][1]
+
+
+def show_log(seconds, count, runs):
+    """What the log is of the seconds that this many updates take through the plant: its records are made in memory too."""
+    program, took = proved("plant_bench"), {}
+    for _ in range(runs):
+        best_of([program, str(count), "1"], took)
+    log = (took["1", "log"][0] - took["1", "memory"][0] + took["1", "records"][0]) / 1e9
+    rest = seconds - log
+    print(f"{'without a log':14} {count / rest:12,.0f} {rest:9.3f}")
+    print(f"{'ratio':14} {rest / seconds:12.2f}")
 
 
 SYMBOLS = [f"S{k}" for k in range(100)]
@@ -240,7 +254,8 @@ def main():
         # Builds the plant where it isn't built, so that no run includes that.
         subprocess.run(PLANT, stdin=subprocess.DEVNULL, stdout=subprocess.DEVNULL, check=True)
         done = message(RESPONSE, b"\x65\x00")
-        compare(folder, programs, "updates", HANDSHAKE, update(SYNC), done, options.updates, options.runs)
+        seconds = compare(folder, programs, "updates", HANDSHAKE, update(SYNC), done, options.updates, options.runs)
+        show_log(seconds, options.updates, options.runs)
         rows = HANDSHAKE + update(ASYNC) * ROWS
         query = text(b"select from trade")
         compare(folder, programs, "texts", rows, query, table(ROWS), options.texts, options.runs)

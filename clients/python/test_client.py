@@ -12,6 +12,7 @@ import subprocess
 import sys
 import tempfile
 import threading
+import time
 import unittest
 
 from plant_client import (
@@ -319,12 +320,22 @@ class Plant(unittest.TestCase):
         self.talk(BIG)
 
 
+def await_port(port):
+    """Waits until something listens on the port, for ten minutes at most."""
+    for _ in range(6000):
+        try:
+            return socket.create_connection(("127.0.0.1", port)).close()
+        except ConnectionRefusedError:
+            time.sleep(0.1)
+    raise TimeoutError(f"nothing listens on {port}")
+
+
 class Readme(unittest.TestCase):
     """The first look of README.md prints what stands there."""
 
-    def blocks(self, language):
+    def blocks(self, language, section="Over standard input and output"):
         with open(os.path.join(ROOT, "README.md")) as file:
-            look = file.read().split("## A first look")[1].split("\n## ")[0]
+            look = file.read().split("## A first look")[1].split("\n## ")[0].split(f"### {section}")[1].split("\n### ")[0]
         (found,) = re.findall(rf"```{language}\n(.*?)```\n.*?```\n(.*?)```", look, re.DOTALL)
         return [block.replace("bin/plant", PLANT) for block in found]
 
@@ -338,6 +349,22 @@ class Readme(unittest.TestCase):
         script, printed = self.blocks("sh")
         ran = subprocess.run(["sh", "-c", script], cwd=ROOT, capture_output=True, text=True, check=True)
         self.assertEqual(ran.stdout, printed)
+
+    def test_port(self):
+        script, printed = self.blocks("python", "On a port")
+        with socket.socket() as door:
+            door.bind(("127.0.0.1", 0))
+            port = door.getsockname()[1]
+        # Three sessions: the two of the script, and the first connection, which only waits for the server.
+        with subprocess.Popen([PLANT, "serve", "--port", str(port), "--sessions", "3"]) as server:
+            try:
+                await_port(port)
+                script = script.replace("5010", str(port))
+                ran = subprocess.run([sys.executable, "-c", script], cwd=ROOT, capture_output=True, text=True, check=True)
+                self.assertEqual(ran.stdout, printed)
+                self.assertEqual(server.wait(timeout=60), 0)
+            finally:
+                server.kill()
 
     def test_python(self):
         script, printed = self.blocks("python")

@@ -249,7 +249,7 @@ class Folders(unittest.TestCase):
         self.assertIn(b"once", output)
         self.assertTrue(output.endswith(b"\n") and not output.endswith(b"\n\n"), output[-20:])
         self.assertEqual(self.run_plant("--version")[0], 0)
-        for words in (["serve"], ["once", "--dir"], ["init"], ["once", "--clock", "2024.13.02D09:30"]):
+        for words in (["serve"], ["check"], ["once", "--dir"], ["init"], ["once", "--clock", "2024.13.02D09:30"]):
             status, output, lines = self.run_plant(*words)
             self.assertEqual((status, output, lines[0], len(lines)), (1, b"", "plant: usage", 2), words)
 

@@ -1,13 +1,15 @@
 //! Times logging updates in a plant and loading that plant, over a disk in memory. `bench/load.py` runs it, and sets its
 //! times beside those of loops in Rust that write and decode the same bytes.
 //!
-//! `plant_bench UPDATES ROWS` keeps an update of ROWS trades, UPDATES times, in memory alone, and then logs it as often in
-//! a new plant with the built-in schema. Then it closes the plant and loads it from its disk, three times. It prints one
-//! line for the updates in memory, with their number, one for those of the plant, with the bytes of their log, and one for
-//! each load, with the entries of the plant.
+//! `plant_bench UPDATES ROWS` makes the log's record of an update of ROWS trades, UPDATES times, keeps the update as often in
+//! memory alone, which makes its record too, and then logs it as often in a new plant with the built-in schema. Then it closes
+//! the plant and loads it from its disk, three times. It prints one line for the records, with their bytes, one for the
+//! updates in memory, with their number, one for those of the plant, with the bytes of their log, and one for each load, with
+//! the entries of the plant.
 //!
 //! ```text
 //! $ rt run -- 1000 1000
+//! ROWS records NANOSECONDS BYTES
 //! ROWS memory NANOSECONDS ENTRIES
 //! ROWS log NANOSECONDS BYTES
 //! ROWS load NANOSECONDS ENTRIES
@@ -15,9 +17,11 @@
 #![tactic(auto)]
 
 mod memory;
+mod records;
 mod request;
 
 use crate::memory::keep_timed;
+use crate::records::make_timed;
 use crate::request::trades;
 use anyhow::{Result, bail};
 use mem_plant::new_plant;
@@ -130,8 +134,9 @@ fn keep_and_log<R: Clock + Print + Wait>(
     log_timed(rt, alloc, &request, count, rows)
 }
 
-// Keeps the updates in memory, logs them, and loads their plant three times.
+// Makes the updates' records, keeps them in memory, logs them, and loads their plant three times.
 fn time_all<R: Clock + Print + Wait>(rt: &R, alloc: Global, count: u32, rows: u32) -> Result<()> {
+    make_timed(rt, alloc, count, rows)?;
     let mut disk = keep_and_log(rt, alloc, count, rows)?;
     for _ in 0..3 {
         disk = load_timed(rt, alloc, disk, rows)?;

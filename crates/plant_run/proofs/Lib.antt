@@ -1,2 +1,3 @@
 pub mod GoesLemmas
+pub mod PortLemmas
 pub mod TablesLemmas

@@ -1,6 +1,7 @@
 pub mod Causes
 pub mod Ends
 pub mod Once
+pub mod Port
 pub mod Init
 pub mod Program
 pub mod Tables

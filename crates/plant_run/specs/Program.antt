@@ -1,7 +1,7 @@
 -- What the program does with its arguments, over an outside.
 use Rattle.std.specs.Prelude.{◌≡◌, ◌⊎◌, ℕ, Bool, List, Option, codes}
 use Rattle.day_rows.specs.declared.schema.Shape.{Shape}
-use Rattle.plant_words.specs.Asked.{Asked, init, once, IsAsked}
+use Rattle.plant_words.specs.Asked.{Asked, init, once, serve, IsAsked}
 use Rattle.plant_words.specs.declared.command.Ticking.{Ticking}
 use Rattle.outside_api.specs.Counts.{counted}
 use Rattle.program_outside.specs.Outside.{OutsideView, said_of, warned_of}
@@ -10,6 +10,7 @@ use Rattle.q_values.specs.declared.limits.Limits.{Limits}
 use Rattle.plant_run.specs.Ends.{IsShort}
 use Rattle.plant_run.specs.Init.{FormatsIn}
 use Rattle.plant_run.specs.Once.{RunsWith}
+use Rattle.plant_run.specs.Port.{HostsWith}
 use Rattle.plant_run.specs.Tables.{HasTables, HasNoTables}
 
 -- the limits of a run, with or without batched publications
@@ -28,10 +29,17 @@ RunsOnce limits folder schema ticking old new status =
     HasNoTables schema old new status
     ⊎ ((tables : List Shape) × ((seen : OutsideView) × HasTables schema tables old seen × RunsWith limits tables ticking folder seen new status))
 
+-- so many sessions of a port are served within these limits, with the tables that are found first
+abbrev pub RunsServe : Limits → ℕ → ℕ → Option (List ℕ) → Option (List ℕ) → OutsideView → OutsideView → ℕ → Type 0
+RunsServe limits port count folder schema old new status =
+    HasNoTables schema old new status
+    ⊎ ((tables : List Shape) × ((seen : OutsideView) × HasTables schema tables old seen × HostsWith limits tables port count folder seen new status))
+
 -- what the program does where its arguments ask for this
 abbrev pub RunsFor : Asked → OutsideView → OutsideView → ℕ → Type 0
 RunsFor (init path schema) old new status = RunsInit path schema old new status
 RunsFor (once folder schema ticking batch) old new status = RunsOnce (limits_with batch) folder schema ticking old new status
+RunsFor (serve port sessions folder schema batch) old new status = RunsServe (limits_with batch) port sessions folder schema old new status
 
 -- standard output can't be written, which is counted, and ends the program as a fault of a link does
 abbrev pub CannotSay : OutsideView → OutsideView → ℕ → Type 0

@@ -84,7 +84,7 @@ pub fn cannot_start<O: Outside>(
 }
 
 /// The line that says why what has this name refused.
-fn cause_line(alloc: Global, name: &[u8], why: &StartRefusal) -> Result<Vec<u8>, NoMemory>
+pub fn cause_line(alloc: Global, name: &[u8], why: &StartRefusal) -> Result<Vec<u8>, NoMemory>
     ensures { IfOk result (λ line. (words : List ℕ) × Says why.now words × (line.items ≡ cause_line name.now words)) }
 {
     let mut line = Vec::from_slice(alloc, b"plant: ")?;

@@ -1,11 +1,12 @@
 //! What the program does with its arguments, over an outside.
 //!
 //! [`run`] does all of it, and is generic over the [`Outside`](program_outside::Outside) that makes its devices: `main`
-//! gives it the machine's, and the tests one in memory. It has two commands.
+//! gives it the machine's, and the tests one in memory. It has three commands.
 //!
 //! ```text
 //! init --dir D [--schema F]                                        formats the folder D, which it makes where it is missing
 //! once [--dir D] [--schema F] [--clock T] [--step N] [--batch]     one session over standard input and output
+//! serve --port P --sessions N [--dir D] [--schema F] [--batch]     N sessions of the connections to a port
 //! ```
 //!
 //! A session has the plant of the folder D, whose rows are there at the next start; without `--dir` it has a new plant in
@@ -13,7 +14,7 @@
 //!
 //! ```text
 //! exit status                                                       first line on standard error
-//! 0   a session ended between messages; a folder was formatted
+//! 0   a session ended between messages; all sessions of a port ended; a folder was formatted
 //! 1   the arguments ask for nothing that the program does           plant: usage
 //! 2   the input ended within a message                              plant: input ends within a message
 //! 3   the input had bytes that are no message                       plant: bad message CODE at OFFSET
@@ -21,11 +22,12 @@
 //! 5   too many reads timed out                                      plant: idle
 //! 6   a device, the schema, the folder or its files refused         plant: cannot start
 //! 7   out of memory                                                 plant: wsfull
+//! 9   listening on the port, or accepting a connection, failed      plant: cannot listen
 //! ```
 //!
-//! After the line of 1 and of 6 a second one says the cause: which file or folder, and where.
+//! After the line of 1, 6 and 9 a second one says the cause: which file, folder or port, and where.
 //!
-//! It opens no file and prints nothing itself (the outside does), and serves no second session.
+//! It opens no file and no port and prints nothing itself (the outside does).
 #![tactic(auto)]
 
 mod causes;
@@ -33,6 +35,7 @@ mod course;
 mod ends;
 mod init;
 mod once;
+mod port;
 mod program;
 mod serving;
 mod tables;

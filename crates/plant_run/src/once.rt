@@ -126,7 +126,7 @@ fn give_clock_back<O: Outside>(clock: Option<O::Clock>, outside: &mut O)
 
 /// Prints the lines of a load that was refused, and gives the exit status. A disk in memory refuses only
 /// where it is out of memory.
-fn not_loaded<O: Outside>(
+pub fn not_loaded<O: Outside>(
     alloc: Global,
     folder: Option<&str>,
     why: LoadRefusal,

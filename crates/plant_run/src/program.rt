@@ -3,28 +3,42 @@ ghost use Rattle.std.specs.Prelude.{◌≡◌, codes, map, string_bytes};
 ghost use Rattle.std.specs.Option.{option_map};
 ghost use Rattle.program_outside.specs.Outside.{warned_of};
 ghost use Rattle.q_values.specs.Limits.{AreLimits};
-ghost use Rattle.plant_run.specs.Program.{Runs, RunsInit, RunsOnce, Shows, limits_with};
+ghost use Rattle.plant_run.specs.Program.{Runs, RunsInit, RunsOnce, RunsServe, Shows, limits_with};
 
 use crate::ends::{short, warned};
 use crate::init::format_folder;
 use crate::once::serve_once;
+use crate::port::{Door, serve_door};
 use crate::tables::find_tables;
-use plant_words::{Command, Init, Once, WordsRefusal, read_words};
+use plant_words::{Command, Init, Once, Serve, WordsRefusal, read_words};
 use program_outside::Outside;
 use q_values::Limits;
 use std::alloc::Global;
 use std::sync::Wait;
+use std::thread::Threads;
 
 /// Does all that the program does, and gives its exit status. The arguments are those after the program's own name.
 ///
 /// First the arguments are judged, then the schema's file, then the folder. With each status but 0 a line is printed on
-/// standard error; where there is a cause to tell, with status 1 and 6, a second one says it.
-pub fn run<O: Outside, R: Wait>(rt: &R, alloc: Global, arguments: &[String], outside: &mut O) -> u8
+/// standard error; where there is a cause to tell, with status 1, 6 and 9, a second one says it.
+pub fn run<O: Outside, R: Threads + Wait + Sync>(
+    rt: &R,
+    alloc: Global,
+    arguments: &[String],
+    outside: &mut O,
+) -> u8
     ensures { Runs (map string_bytes arguments.now) (O.seen outside.old) (O.seen outside.new) result }
 {
     match read_words(alloc, arguments) {
         Ok(Command::Init(words)) => run_init(alloc, &words, outside),
         Ok(Command::Once(words)) => run_once(rt, alloc, &words, &limits_with(words.batch), outside),
+        Ok(Command::Serve(words)) => run_serve(
+            rt,
+            alloc,
+            &words,
+            &limits_with(words.batch),
+            outside,
+        ),
         Err(WordsRefusal::Shown(text)) => show(text.as_str(), outside),
         Err(WordsRefusal::Usage(line)) => {
             warn_of_usage(line.as_bytes(), outside);
@@ -95,6 +109,28 @@ pub fn run_once<O: Outside, R: Wait>(
             limits,
             outside,
         ),
+        Err(status) => status,
+    }
+}
+
+/// Serves the sessions of a port within these limits.
+fn run_serve<O: Outside, R: Threads + Wait + Sync>(
+    rt: &R,
+    alloc: Global,
+    words: &Serve<'_>,
+    limits: &Limits,
+    outside: &mut O,
+) -> u8
+    requires { AreLimits limits.now }
+    ensures { RunsServe limits.now words.now.port words.now.sessions (option_map (λ s. s.now) words.now.folder)
+        (option_map (λ s. s.now) words.now.schema) (O.seen outside.old) (O.seen outside.new) result }
+{
+    let door = Door {
+        port: words.port,
+        sessions: words.sessions,
+    };
+    match find_tables(alloc, words.schema, outside) {
+        Ok(schema) => serve_door(rt, alloc, door, words.folder, schema, limits, outside),
         Err(status) => status,
     }
 }

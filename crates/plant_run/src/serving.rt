@@ -21,7 +21,7 @@ use std::sync::Wait;
 use ticking_clock::{TickingClock, Ticks};
 
 /// The date of a moment, in days since 2000.01.01.
-fn open_date(moment: i64) -> i32
+pub fn open_date(moment: i64) -> i32
     ensures date { result ≡ moment_date moment }
     ensures first { negsuc 106751 ≤ℤ result }
     ensures last { result ≤ℤ pos 106751 }

@@ -1,7 +1,7 @@
 -- What words ask for, part by part.
 use Rattle.std.proofs.Common.{◌≡◌, ◌↔◌, ℕ, Bool, true, false, List, [], ◌∷◌, Option, Some, None, Err, codes, refl, sym, ap, ◌∙◌, subst, arith}
 use Rattle.std.specs.Str.{bytes_eq}
-use Rattle.plant_words.specs.Asked.{Text, Given, AreOptions, Asked, init, once, command_name, Asks, IsAsked, IsClock, shown}
+use Rattle.plant_words.specs.Asked.{Text, Given, AreOptions, Asked, init, once, serve, command_name, Asks, AsksServe, IsAsked, IsClock, shown}
 use Rattle.plant_words.specs.Reading.{IsReadBy}
 use Rattle.plant_words.specs.declared.command.Command.{Command}
 use Rattle.plant_words.specs.declared.command.Ticking.{Ticking}
@@ -16,8 +16,32 @@ same_refusal f a g b Faulty h = h
 pub once-refused : (given : Given) (asked : Asked) (e : Unread) → ((t : Option Ticking) → IsClock given.clock given.step t → IsReadBy (λ r. r) t (Err e))
     → command_name asked ≡ codes "once" → Asks given asked → IsReadBy shown asked (Err e)
 once-refused given (init folder schema) e refused name asks = let bad : true ≡ false = ap (λ t. bytes_eq t (codes "init")) name in absurd (cc)
+once-refused given (serve port sessions folder schema is_batch) e refused name asks =
+    let bad : true ≡ false = ap (λ t. bytes_eq t (codes "serve")) name in absurd (cc)
 once-refused given (once folder schema ticking is_batch) e refused name asks =
-    same_refusal (λ r. r) ticking shown (once folder schema ticking is_batch) e (refused ticking asks.2)
+    same_refusal (λ r. r) ticking shown (once folder schema ticking is_batch) e (refused ticking asks.clock_is)
+
+-- what `once` and `serve` have none of
+pub once-asks : (given : Given) (asked : Asked) → command_name asked ≡ codes "once" → Asks given asked → (given.port ≡ None) × (given.sessions ≡ None)
+once-asks given (init folder schema) name asks = let bad : true ≡ false = ap (λ t. bytes_eq t (codes "init")) name in absurd (cc)
+once-asks given (serve port sessions folder schema is_batch) name asks = let bad : true ≡ false = ap (λ t. bytes_eq t (codes "serve")) name in absurd (cc)
+once-asks given (once folder schema ticking is_batch) name asks = (asks.no_port, asks.no_sessions)
+
+-- `serve` with these options, whatever else they are
+pub record IsServe (given : Given) (asked : Asked) : Type 0 where
+  pub port : ℕ
+  pub sessions : ℕ
+  pub folder : Option Text
+  pub schema : Option Text
+  pub is_batch : Bool
+  pub is : asked ≡ serve port sessions folder schema is_batch
+  pub asks : AsksServe given port sessions folder schema is_batch
+
+pub serve-asks : (given : Given) (asked : Asked) → command_name asked ≡ codes "serve" → Asks given asked → IsServe given asked
+serve-asks given (init folder schema) name asks = let bad : true ≡ false = ap (λ t. bytes_eq t (codes "init")) name in absurd (cc)
+serve-asks given (once folder schema ticking is_batch) name asks = let bad : true ≡ false = ap (λ t. bytes_eq t (codes "once")) name in absurd (cc)
+serve-asks given (serve port sessions folder schema is_batch) name asks =
+    record { port = port; sessions = sessions; folder = folder; schema = schema; is_batch = is_batch; is = refl; asks = asks }
 
 -- what words ask for, where the options after the name are these or none
 pub record HasParts (name : Text) (o : Option Given) (asked : Asked) : Type 0 where
@@ -35,3 +59,9 @@ asked-parts name rest o asked options is =
 pub parts-asked : (name : Text) (rest : List Text) (given : Given) (asked : Asked) → AreOptions rest given → command_name asked ≡ name → Asks given asked → IsAsked (name ∷ rest) asked
 parts-asked name rest given asked are named asks =
     record { given = given; options = rest; written = ap (λ n. n ∷ rest) (sym named); are = are; asks = asks }
+
+-- `serve` with these numbers is what the options ask for
+pub same-serve : (given : Given) (asked : Asked) (is : IsServe given asked) (port sessions : ℕ) → port ≡ is.port → sessions ≡ is.sessions
+    → serve port sessions given.dir given.schema given.batch ≡ asked
+same-serve given asked is port sessions same_port same_sessions =
+    (λ i. serve (same_port i) (same_sessions i) (is.asks.folder_is i) (is.asks.schema_is i) (is.asks.batch_is i)) ∙ sym is.is

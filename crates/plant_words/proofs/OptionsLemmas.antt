@@ -4,10 +4,11 @@ use Rattle.std.specs.List.{AllByRecursion}
 use Rattle.std.specs.Option.{option_to_list}
 use Rattle.std.specs.Str.{bytes_eq}
 use Rattle.std.specs.Cmp.Lexicographic.{same_text}
-use Rattle.plant_words.specs.Asked.{Text, Setting, set_dir, set_schema, set_clock, set_step, set_batch, words_of_setting, words_of, begins_with_hyphen, HasPlainValue, Given, dir_of, schema_of, clock_of, step_of, batch_of, flags, Gives, AreOptions}
+use Rattle.plant_words.specs.Asked.{set_dir, set_schema, set_clock, set_step, set_port, set_sessions, set_batch}
+use Rattle.plant_words.specs.Asked.{Text, Setting, words_of_setting, words_of, begins_with_hyphen, HasPlainValue, Given, dir_of, schema_of, clock_of, step_of, port_of, sessions_of, batch_of, flags, Gives, AreOptions}
 use Rattle.plant_words.specs.Reading.{State, nothing_given, valued_named, value_in, with_value, waiting_for, named, taken_by, taken, ended, read_from}
 use Rattle.plant_words.specs.declared.options.Valued.{Valued}
-use Rattle.plant_words.specs.declared.options.Valued.TheVariants.{Dir, Schema, Clock, Step}
+use Rattle.plant_words.specs.declared.options.Valued.TheVariants.{Dir, Schema, Clock, Step, Port, Sessions}
 
 -- the settings give what is missing of the options
 record Completes (from : Given) (settings : List Setting) (to : Given) : Type 0 where
@@ -15,6 +16,8 @@ record Completes (from : Given) (settings : List Setting) (to : Given) : Type 0 
   schemas : option_to_list from.schema ++ filter_map schema_of settings ≡ option_to_list to.schema
   clocks : option_to_list from.clock ++ filter_map clock_of settings ≡ option_to_list to.clock
   steps : option_to_list from.step ++ filter_map step_of settings ≡ option_to_list to.step
+  ports : option_to_list from.port ++ filter_map port_of settings ≡ option_to_list to.port
+  counts : option_to_list from.sessions ++ filter_map sessions_of settings ≡ option_to_list to.sessions
   batches : flags from.batch ++ filter_map batch_of settings ≡ flags to.batch
 
 -- ---- lists of at most one
@@ -49,8 +52,10 @@ same_given a b whole =
     let schemas = same_option a.schema b.schema whole.schemas in
     let clocks = same_option a.clock b.clock whole.clocks in
     let steps = same_option a.step b.step whole.steps in
+    let ports = same_option a.port b.port whole.ports in
+    let counts = same_option a.sessions b.sessions whole.counts in
     let batches = same_flag a.batch b.batch whole.batches in
-    λ i. record { dir = dirs i; schema = schemas i; clock = clocks i; step = steps i; batch = batches i }
+    λ i. record { dir = dirs i; schema = schemas i; clock = clocks i; step = steps i; port = ports i; sessions = counts i; batch = batches i }
 
 -- a name and a value, of an option that has none yet
 read-valued : (from : Given) (name : Valued) (word value : Text) (rest : List Text) → named from word ≡ Some (record { given = from; waiting = Some name }) → begins_with_hyphen value ≡ false
@@ -65,22 +70,86 @@ read-settings [] from to plain whole = ap Some (same_given from to whole)
 read-settings (set_dir value ∷ rest) from to plain whole =
     let none : from.dir ≡ None = no_option from.dir to.dir value (filter_map dir_of rest) whole.dirs in
     read-valued from Dir (codes "--dir") value (words_of rest) (rw none refl) plain.0
-    ∙ read-settings rest (with_value from Dir value) to plain.1 (record { dirs = rw none at whole.dirs; schemas = whole.schemas; clocks = whole.clocks; steps = whole.steps; batches = whole.batches })
+    ∙ read-settings rest (with_value from Dir value) to plain.1 (record {
+      dirs = rw none at whole.dirs;
+      schemas = whole.schemas;
+      clocks = whole.clocks;
+      steps = whole.steps;
+      ports = whole.ports;
+      counts = whole.counts;
+      batches = whole.batches;
+    })
 read-settings (set_schema value ∷ rest) from to plain whole =
     let none : from.schema ≡ None = no_option from.schema to.schema value (filter_map schema_of rest) whole.schemas in
     read-valued from Schema (codes "--schema") value (words_of rest) (rw none refl) plain.0
-    ∙ read-settings rest (with_value from Schema value) to plain.1 (record { dirs = whole.dirs; schemas = rw none at whole.schemas; clocks = whole.clocks; steps = whole.steps; batches = whole.batches })
+    ∙ read-settings rest (with_value from Schema value) to plain.1 (record {
+      dirs = whole.dirs;
+      schemas = rw none at whole.schemas;
+      clocks = whole.clocks;
+      steps = whole.steps;
+      ports = whole.ports;
+      counts = whole.counts;
+      batches = whole.batches;
+    })
 read-settings (set_clock value ∷ rest) from to plain whole =
     let none : from.clock ≡ None = no_option from.clock to.clock value (filter_map clock_of rest) whole.clocks in
     read-valued from Clock (codes "--clock") value (words_of rest) (rw none refl) plain.0
-    ∙ read-settings rest (with_value from Clock value) to plain.1 (record { dirs = whole.dirs; schemas = whole.schemas; clocks = rw none at whole.clocks; steps = whole.steps; batches = whole.batches })
+    ∙ read-settings rest (with_value from Clock value) to plain.1 (record {
+      dirs = whole.dirs;
+      schemas = whole.schemas;
+      clocks = rw none at whole.clocks;
+      steps = whole.steps;
+      ports = whole.ports;
+      counts = whole.counts;
+      batches = whole.batches;
+    })
 read-settings (set_step value ∷ rest) from to plain whole =
     let none : from.step ≡ None = no_option from.step to.step value (filter_map step_of rest) whole.steps in
     read-valued from Step (codes "--step") value (words_of rest) (rw none refl) plain.0
-    ∙ read-settings rest (with_value from Step value) to plain.1 (record { dirs = whole.dirs; schemas = whole.schemas; clocks = whole.clocks; steps = rw none at whole.steps; batches = whole.batches })
+    ∙ read-settings rest (with_value from Step value) to plain.1 (record {
+      dirs = whole.dirs;
+      schemas = whole.schemas;
+      clocks = whole.clocks;
+      steps = rw none at whole.steps;
+      ports = whole.ports;
+      counts = whole.counts;
+      batches = whole.batches;
+    })
+read-settings (set_port value ∷ rest) from to plain whole =
+    let none : from.port ≡ None = no_option from.port to.port value (filter_map port_of rest) whole.ports in
+    read-valued from Port (codes "--port") value (words_of rest) (rw none refl) plain.0
+    ∙ read-settings rest (with_value from Port value) to plain.1 (record {
+      dirs = whole.dirs;
+      schemas = whole.schemas;
+      clocks = whole.clocks;
+      steps = whole.steps;
+      ports = rw none at whole.ports;
+      counts = whole.counts;
+      batches = whole.batches;
+    })
+read-settings (set_sessions value ∷ rest) from to plain whole =
+    let none : from.sessions ≡ None = no_option from.sessions to.sessions value (filter_map sessions_of rest) whole.counts in
+    read-valued from Sessions (codes "--sessions") value (words_of rest) (rw none refl) plain.0
+    ∙ read-settings rest (with_value from Sessions value) to plain.1 (record {
+      dirs = whole.dirs;
+      schemas = whole.schemas;
+      clocks = whole.clocks;
+      steps = whole.steps;
+      ports = whole.ports;
+      counts = rw none at whole.counts;
+      batches = whole.batches;
+    })
 read-settings (set_batch ∷ rest) from to plain whole =
     let none : from.batch ≡ false = no_flag from.batch to.batch (filter_map batch_of rest) whole.batches in
-    rw none (read-settings rest (record from { batch = true }) to plain.1 (record { dirs = whole.dirs; schemas = whole.schemas; clocks = whole.clocks; steps = whole.steps; batches = rw none at whole.batches }))
+    rw none (read-settings rest (record from { batch = true }) to plain.1 (record {
+      dirs = whole.dirs;
+      schemas = whole.schemas;
+      clocks = whole.clocks;
+      steps = whole.steps;
+      ports = whole.ports;
+      counts = whole.counts;
+      batches = rw none at whole.batches;
+    }))
 
 -- ---- what is read was settings
 
@@ -89,33 +158,106 @@ setting_of Dir value = set_dir value
 setting_of Schema value = set_schema value
 setting_of Clock value = set_clock value
 setting_of Step value = set_step value
+setting_of Port value = set_port value
+setting_of Sessions value = set_sessions value
 
 abbrev text_of : Valued → Text
 text_of Dir = codes "--dir"
 text_of Schema = codes "--schema"
 text_of Clock = codes "--clock"
 text_of Step = codes "--step"
+text_of Port = codes "--port"
+text_of Sessions = codes "--sessions"
 
 written_as : (name : Valued) (value : Text) → words_of_setting (setting_of name value) ≡ text_of name ∷ value ∷ []
 written_as Dir value = refl
 written_as Schema value = refl
 written_as Clock value = refl
 written_as Step value = refl
+written_as Port value = refl
+written_as Sessions value = refl
 
 plain_value : (name : Valued) (value : Text) → begins_with_hyphen value ≡ false → HasPlainValue (setting_of name value)
 plain_value Dir value plain = plain
 plain_value Schema value plain = plain
 plain_value Clock value plain = plain
 plain_value Step value plain = plain
+plain_value Port value plain = plain
+plain_value Sessions value plain = plain
 
 completes-valued : (name : Valued) (value : Text) (from to : Given) (rest : List Setting) → value_in from name ≡ None → Completes (with_value from name value) rest to → Completes from (setting_of name value ∷ rest) to
-completes-valued Dir value from to rest none whole = record { dirs = rw none whole.dirs; schemas = whole.schemas; clocks = whole.clocks; steps = whole.steps; batches = whole.batches }
-completes-valued Schema value from to rest none whole = record { dirs = whole.dirs; schemas = rw none whole.schemas; clocks = whole.clocks; steps = whole.steps; batches = whole.batches }
-completes-valued Clock value from to rest none whole = record { dirs = whole.dirs; schemas = whole.schemas; clocks = rw none whole.clocks; steps = whole.steps; batches = whole.batches }
-completes-valued Step value from to rest none whole = record { dirs = whole.dirs; schemas = whole.schemas; clocks = whole.clocks; steps = rw none whole.steps; batches = whole.batches }
+completes-valued Dir value from to rest none whole =
+    record {
+      dirs = rw none whole.dirs;
+      schemas = whole.schemas;
+      clocks = whole.clocks;
+      steps = whole.steps;
+      ports = whole.ports;
+      counts = whole.counts;
+      batches = whole.batches;
+    }
+completes-valued Schema value from to rest none whole =
+    record {
+      dirs = whole.dirs;
+      schemas = rw none whole.schemas;
+      clocks = whole.clocks;
+      steps = whole.steps;
+      ports = whole.ports;
+      counts = whole.counts;
+      batches = whole.batches;
+    }
+completes-valued Clock value from to rest none whole =
+    record {
+      dirs = whole.dirs;
+      schemas = whole.schemas;
+      clocks = rw none whole.clocks;
+      steps = whole.steps;
+      ports = whole.ports;
+      counts = whole.counts;
+      batches = whole.batches;
+    }
+completes-valued Step value from to rest none whole =
+    record {
+      dirs = whole.dirs;
+      schemas = whole.schemas;
+      clocks = whole.clocks;
+      steps = rw none whole.steps;
+      ports = whole.ports;
+      counts = whole.counts;
+      batches = whole.batches;
+    }
+completes-valued Port value from to rest none whole =
+    record {
+      dirs = whole.dirs;
+      schemas = whole.schemas;
+      clocks = whole.clocks;
+      steps = whole.steps;
+      ports = rw none whole.ports;
+      counts = whole.counts;
+      batches = whole.batches;
+    }
+completes-valued Sessions value from to rest none whole =
+    record {
+      dirs = whole.dirs;
+      schemas = whole.schemas;
+      clocks = whole.clocks;
+      steps = whole.steps;
+      ports = whole.ports;
+      counts = rw none whole.counts;
+      batches = whole.batches;
+    }
 
 completes-nothing : (given : Given) → Completes given [] given
-completes-nothing given = record { dirs = append-nil (option_to_list given.dir); schemas = append-nil (option_to_list given.schema); clocks = append-nil (option_to_list given.clock); steps = append-nil (option_to_list given.step); batches = append-nil (flags given.batch) }
+completes-nothing given =
+    record {
+      dirs = append-nil (option_to_list given.dir);
+      schemas = append-nil (option_to_list given.schema);
+      clocks = append-nil (option_to_list given.clock);
+      steps = append-nil (option_to_list given.step);
+      ports = append-nil (option_to_list given.port);
+      counts = append-nil (option_to_list given.sessions);
+      batches = append-nil (flags given.batch);
+    }
 
 -- what words give that were read from here on, where an option may wait for its value
 record Names (from : Given) (words : List Text) (to : Given) : Type 0 where
@@ -154,16 +296,27 @@ absent (Some x) e = absurd (cc)
 read-none : (words : List Text) (to : Given) → read_from None words ≡ Some to → ⊥
 read-none words to e = cc
 
-named_by : (word : Text) (name : Valued) (b1 b2 b3 b4 : Bool) → bytes_eq word (codes "--dir") ≡ b1 → bytes_eq word (codes "--schema") ≡ b2 → bytes_eq word (codes "--clock") ≡ b3 → bytes_eq word (codes "--step") ≡ b4
-    → (if b1 then Some Dir else if b2 then Some Schema else if b3 then Some Clock else if b4 then Some Step else None) ≡ Some name → word ≡ text_of name
-named_by word name true b2 b3 b4 e1 e2 e3 e4 h = let is : Dir ≡ name = cc in subst (λ n. word ≡ text_of n) is (same_text word (codes "--dir") (sym e1))
-named_by word name false true b3 b4 e1 e2 e3 e4 h = let is : Schema ≡ name = cc in subst (λ n. word ≡ text_of n) is (same_text word (codes "--schema") (sym e2))
-named_by word name false false true b4 e1 e2 e3 e4 h = let is : Clock ≡ name = cc in subst (λ n. word ≡ text_of n) is (same_text word (codes "--clock") (sym e3))
-named_by word name false false false true e1 e2 e3 e4 h = let is : Step ≡ name = cc in subst (λ n. word ≡ text_of n) is (same_text word (codes "--step") (sym e4))
-named_by word name false false false false e1 e2 e3 e4 h = absurd (cc)
+named_by : (word : Text) (name : Valued) (b1 b2 b3 b4 b5 b6 : Bool)
+    → bytes_eq word (codes "--dir") ≡ b1 → bytes_eq word (codes "--schema") ≡ b2 → bytes_eq word (codes "--clock") ≡ b3
+    → bytes_eq word (codes "--step") ≡ b4 → bytes_eq word (codes "--port") ≡ b5 → bytes_eq word (codes "--sessions") ≡ b6
+    → (if b1 then Some Dir else if b2 then Some Schema else if b3 then Some Clock
+    else if b4 then Some Step else if b5 then Some Port else if b6 then Some Sessions else None) ≡ Some name → word ≡ text_of name
+named_by word name true b2 b3 b4 b5 b6 e1 e2 e3 e4 e5 e6 h =
+    let is : Dir ≡ name = cc in subst (λ n. word ≡ text_of n) is (same_text word (codes "--dir") (sym e1))
+named_by word name false true b3 b4 b5 b6 e1 e2 e3 e4 e5 e6 h =
+    let is : Schema ≡ name = cc in subst (λ n. word ≡ text_of n) is (same_text word (codes "--schema") (sym e2))
+named_by word name false false true b4 b5 b6 e1 e2 e3 e4 e5 e6 h =
+    let is : Clock ≡ name = cc in subst (λ n. word ≡ text_of n) is (same_text word (codes "--clock") (sym e3))
+named_by word name false false false true b5 b6 e1 e2 e3 e4 e5 e6 h =
+    let is : Step ≡ name = cc in subst (λ n. word ≡ text_of n) is (same_text word (codes "--step") (sym e4))
+named_by word name false false false false true b6 e1 e2 e3 e4 e5 e6 h =
+    let is : Port ≡ name = cc in subst (λ n. word ≡ text_of n) is (same_text word (codes "--port") (sym e5))
+named_by word name false false false false false true e1 e2 e3 e4 e5 e6 h =
+    let is : Sessions ≡ name = cc in subst (λ n. word ≡ text_of n) is (same_text word (codes "--sessions") (sym e6))
+named_by word name false false false false false false e1 e2 e3 e4 e5 e6 h = absurd (cc)
 
 text-named : (word : Text) (name : Valued) → valued_named word ≡ Some name → word ≡ text_of name
-text-named word name e = named_by word name _ _ _ _ refl refl refl refl e
+text-named word name e = named_by word name _ _ _ _ _ _ refl refl refl refl refl refl e
 
 flag_by : (from : Given) (word : Text) (state : State) (f : Bool) → bytes_eq word (codes "--batch") ≡ true → from.batch ≡ f
     → (if f then None else Some (record { given = record from { batch = true }; waiting = None })) ≡ Some state → IsFlag from word state
@@ -195,7 +348,15 @@ after_name word words from to ih (Some state) is e =
             settings = set_batch ∷ rest.settings;
             written = ap₂ (λ x xs. x ∷ xs) flag.written rest.written;
             plain = (tt, rest.plain);
-            whole = record { dirs = rest.whole.dirs; schemas = rest.whole.schemas; clocks = rest.whole.clocks; steps = rest.whole.steps; batches = rw flag.none rest.whole.batches };
+            whole = record {
+              dirs = rest.whole.dirs;
+              schemas = rest.whole.schemas;
+              clocks = rest.whole.clocks;
+              steps = rest.whole.steps;
+              ports = rest.whole.ports;
+              counts = rest.whole.counts;
+              batches = rw flag.none rest.whole.batches;
+            };
           }
       | inr known ↦
           let found = ih from (Some known.name) to (ap (λ s. read_from (Some s) words) (sym known.is) ∙ e) known.none in
@@ -224,10 +385,28 @@ reads (word ∷ words) from (Some name) to e = λ none. after_value name word wo
 -- ---- the two directions
 
 gives-completes : (settings : List Setting) (to : Given) → Gives settings to → Completes nothing_given settings to
-gives-completes settings to gives = record { dirs = gives.dir; schemas = gives.schema; clocks = gives.clock; steps = gives.step; batches = gives.batch }
+gives-completes settings to gives =
+    record {
+      dirs = gives.dir;
+      schemas = gives.schema;
+      clocks = gives.clock;
+      steps = gives.step;
+      ports = gives.port;
+      counts = gives.sessions;
+      batches = gives.batch;
+    }
 
 completes-gives : (settings : List Setting) (to : Given) → Completes nothing_given settings to → Gives settings to
-completes-gives settings to whole = record { dir = whole.dirs; schema = whole.schemas; clock = whole.clocks; step = whole.steps; batch = whole.batches }
+completes-gives settings to whole =
+    record {
+      dir = whole.dirs;
+      schema = whole.schemas;
+      clock = whole.clocks;
+      step = whole.steps;
+      port = whole.ports;
+      sessions = whole.counts;
+      batch = whole.batches;
+    }
 
 pub read-options : (words : List Text) (given : Given) → AreOptions words given → read_from (Some (record { given = nothing_given; waiting = None })) words ≡ Some given
 read-options words given are =

@@ -7,7 +7,7 @@ use Rattle.plant_words.specs.declared.options.Reading.{Reading}
 use Rattle.plant_words.specs.declared.command.Unread.{Unread}
 use Rattle.plant_words.specs.declared.command.Unread.TheVariants.{Faulty, NoMemory}
 use Rattle.plant_words.specs.declared.options.Valued.{Valued}
-use Rattle.plant_words.specs.declared.options.Valued.TheVariants.{Dir, Schema, Clock, Step}
+use Rattle.plant_words.specs.declared.options.Valued.TheVariants.{Dir, Schema, Clock, Step, Port, Sessions}
 
 -- what was read so far: the options, and the option that waits for its value
 pub record State : Type 0 where
@@ -16,7 +16,7 @@ pub record State : Type 0 where
 
 -- no option
 abbrev pub nothing_given : Given
-nothing_given = record { dir = None; schema = None; clock = None; step = None; batch = false }
+nothing_given = record { dir = None; schema = None; clock = None; step = None; port = None; sessions = None; batch = false }
 
 -- the option of a name
 abbrev pub valued_named : Text → Option Valued
@@ -25,6 +25,8 @@ valued_named word =
     else if bytes_eq word (codes "--schema") then Some Schema
     else if bytes_eq word (codes "--clock") then Some Clock
     else if bytes_eq word (codes "--step") then Some Step
+    else if bytes_eq word (codes "--port") then Some Port
+    else if bytes_eq word (codes "--sessions") then Some Sessions
     else None
 
 -- the value of an option
@@ -33,6 +35,8 @@ value_in given Dir = given.dir
 value_in given Schema = given.schema
 value_in given Clock = given.clock
 value_in given Step = given.step
+value_in given Port = given.port
+value_in given Sessions = given.sessions
 
 -- the options with one more value
 abbrev pub with_value : Given → Valued → Text → Given
@@ -40,6 +44,8 @@ with_value given Dir value = record given { dir = Some value }
 with_value given Schema value = record given { schema = Some value }
 with_value given Clock value = record given { clock = Some value }
 with_value given Step value = record given { step = Some value }
+with_value given Port value = record given { port = Some value }
+with_value given Sessions value = record given { sessions = Some value }
 
 -- an option waits for its value, unless it has one
 abbrev pub waiting_for : Given → Option Valued → Option State
@@ -80,6 +86,8 @@ given_of options = record {
   schema = option_map (λ s. s.now) options.schema;
   clock = option_map (λ s. s.now) options.clock;
   step = option_map (λ s. s.now) options.step;
+  port = option_map (λ s. s.now) options.port;
+  sessions = option_map (λ s. s.now) options.sessions;
   batch = options.batch;
 }
 

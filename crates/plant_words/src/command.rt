@@ -7,6 +7,8 @@ pub enum Command<'a> {
     Init(Init<'a>),
     /// Serves one session over standard input and output.
     Once(Once<'a>),
+    /// Serves a number of sessions over a port.
+    Serve(Serve<'a>),
 }
 
 /// `init`: formats a folder.
@@ -27,6 +29,21 @@ pub struct Once<'a> {
     pub schema: Option<&'a str>,
     /// The clock; without it the session has the machine's.
     pub clock: Option<Ticking>,
+    /// Whether publications are joined: one message a table for up to 16 updates, in place of one for each.
+    pub batch: bool,
+}
+
+/// `serve`: serves a number of sessions over a port.
+#[derive(Debug, Drop)]
+pub struct Serve<'a> {
+    /// The port, 1 to 65,535.
+    pub port: u16,
+    /// How many sessions are served, 1 to 1,000,000.
+    pub sessions: u32,
+    /// The folder; without it the plant is in memory.
+    pub folder: Option<&'a str>,
+    /// The file of the schema; without it the schema is the built-in one.
+    pub schema: Option<&'a str>,
     /// Whether publications are joined: one message a table for up to 16 updates, in place of one for each.
     pub batch: bool,
 }

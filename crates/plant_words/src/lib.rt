@@ -6,18 +6,21 @@
 //! ```text
 //! init --dir FOLDER [--schema FILE]
 //! once [--dir FOLDER] [--schema FILE] [--clock TIMESTAMP] [--step N] [--batch]
+//! serve --port PORT --sessions N [--dir FOLDER] [--schema FILE] [--batch]
 //! ```
 //!
 //! The options follow the command in any order, each at most once, as `--name VALUE`; no value begins with `-`. TIMESTAMP
-//! is a timestamp literal of q, N decimal digits that write a number of at most a day in nanoseconds.
+//! is a timestamp literal of q; numbers are written in decimal digits: PORT is 1 to 65535, the N of `--sessions` 1 to 1000000,
+//! and that of `--step` at most a day in nanoseconds.
 //!
 //! ```text
 //! once --step 7 --clock 2000.01.01D00:00:01     Once { clock: Some(Ticking { start: 1_000_000_000, step: 7 }), .. }
 //! init                                          Usage: the following required arguments were not provided: --dir <FOLDER>
+//! serve --port 5010 --sessions 8                Serve { port: 5010, sessions: 8, .. }
 //! once --help                                   Shown: the help of once
 //! ```
 //!
-//! What words ask for is defined in `specs/Asked.antt`. `options` reads options word by word, `values` the values of the
+//! What words ask for is defined in `specs/Asked.antt`. `options` reads options word by word, `values` numbers and the
 //! clock; `clap` makes the texts of `usage` and reads nothing else. A command is one function here, a name in
 //! `command_named` and a command of `usage`; an option is a field of `Options`, a variant of `Valued` and a setting in the
 //! definitions.
@@ -33,11 +36,11 @@ ghost use Rattle.plant_words.specs.Asked.{Asked, Asks, IsAsked, IsReadAs, comman
 ghost use Rattle.plant_words.specs.Reading.{IsReadBy, given_of};
 
 use command::Unread;
-pub use command::{Command, Init, Once, Ticking, WordsRefusal};
+pub use command::{Command, Init, Once, Serve, Ticking, WordsRefusal};
 use options::{Options, options_of};
 use std::alloc::Global;
 use usage::refusal_of;
-use values::clock_of;
+use values::{clock_of, port_of, sessions_of};
 
 // The command `init` with these options.
 fn init_of(options: Options<'_>) -> Result<Command<'_>, Unread>
@@ -50,6 +53,8 @@ fn init_of(options: Options<'_>) -> Result<Command<'_>, Unread>
             schema,
             clock: None,
             step: None,
+            port: None,
+            sessions: None,
             batch: false,
         } => Ok(Command::Init(Init { folder, schema })),
         _ => Err(Unread::Faulty),
@@ -61,15 +66,59 @@ fn once_of(alloc: Global, options: Options<'_>) -> Result<Command<'_>, Unread>
     ensures asked { (asked : Asked) → command_name asked ≡ codes "once" → Asks (given_of options.entry) asked → IsReadBy shown asked result }
     ensures read { IfOk result (λ c. (command_name (shown c) ≡ codes "once") × Asks (given_of options.entry) (shown c)) }
 {
-    match clock_of(alloc, options.clock, options.step) {
+    let Options {
+        folder,
+        schema,
+        clock,
+        step,
+        port: None,
+        sessions: None,
+        batch: is_batch,
+    } = options
+    else {
+        return Err(Unread::Faulty);
+    };
+    match clock_of(alloc, clock, step) {
         Ok(clock) => Ok(Command::Once(Once {
-            folder: options.folder,
-            schema: options.schema,
+            folder,
+            schema,
             clock,
-            batch: options.batch,
+            batch: is_batch,
         })),
         Err(why) => Err(why),
     }
+}
+
+// The command `serve` with these options.
+fn serve_of(options: Options<'_>) -> Result<Command<'_>, Unread>
+    ensures asked { (asked : Asked) → command_name asked ≡ codes "serve" → Asks (given_of options.entry) asked → IsReadBy shown asked result }
+    ensures read { IfOk result (λ c. (command_name (shown c) ≡ codes "serve") × Asks (given_of options.entry) (shown c)) }
+{
+    let Options {
+        folder,
+        schema,
+        clock: None,
+        step: None,
+        port,
+        sessions,
+        batch,
+    } = options
+    else {
+        return Err(Unread::Faulty);
+    };
+    let Some(port) = port_of(port) else {
+        return Err(Unread::Faulty);
+    };
+    let Some(sessions) = sessions_of(sessions) else {
+        return Err(Unread::Faulty);
+    };
+    Ok(Command::Serve(Serve {
+        port,
+        sessions,
+        folder,
+        schema,
+        batch,
+    }))
 }
 
 // The command of this name with these options.
@@ -81,6 +130,8 @@ fn command_named<'a>(alloc: Global, name: &str, options: Options<'a>) -> Result<
         init_of(options)
     } else if name == "once" {
         once_of(alloc, options)
+    } else if name == "serve" {
+        serve_of(options)
     } else {
         Err(Unread::Faulty)
     }

@@ -14,6 +14,10 @@ pub struct Options<'a> {
     pub clock: Option<&'a str>,
     /// `--step`.
     pub step: Option<&'a str>,
+    /// `--port`.
+    pub port: Option<&'a str>,
+    /// `--sessions`.
+    pub sessions: Option<&'a str>,
     /// `--batch`.
     pub batch: bool,
 }
@@ -25,6 +29,8 @@ pub(crate) enum Valued {
     Schema,
     Clock,
     Step,
+    Port,
+    Sessions,
 }
 
 /// What was read so far: the options, and the one that waits for its value.
@@ -46,6 +52,10 @@ fn valued_named(word: &str) -> Option<Valued>
         Some(Valued::Clock)
     } else if word == "--step" {
         Some(Valued::Step)
+    } else if word == "--port" {
+        Some(Valued::Port)
+    } else if word == "--sessions" {
+        Some(Valued::Sessions)
     } else {
         None
     }
@@ -61,6 +71,8 @@ impl<'a> Options<'a> {
             schema: None,
             clock: None,
             step: None,
+            port: None,
+            sessions: None,
             batch: false,
         }
     }
@@ -74,6 +86,8 @@ impl<'a> Options<'a> {
             Valued::Schema => self.schema.is_some(),
             Valued::Clock => self.clock.is_some(),
             Valued::Step => self.step.is_some(),
+            Valued::Port => self.port.is_some(),
+            Valued::Sessions => self.sessions.is_some(),
         }
     }
 
@@ -96,6 +110,14 @@ impl<'a> Options<'a> {
             },
             Valued::Step => Options {
                 step: Some(value),
+                ..self
+            },
+            Valued::Port => Options {
+                port: Some(value),
+                ..self
+            },
+            Valued::Sessions => Options {
+                sessions: Some(value),
                 ..self
             },
         }

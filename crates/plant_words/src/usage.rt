@@ -1,7 +1,7 @@
 //! Help, the version, and what is wrong with a command line that asks for nothing: the texts, which `clap` makes.
 
 use crate::command::WordsRefusal;
-use crate::values::{clock_of, step_of};
+use crate::values::{clock_of, port_of, sessions_of, step_of};
 use clap::error::ErrorKind;
 use clap::{Arg, ArgAction, ArgMatches, Command, Error};
 use q_values::NoMemory;
@@ -11,13 +11,20 @@ const EXAMPLES: &str = "\
 Examples:
   plant init --dir data
   plant once --dir data < messages > responses
-  plant once --clock 2024.01.02D09:30:00.000000000 --step 1000000000 < messages > responses";
+  plant once --clock 2024.01.02D09:30:00.000000000 --step 1000000000 < messages > responses
+  plant serve --port 5010 --sessions 1000000 --dir data";
 
 const STEP_FAULT: &str =
     "the value of '--step <N>' is not a number from 0 to 86400000000000 in decimal digits";
 
 const CLOCK_FAULT: &str =
     "the value of '--clock <TIMESTAMP>' is not a timestamp, as 2024.01.02D09:30:00.000000000 is";
+
+const PORT_FAULT: &str =
+    "the value of '--port <PORT>' is not a number from 1 to 65535 in decimal digits";
+
+const SESSIONS_FAULT: &str =
+    "the value of '--sessions <N>' is not a number from 1 to 1000000 in decimal digits";
 
 const FORM_FAULT: &str =
     "an option is written '--name VALUE', after the command, and its value does not begin with '-'";
@@ -93,6 +100,36 @@ fn once<'a>(alloc: Global) -> Result<Command<'a>, Error> {
     Ok(command)
 }
 
+fn port<'a>(alloc: Global) -> Arg<'a> {
+    option(
+        alloc,
+        "port",
+        "PORT",
+        "The port of 127.0.0.1 that clients connect to, 1 to 65535",
+    )
+}
+
+fn sessions<'a>(alloc: Global) -> Arg<'a> {
+    option(
+        alloc,
+        "sessions",
+        "N",
+        "How many sessions are served, 1 to 1000000; then the program ends",
+    )
+}
+
+fn serve<'a>(alloc: Global) -> Result<Command<'a>, Error> {
+    let command = Command::new(alloc, "serve")
+        .about("Serves sessions over a port of this machine, each on a thread of its own")
+        .after_help(EXAMPLES)
+        .arg(port(alloc).required(true))?
+        .arg(sessions(alloc).required(true))?
+        .arg(folder(alloc))?
+        .arg(schema(alloc))?
+        .arg(batch(alloc))?;
+    Ok(command)
+}
+
 // The program, with its commands.
 fn program<'a>(alloc: Global) -> Result<Command<'a>, Error> {
     let program = Command::new(alloc, "plant")
@@ -105,20 +142,35 @@ fn program<'a>(alloc: Global) -> Result<Command<'a>, Error> {
         .subcommand_required(true)
         .subcommand(init(alloc)?)?
         .subcommand(once(alloc)?)?
+        .subcommand(serve(alloc)?)?
         .after_help(EXAMPLES);
     Ok(program)
 }
 
 // What is wrong with values that `clap` took.
 fn fault_of(alloc: Global, matches: &ArgMatches<'_>) -> &'static str {
-    let Some((_, options)) = matches.subcommand() else {
+    let Some((name, options)) = matches.subcommand() else {
         return FORM_FAULT;
     };
+    if name == "serve" {
+        return serve_fault_of(options);
+    }
     let step = options.get_str("step");
     if step_of(step).is_none() {
         STEP_FAULT
     } else if clock_of(alloc, options.get_str("clock"), step).is_err() {
         CLOCK_FAULT
+    } else {
+        FORM_FAULT
+    }
+}
+
+// What is wrong with values of `serve` that `clap` took.
+fn serve_fault_of(options: &ArgMatches<'_>) -> &'static str {
+    if port_of(options.get_str("port")).is_none() {
+        PORT_FAULT
+    } else if sessions_of(options.get_str("sessions")).is_none() {
+        SESSIONS_FAULT
     } else {
         FORM_FAULT
     }

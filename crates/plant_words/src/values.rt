@@ -1,6 +1,6 @@
 //! The values of options: numbers and timestamps.
 ghost use Rattle.std.specs.Prelude.{◌≡◌, ◌≤◌, ◌↔◌, ℕ, ℤ, Option, Some, option_map, IfOk, IfSome, pos};
-ghost use Rattle.plant_words.specs.Asked.{IsClock, IsMoment, IsNumber, IsStep};
+ghost use Rattle.plant_words.specs.Asked.{HasNumber, IsClock, IsFromOne, IsMoment, IsNumber, IsStep};
 ghost use Rattle.plant_words.specs.Reading.{IsReadBy};
 ghost use Rattle.plant_words.specs.declared.command.Ticking.{Ticking};
 
@@ -11,6 +11,12 @@ use std::alloc::Global;
 
 /// The longest step of a clock: a day, in nanoseconds.
 const LONGEST_STEP: u64 = 86_400_000_000_000;
+
+/// The last port.
+const LAST_PORT: u64 = 65_535;
+
+/// The greatest number of sessions that a server serves.
+const MOST_SESSIONS: u64 = 1_000_000;
 
 /// The number that decimal digits write, if it is at most `most`. A sign isn't read.
 pub(crate) fn number_of(text: &str, most: u64) -> Option<u64>
@@ -34,6 +40,48 @@ pub(crate) fn step_of(text: Option<&str>) -> Option<u64>
     match text {
         None => Some(0),
         Some(text) => number_of(text, LONGEST_STEP),
+    }
+}
+
+/// The number that decimal digits write, if it is from 1 to `most`.
+fn from_one(text: &str, most: u64) -> Option<u64>
+    ensures number { (n : ℕ) → (result ≡ Some n) ↔ IsFromOne most text.now n }
+    ensures within { IfSome result (λ n. n ≤ most) }
+{
+    match number_of(text, most) {
+        Some(n) if n >= 1 => Some(n),
+        _ => None,
+    }
+}
+
+/// The number from 1 to `most` that an option's value gives.
+fn number_in(text: Option<&str>, most: u64) -> Option<u64>
+    ensures number { (n : ℕ) → (result ≡ Some n) ↔ HasNumber most (option_map (λ s. s.now) text.entry) n }
+    ensures within { IfSome result (λ n. n ≤ most) }
+{
+    match text {
+        None => None,
+        Some(text) => from_one(text, most),
+    }
+}
+
+/// The port that an option's value gives.
+pub(crate) fn port_of(text: Option<&str>) -> Option<u16>
+    ensures { (n : ℕ) → (result ≡ Some n) ↔ HasNumber 65535 (option_map (λ s. s.now) text.entry) n }
+{
+    match number_in(text, LAST_PORT) {
+        Some(port) => Some(port as u16),
+        None => None,
+    }
+}
+
+/// The number of sessions that an option's value gives.
+pub(crate) fn sessions_of(text: Option<&str>) -> Option<u32>
+    ensures { (n : ℕ) → (result ≡ Some n) ↔ HasNumber 1000000 (option_map (λ s. s.now) text.entry) n }
+{
+    match number_in(text, MOST_SESSIONS) {
+        Some(sessions) => Some(sessions as u32),
+        None => None,
     }
 }
 

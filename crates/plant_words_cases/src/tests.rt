@@ -65,6 +65,18 @@ fn asked_words(rt: HostRuntime) -> Result<(), Fail> {
             "once|--step|5|--dir|a=b",
             "Once(Once { folder: Some(\"a=b\"), schema: None, clock: None, batch: false })",
         ),
+        (
+            "serve|--port|5010|--sessions|1000000|--dir|d",
+            "Serve(Serve { port: 5010, sessions: 1000000, folder: Some(\"d\"), schema: None, batch: false })",
+        ),
+        (
+            "serve|--batch|--schema|s|--sessions|1|--port|65535",
+            "Serve(Serve { port: 65535, sessions: 1, folder: None, schema: Some(\"s\"), batch: true })",
+        ),
+        (
+            "serve|--sessions|007|--port|01",
+            "Serve(Serve { port: 1, sessions: 7, folder: None, schema: None, batch: false })",
+        ),
     ];
     for (text, wanted) in rows {
         let found = read(rt.alloc(), text)?;
@@ -79,12 +91,16 @@ fn faulty_words(rt: HostRuntime) -> Result<(), Fail> {
         "usage: the value of '--step <N>' is not a number from 0 to 86400000000000 in decimal digits";
     let clock =
         "usage: the value of '--clock <TIMESTAMP>' is not a timestamp, as 2024.01.02D09:30:00.000000000 is";
+    let port =
+        "usage: the value of '--port <PORT>' is not a number from 1 to 65535 in decimal digits";
+    let sessions =
+        "usage: the value of '--sessions <N>' is not a number from 1 to 1000000 in decimal digits";
     let form =
         "usage: an option is written '--name VALUE', after the command, and its value does not begin with '-'";
     let rows = [
         (
             "",
-            "usage: 'plant' requires a subcommand but one was not provided [subcommands: init, once, help]",
+            "usage: 'plant' requires a subcommand but one was not provided [subcommands: init, once, serve, help]",
         ),
         ("go", "usage: unrecognized subcommand 'go'"),
         (
@@ -123,6 +139,30 @@ fn faulty_words(rt: HostRuntime) -> Result<(), Fail> {
         ("once|--clock|0Np 0Np", clock),
         ("once|--dir=data", form),
         ("once|--dir|-", form),
+        (
+            "once|--port|5010",
+            "usage: unexpected argument '--port' found",
+        ),
+        (
+            "serve|--port|5010",
+            "usage: the following required arguments were not provided: --sessions <N>",
+        ),
+        (
+            "serve|--port|5010|--sessions|2|--clock|0Np",
+            "usage: unexpected argument '--clock' found",
+        ),
+        (
+            "serve|--port|5010|--port|5011|--sessions|2",
+            "usage: the argument '--port <PORT>' cannot be used multiple times",
+        ),
+        ("serve|--port|0|--sessions|2", port),
+        ("serve|--port|65536|--sessions|2", port),
+        ("serve|--port|+80|--sessions|2", port),
+        ("serve|--port|http|--sessions|2", port),
+        ("serve|--port|5010|--sessions|0", sessions),
+        ("serve|--port|5010|--sessions|1000001", sessions),
+        ("serve|--port|5010|--sessions|1e6", sessions),
+        ("serve|--port=5010|--sessions|2", form),
     ];
     for (text, wanted) in rows {
         let found = read(rt.alloc(), text)?;
@@ -136,7 +176,7 @@ fn help_and_version(rt: HostRuntime) -> Result<(), Fail> {
     let rows = [
         ("--version", "shown: plant 0.1.0\n"),
         ("--help", "Usage: plant <COMMAND>\n"),
-        ("--help", "\n  init  Formats a folder for a plant\n"),
+        ("--help", "\n  init   Formats a folder for a plant\n"),
         (
             "--help",
             "\n  plant once --dir data < messages > responses\n",
@@ -151,6 +191,19 @@ fn help_and_version(rt: HostRuntime) -> Result<(), Fail> {
         ("once|--help", "\n      --clock <TIMESTAMP> "),
         ("once|--help", "\n      --step <N> "),
         ("once|--help", "\n      --batch "),
+        (
+            "serve|--help",
+            "Usage: plant serve [OPTIONS] --port <PORT> --sessions <N>\n",
+        ),
+        ("serve|--help", "\n      --port <PORT> "),
+        ("serve|--help", "\n      --sessions <N> "),
+        ("serve|--help", "\n      --dir <FOLDER> "),
+        ("serve|--help", "\n      --schema <FILE> "),
+        ("serve|--help", "\n      --batch "),
+        (
+            "serve|--help",
+            "\n  plant serve --port 5010 --sessions 1000000 --dir data",
+        ),
         (
             "once|--help",
             "\n  plant once --clock 2024.01.02D09:30:00.000000000 --step 1000000000 ",

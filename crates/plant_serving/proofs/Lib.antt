@@ -1,0 +1,3 @@
+pub mod Crossing
+pub mod StartLemmas
+pub mod WorkLemmas

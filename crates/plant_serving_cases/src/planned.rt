@@ -1,0 +1,219 @@
+//! An outside whose port fails as planned, and whose first session is held where it evaluates a text.
+use outside_api::{Gate, Point};
+use plant_edge::StandardOutside;
+use program_outside::{Cause, FileRefusal, MakeFault, Outside, SayFault};
+use std::alloc::Global;
+use std::io::Write;
+use std::sync::Arc;
+use std::sync::atomic::{AtomicBool, Ordering};
+use std::{io, thread};
+
+/// How often a gate looks whether it was opened, before it lets its session go on.
+const LOOKS: u32 = 100_000_000;
+
+/// A gate that may hold its session where a text is evaluated, until it is opened.
+#[derive(Drop)]
+pub struct HoldingGate {
+    /// Whether it is open; none where it holds nobody.
+    pub is_open: Option<Arc<AtomicBool>>,
+}
+
+impl Gate for HoldingGate {
+    fn pause(&mut self, point: Point) {
+        let (Some(is_open), Point::Evaluating) = (&self.is_open, point) else {
+            return;
+        };
+        for _ in 0..LOOKS {
+            if is_open.load(Ordering::SeqCst) {
+                return;
+            }
+            thread::yield_now();
+        }
+    }
+}
+
+/// Keeps the lines of standard error.
+#[derive(Drop)]
+pub struct Lines {
+    bytes: Vec<u8>,
+}
+
+impl Lines {
+    /// The lines, each with its line feed.
+    fn as_bytes(&self) -> &[u8] {
+        &self.bytes
+    }
+}
+
+impl Write for Lines {
+    fn write(&mut self, buf: &[u8]) -> io::Result<usize> {
+        self.bytes.extend_from_slice(buf)?;
+        Ok(buf.len())
+    }
+
+    fn flush(&mut self) -> io::Result<()> {
+        Ok(())
+    }
+}
+
+/// The devices of the machine, but for standard error.
+pub type Machine<'a> = StandardOutside<'a, HostRuntime, Lines>;
+
+/// The devices of the machine, of which none was made.
+fn machine_of<'a>(rt: &'a HostRuntime) -> Machine<'a> {
+    let errors = Lines {
+        bytes: Vec::new(rt.alloc()),
+    };
+    StandardOutside::new(rt, errors)
+}
+
+/// The machine's outside, but that its port gives a number of connections and then fails, and that the first session may be
+/// held.
+#[derive(Drop)]
+pub struct PlannedOutside<'a> {
+    machine: Machine<'a>,
+    // how many connections its port still gives
+    left: u32,
+    // the first session's gate, until it is given
+    first: Option<Arc<AtomicBool>>,
+    // how many calls of the port failed, as planned or not
+    listen_faults: u64,
+}
+
+impl<'a> PlannedOutside<'a> {
+    /// An outside whose port gives each connection.
+    pub fn new(rt: &'a HostRuntime) -> PlannedOutside<'a> {
+        PlannedOutside {
+            machine: machine_of(rt),
+            left: u32::MAX,
+            first: None,
+            listen_faults: 0,
+        }
+    }
+
+    /// The same, but its port fails after so many connections.
+    pub fn failing_after(rt: &'a HostRuntime, connections: u32) -> PlannedOutside<'a> {
+        PlannedOutside {
+            left: connections,
+            ..PlannedOutside::new(rt)
+        }
+    }
+
+    /// The same, but the first session is held until the flag is set.
+    pub fn holding_first(rt: &'a HostRuntime, flag: Arc<AtomicBool>) -> PlannedOutside<'a> {
+        PlannedOutside {
+            first: Some(flag),
+            ..PlannedOutside::new(rt)
+        }
+    }
+
+    /// The lines of standard error, each with its line feed.
+    pub fn errors(&self) -> &[u8] {
+        self.machine.errors().as_bytes()
+    }
+}
+
+impl<'a> Outside for PlannedOutside<'a> {
+    ghost use Rattle.std.specs.Prelude.{◌≡◌};
+    ghost use Rattle.std.specs.Option.{option_map};
+    ghost use Rattle.program_outside.specs.Outside.{handed_back};
+    ghost use Rattle.plant_edge.specs.Link.{machine_shown};
+    ghost use Rattle.plant_edge.specs.Outside.{silent_recorder};
+    ghost use Rattle.plant_serving_cases.specs.Planned.{planned_outside};
+
+    type Link = <Machine<'a> as Outside>::Link;
+
+    type Disk = <Machine<'a> as Outside>::Disk;
+
+    type Clock = <Machine<'a> as Outside>::Clock;
+
+    type Gate = HoldingGate;
+
+    type Recorder = <Machine<'a> as Outside>::Recorder;
+
+    ghost seen = { planned_outside };
+
+    fn standard(&mut self) -> Result<Self::Link, MakeFault> {
+        self.machine.standard()
+    }
+
+    fn listen(&mut self, port: u16) -> Result<(), MakeFault> {
+        match self.machine.listen(port) {
+            Ok(()) => Ok(()),
+            Err(fault) => {
+                self.listen_faults = self.listen_faults.saturating_add(1);
+                Err(fault)
+            }
+        }
+    }
+
+    fn accept(&mut self) -> Result<Option<Self::Link>, MakeFault> {
+        if self.left == 0 {
+            self.listen_faults = self.listen_faults.saturating_add(1);
+            return Err(MakeFault {
+                cause: Cause::Other,
+            });
+        }
+        match self.machine.accept() {
+            Ok(Some(link)) => {
+                self.left -= 1;
+                Ok(Some(link))
+            }
+            Ok(None) => Ok(None),
+            Err(fault) => {
+                self.listen_faults = self.listen_faults.saturating_add(1);
+                Err(fault)
+            }
+        }
+    }
+
+    fn folder(&mut self, alloc: Global, path: &str) -> Result<Self::Disk, MakeFault> {
+        self.machine.folder(alloc, path)
+    }
+
+    fn make_folder(&mut self, alloc: Global, path: &str) -> Result<Self::Disk, MakeFault> {
+        self.machine.make_folder(alloc, path)
+    }
+
+    fn clock(&mut self) -> Self::Clock {
+        self.machine.clock()
+    }
+
+    fn gate(&mut self) -> HoldingGate {
+        HoldingGate {
+            is_open: self.first.take(),
+        }
+    }
+
+    fn recorder(&mut self) -> Self::Recorder {
+        self.machine.recorder()
+    }
+
+    fn read_file(&mut self, alloc: Global, path: &str) -> Result<Vec<u8>, FileRefusal> {
+        self.machine.read_file(alloc, path)
+    }
+
+    fn say(&mut self, line: &[u8]) -> Result<(), SayFault> {
+        self.machine.say(line)
+    }
+
+    fn warn(&mut self, line: &[u8]) {
+        self.machine.warn(line)
+    }
+
+    fn back(
+        &mut self,
+        link: Option<Self::Link>,
+        clock: Option<Self::Clock>,
+        recorder: Option<Self::Recorder>,
+    )
+        ensures { planned_outside self.new ≡ handed_back (planned_outside self.old) (option_map (λ l. machine_shown l) link.entry)
+            (option_map (λ c. None) clock.entry) (option_map (λ r. silent_recorder r) recorder) }
+    {
+        self.machine.back(link, clock, recorder)
+    }
+
+    fn keep(&mut self, disk: Self::Disk) {
+        self.machine.keep(disk)
+    }
+}

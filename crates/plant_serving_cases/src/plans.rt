@@ -1,0 +1,92 @@
+//! Runs of the program with a port that fails, and with a session that is held.
+use crate::client::{count, free_port, greeted, serve, update};
+use crate::planned::PlannedOutside;
+use std::alloc::Global;
+use std::sync::Arc;
+use std::sync::atomic::{AtomicBool, Ordering};
+use std::test::Fail;
+use std::time::Duration;
+use std::{io, thread};
+
+/// Two clients of a port that fails after them; both are served to their ends.
+fn two(rt: &HostRuntime, alloc: Global, port: u16) -> io::Result<u64> {
+    let mut one = greeted(rt, port)?;
+    let mut other = greeted(rt, port)?;
+    for _ in 0..100u32 {
+        update(alloc, &mut one)?;
+        update(alloc, &mut other)?;
+    }
+    count(alloc, &mut one)
+}
+
+#[test]
+fn sessions_go_on_after_the_port_failed(rt: HostRuntime) -> Result<(), Fail> {
+    let (theirs, alloc, port) = (rt.clone()?, rt.alloc(), free_port(&rt)?);
+    let clients = thread::spawn(&rt, move || two(&theirs, alloc, port))?;
+    let mut outside = PlannedOutside::failing_after(&rt, 2);
+    assert_eq!(rt; serve(&rt, alloc, port, 3, &mut outside)?, 9);
+    assert_eq!(rt; clients.join(&rt)?, 200);
+    let line = format!(in alloc;
+        "plant: cannot listen\nplant: port {port}: the system refused it\n"
+    )?;
+    assert_eq!(rt; outside.errors(), line.as_bytes());
+    Ok(())
+}
+
+/// Waits until the flag is set, for ten seconds at most.
+fn wait_for(rt: &HostRuntime, flag: &AtomicBool) -> io::Result<()> {
+    for _ in 0..10_000u32 {
+        if flag.load(Ordering::SeqCst) {
+            return Ok(());
+        }
+        thread::sleep(rt, Duration::from_millis(1));
+    }
+    Err(io::Error::from(io::ErrorKind::TimedOut))
+}
+
+/// What a client is answered whose first text is held, and what its second. It says when it has connected.
+fn ask_held(
+    rt: &HostRuntime,
+    alloc: Global,
+    port: u16,
+    has_connected: &AtomicBool,
+) -> io::Result<[u64; 2]> {
+    let mut stream = greeted(rt, port)?;
+    has_connected.store(true, Ordering::SeqCst);
+    let held = count(alloc, &mut stream)?;
+    Ok([held, count(alloc, &mut stream)?])
+}
+
+/// Logs a row once another client has connected, says when that was answered, and gives the number of rows.
+fn feed_beside(
+    rt: &HostRuntime,
+    alloc: Global,
+    port: u16,
+    has_connected: &AtomicBool,
+    was_answered: &AtomicBool,
+) -> io::Result<u64> {
+    wait_for(rt, has_connected)?;
+    let mut stream = greeted(rt, port)?;
+    update(alloc, &mut stream)?;
+    was_answered.store(true, Ordering::SeqCst);
+    count(alloc, &mut stream)
+}
+
+// A session is held while it evaluates a text, until another's update was answered. It answers over what it had seen: no row.
+#[test]
+fn gates_run_beside(rt: HostRuntime) -> Result<(), Fail> {
+    let (asks, feeds, alloc, port) = (rt.clone()?, rt.clone()?, rt.alloc(), free_port(&rt)?);
+    let has_connected = Arc::new(alloc, AtomicBool::new(false))?;
+    let was_answered = Arc::new(alloc, AtomicBool::new(false))?;
+    let (connected, answered) = (has_connected.clone()?, was_answered.clone()?);
+    let mut outside = PlannedOutside::holding_first(&rt, was_answered);
+    let first = thread::spawn(&rt, move || ask_held(&asks, alloc, port, &has_connected))?;
+    let second = thread::spawn(&rt, move || {
+        feed_beside(&feeds, alloc, port, &connected, &answered)
+    })?;
+    assert_eq!(rt; serve(&rt, alloc, port, 2, &mut outside)?, 0);
+    assert_eq!(rt; first.join(&rt)?, [0, 1]);
+    assert_eq!(rt; second.join(&rt)?, 1);
+    assert_eq!(rt; outside.errors(), b"".as_slice());
+    Ok(())
+}

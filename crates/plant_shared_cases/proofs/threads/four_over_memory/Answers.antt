@@ -1,0 +1,8 @@
+use denote.Param.Send.{sendable}
+use Rattle.std.proofs.Crossing.{crosses}
+use Rattle.plant_shared.proofs.Crossing.{PlantLock-sync, Plant-send}
+use Rattle.plant_shared_cases.proofs.Crossing.{MemDisk-send}
+use Rattle.plant_shared_cases.proofs.threads.four_over_memory.Goals as goal
+
+pub four_pairs-requires-sync-K : goal.four_pairs-requires-sync-K
+four_pairs-requires-sync-K g c κs within = search (PlantLock-sync, Plant-send, MemDisk-send, sendable, crosses) depth 20
