@@ -118,8 +118,7 @@ impl<'a> Outside for PlannedOutside<'a> {
     ghost use Rattle.std.specs.Option.{option_map};
     ghost use Rattle.program_outside.specs.Outside.{handed_back};
     ghost use Rattle.plant_edge.specs.Link.{machine_shown};
-    ghost use Rattle.plant_edge.specs.Outside.{silent_recorder};
-    ghost use Rattle.plant_serving_cases.specs.Planned.{planned_outside};
+    ghost use Rattle.plant_edge.specs.Outside.{silent_outside, silent_recorder};
 
     type Link = <Machine<'a> as Outside>::Link;
 
@@ -131,7 +130,8 @@ impl<'a> Outside for PlannedOutside<'a> {
 
     type Recorder = <Machine<'a> as Outside>::Recorder;
 
-    ghost seen = { planned_outside };
+    // What the machine's shows, but for the faults of the port, which it counts itself.
+    ghost seen = { λ outside. record (silent_outside outside.machine) { listen_faults = outside.listen_faults } };
 
     fn standard(&mut self) -> Result<Self::Link, MakeFault> {
         self.machine.standard()
@@ -207,8 +207,9 @@ impl<'a> Outside for PlannedOutside<'a> {
         clock: Option<Self::Clock>,
         recorder: Option<Self::Recorder>,
     )
-        ensures { planned_outside self.new ≡ handed_back (planned_outside self.old) (option_map (λ l. machine_shown l) link.entry)
-            (option_map (λ c. None) clock.entry) (option_map (λ r. silent_recorder r) recorder) }
+        ensures { record (silent_outside self.new.machine) { listen_faults = self.new.listen_faults }
+            ≡ handed_back (record (silent_outside self.old.machine) { listen_faults = self.old.listen_faults })
+            (option_map (λ l. machine_shown l) link.entry) (option_map (λ c. None) clock.entry) (option_map (λ r. silent_recorder r) recorder) }
     {
         self.machine.back(link, clock, recorder)
     }
