@@ -246,7 +246,7 @@ def print_updates(title, best):
 
 
 def queried(server, folder, options, clients, fed):
-    """Queries from so many clients for a time, while one more feeds if it is `fed`: both results."""
+    """Queries from this many clients for a time, while one more feeds if it is `fed`: both results."""
     seconds = options.seconds
     feed = Clients(server, folder, 1, 1, 10_000_000, seconds) if fed else None
     asked = Clients(server, folder, clients, 1, 1_000_000, seconds, query=True).result() if clients else None
