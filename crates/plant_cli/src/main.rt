@@ -1,11 +1,10 @@
-//! The program `plant_cli`: a kdb+ tick plant, on a port or for one session over standard input and output.
+//! The program `plant_cli`: a kdb+ tick plant, one session over standard input and output.
 //!
 //! `plant_run` does all that it does, generic in the outside that makes its devices; `main` gives it the machine's, reads the
 //! arguments and turns what it gives into the exit status.
 //!
 //! ```text
 //! plant_cli init --dir plant                                                        makes and formats the folder plant
-//! plant_cli serve --port 5010 --sessions 1000000 --dir plant                         the sessions of a port over the plant in it
 //! plant_cli once --dir plant < messages > responses                                 one session over the plant in it
 //! plant_cli once --clock 2024.01.02D09:30:00.000000000 < messages > responses       one over a new plant in memory
 //! plant_cli --help                                                                  all commands and options
