@@ -4,3 +4,4 @@ pub mod Disk
 pub mod Link
 pub mod Told
 pub use Rattle.q_values.specs.Limits
+pub mod Tap

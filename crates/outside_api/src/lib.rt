@@ -1,8 +1,9 @@
-//! What a plant uses of the world outside, as traits: a link, a disk, a clock, a gate and a recorder.
+//! What a plant uses of the world outside, as traits: a link, a disk, a clock, a gate, a recorder and a tap.
 //!
 //! Each call of the plant that reads, writes or waits is generic over these traits, and its contract speaks of what the
 //! device shows before and after. A device may report what passed through it (a [`Link`] the bytes given and taken, a
-//! [`Disk`] its files at each moment, a [`Clock`] its readings, a [`Recorder`] the turns noted). What it doesn't report,
+//! [`Disk`] its files at each moment, a [`Clock`] its readings, a [`Recorder`] the turns noted, a [`Tap`] the
+//! messages taken). What it doesn't report,
 //! no contract says; its counts of faults and read timeouts it always shows. So one body serves a device in memory, of
 //! which everything is known, and a real one, of which nothing is.
 //!
@@ -25,6 +26,7 @@ mod gate;
 mod link;
 mod range;
 mod recorder;
+mod tap;
 
 pub use clock::Clock;
 pub use disk::{Disk, DiskFault};
@@ -32,3 +34,4 @@ pub use gate::{Gate, Point};
 pub use link::{Got, Link, LinkFault};
 pub use range::{RangeState, WrittenRange};
 pub use recorder::Recorder;
+pub use tap::{Tap, TapFault, TapMessage};

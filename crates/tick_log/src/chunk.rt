@@ -1,5 +1,5 @@
 //! Making the chunk of an update.
-ghost use Rattle.std.specs.Prelude.{◌≡◌, ◌≤◌, ◌+◌, ℕ, ◌++◌, ◌↔◌, true, length, All, OnOk, IfOk};
+ghost use Rattle.std.specs.Prelude.{◌≡◌, ◌≤◌, ◌+◌, ℕ, ◌++◌, ◌↔◌, [], true, length, All, OnOk, IfOk};
 ghost use Rattle.day_rows.specs.Day.{entry_rows};
 ghost use Rattle.ipc_codec.specs.Lengths.{saturated};
 ghost use Rattle.ipc_codec.specs.Written.{VectorFits};
@@ -12,6 +12,12 @@ use gated_journal::Payload;
 use ipc_codec::{encode_list_head, encode_symbol, encode_vectors, encoded_vectors_length};
 use q_values::{NoMemory, Sym, Vector};
 use std::alloc::Global;
+
+// Stands where the payload's length is written once that is known.
+const NO_LENGTH: [u8; 4] = [0; 4];
+
+// The bytes of a buffer beside the chunk: its length before it, and a closed gate after it.
+const BESIDE_CHUNK: usize = 5;
 
 /// The payload of a log's record.
 pub type Chunk = Payload;
@@ -67,6 +73,27 @@ fn put_chunk(out: &mut Vec<u8>, by: u64, table: &Sym, columns: &[Vector]) -> Res
     encode_vectors(out, columns)
 }
 
+// The chunk of an update of the schema that a log can hold, in the memory of an empty buffer. The room for all of it is
+// made once, and the columns are encoded straight into it, after four bytes for its length.
+fn chunk_in(mut buffer: Vec<u8>, schema: &Schema, entry: &Entry) -> Result<Chunk, NoMemory>
+    requires empty { buffer.items ≡ [] }
+    requires loggable { IsLoggable schema.now entry.now }
+    ensures { IfOk result (λ made. (before : ℕ) → before + entry_rows entry.now ≤ 4294967295
+        → IsChunk schema.now before made.bytes entry.now) }
+{
+    match entry {
+        Entry::Upd { by, table, columns } => {
+            let table = &schema.at(*table as usize).table;
+            let columns = columns.as_slice();
+            buffer.reserve(chunk_length(table, columns).saturating_add(BESIDE_CHUNK))?;
+            buffer.extend_from_slice(&NO_LENGTH)?;
+            put_chunk(&mut buffer, *by, table, columns)?;
+        }
+        Entry::Roll { .. } | Entry::Fault { .. } => unreachable!(),
+    }
+    Payload::from_buffer(buffer)
+}
+
 /// The chunk of an update of the schema that a log can hold, in the memory of an older chunk. The columns are encoded
 /// straight into the payload, once, after the room for all of it was made. Out of memory, the older chunk is given up.
 pub fn chunk_into(chunk: Chunk, schema: &Schema, entry: &Entry) -> Result<Chunk, NoMemory>
@@ -75,23 +102,15 @@ pub fn chunk_into(chunk: Chunk, schema: &Schema, entry: &Entry) -> Result<Chunk,
         → IsChunk schema.now before made.bytes entry.now) }
 {
     let mut buffer = chunk.into_buffer();
-    match entry {
-        Entry::Upd { by, table, columns } => {
-            let table = &schema.at(*table as usize).table;
-            let columns = columns.as_slice();
-            buffer.reserve(chunk_length(table, columns).saturating_add(1))?;
-            put_chunk(&mut buffer, *by, table, columns)?;
-        }
-        Entry::Roll { .. } | Entry::Fault { .. } => unreachable!(),
-    }
-    Payload::from_buffer(buffer)
+    buffer.clear();
+    chunk_in(buffer, schema, entry)
 }
 
-/// The chunk of an update of the schema that a log can hold.
+/// The chunk of an update of the schema that a log can hold. It takes its memory at once.
 pub fn chunk_of(alloc: Global, schema: &Schema, entry: &Entry) -> Result<Chunk, NoMemory>
     requires { IsLoggable schema.now entry.now }
     ensures { IfOk result (λ made. (before : ℕ) → before + entry_rows entry.now ≤ 4294967295
         → IsChunk schema.now before made.bytes entry.now) }
 {
-    chunk_into(Payload::with_room(alloc, 0)?, schema, entry)
+    chunk_in(Vec::new(alloc), schema, entry)
 }
