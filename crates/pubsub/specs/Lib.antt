@@ -1,0 +1,5 @@
+pub mod Filters
+pub mod Parts
+pub mod Steps
+pub mod SymbolSet
+pub mod Told
