@@ -2,7 +2,9 @@ pub mod BlockLemmas
 pub mod DayLemmas
 pub mod FilledLemmas
 pub mod GrowLemmas
+pub mod KeptLemmas
 pub mod Lists
+pub mod PartLemmas
 pub mod PieceLemmas
 pub mod RowsLemmas
 pub mod Sorting

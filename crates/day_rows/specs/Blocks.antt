@@ -1,5 +1,6 @@
 -- The updates of a day in blocks: the columns of consecutive updates, and a mark for each update.
-use Rattle.std.specs.Prelude.{◌≡◌, ℕ, ◌+◌, ◌-◌, ◌^◌, min, ◌<◌, ◌≤◌, ◌==◌, if◌then◌else◌, ◌++◌, List, [], ◌∷◌, length, map, take, get_or, Option, Some, None, slice_get}
+use Rattle.std.specs.Prelude.{◌≡◌, ℕ, ◌+◌, ◌-◌, ◌^◌, min, ◌<◌, ◌≤◌, ◌==◌, if◌then◌else◌}
+use Rattle.std.specs.Prelude.{◌++◌, List, [], ◌∷◌, length, map, take, get_or, Option, Some, None, slice_get}
 use Rattle.std.specs.List.{AllByRecursion, flat_map, sum_by}
 use Rattle.q_values.specs.Contents.{Contents}
 use Rattle.q_values.specs.Table.{rows_of}

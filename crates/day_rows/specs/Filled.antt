@@ -11,7 +11,7 @@ pub record Filled : Type 0 where
 -- after an update of this many rows, which seals the block if that has at least 1,024 then
 abbrev pub filled_more : Filled → ℕ → Filled
 filled_more before rows =
-    if nat_le 1024 (before.loose + rows) then record { blocks = before.blocks + 1; loose = 0 } else record { blocks = before.blocks; loose = before.loose + rows }
+    if nat_le 1024 (before.loose + rows) then record { blocks = before.blocks + 1; loose = 0 } else record before { loose = before.loose + rows }
 
 -- after these updates
 abbrev pub filled_after : Filled → List Entry → Filled

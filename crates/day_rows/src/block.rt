@@ -1,6 +1,6 @@
 //! Blocks: the columns of consecutive updates, and a mark for each update.
 ghost use Rattle.std.specs.Prelude.{◌≡◌, ◌↔◌, ℕ, ◌<◌, ◌≤◌, ◌+◌, ◌-◌, ◌^◌, ◌++◌, [], ◌∷◌, ◌==◌, if◌then◌else◌, true, min};
-ghost use Rattle.std.specs.Prelude.{length, map, take, drop, replicate, slice_get, vec_len, IfOk, IfErr, OnOk, OnErr, MatchOption};
+ghost use Rattle.std.specs.Prelude.{length, map, take, drop, replicate, slice_get, slice_index, vec_len, IfOk, IfErr, OnOk, OnErr, MatchOption};
 ghost use Rattle.std.specs.List.{AllByRecursion, sum_by};
 ghost use Rattle.day_rows.specs.Blocks.{IsBlock, mark_of, rows_marked, atoms_at, columns_with, tables_with};
 ghost use Rattle.day_rows.specs.Day.{IsUpdate, entry_rows, total_rows};
@@ -294,21 +294,44 @@ impl Block {
         })
     }
 
-    /// The entries, and after them copies of the block's updates. `kinds` are those of each table's columns.
+    // For each table the number of its rows in the first `n` updates. `kinds` are those of each table's columns.
+    fn starts(&self, alloc: Global, kinds: &[Kinds], n: usize) -> Result<Vec<usize>, NoMemory>
+        requires within { n ≤ length self.now }
+        requires updates { AllByRecursion (IsUpdate kinds.now) (take n self.now) }
+        requires bounded { total_rows (take n self.now) ≤ 4294967295 }
+        ensures size { IfOk result (λ starts. length starts.items ≡ length kinds.now) }
+        ensures count { IfOk result (λ starts. vec_len starts ≡ length kinds.now) }
+        ensures each { IfOk result (λ starts. (t : ℕ) → t < length kinds.now → slice_index starts.items t ≡ sum_by (rows_in t) (take n self.now)) }
+    {
+        let mut starts = zeros(alloc, kinds.len())?;
+        for mark in &self.marks[..n] {
+            let index = mark.table as usize;
+            let start = starts[index];
+            starts[index] = start + mark.rows as usize;
+        }
+        Ok(starts)
+    }
+
+    /// The entries, and after them copies of the block's updates from the index `from` on, up to the one before the index
+    /// `to`. `kinds` are those of each table's columns.
     pub fn split(
         &self,
         alloc: Global,
         kinds: &[Kinds],
+        from: usize,
+        to: usize,
         entries: Vec<Entry>,
     ) -> Result<Vec<Entry>, NoMemory>
-        requires updates { AllByRecursion (IsUpdate kinds.now) self.now }
-        requires bounded { total_rows self.now ≤ 4294967295 }
-        ensures { IfOk result (λ found. found.items ≡ entries.items ++ self.now) }
+        requires order { from ≤ to }
+        requires within { to ≤ length self.now }
+        requires updates { AllByRecursion (IsUpdate kinds.now) (take to self.now) }
+        requires bounded { total_rows (take to self.now) ≤ 4294967295 }
+        ensures { IfOk result (λ found. found.items ≡ entries.items ++ drop from (take to self.now)) }
     {
         let mut found = entries;
-        let mut starts = zeros(alloc, kinds.len())?;
-        for mark in &self.marks {
-            let Mark { by, table, rows } = *mark;
+        let mut starts = self.starts(alloc, kinds, from)?;
+        for i in from..to {
+            let Mark { by, table, rows } = self.marks[i];
             let index = table as usize;
             let start = starts[index];
             let columns = self.part(alloc, table, &kinds[index], start, rows as usize)?;

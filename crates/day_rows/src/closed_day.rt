@@ -131,7 +131,24 @@ impl ClosedDay {
     pub fn updates(&self, alloc: Global) -> Result<Entries, NoMemory>
         ensures { IfOk result (λ entries. entries ≡ self.now.updates) }
     {
-        Ok(Entries::from_vec(self.updates.entries(alloc, &self.kinds)?))
+        self.updates_from(alloc, 0)
+    }
+
+    /// The number of updates.
+    pub fn update_count(&self) -> usize
+        ensures { result ≡ length self.now.updates }
+    {
+        self.updates.len()
+    }
+
+    /// Copies of the updates from the index `from` on, in order. It costs what it copies, and a step for each block that
+    /// they are in and for each update before them in the first of these: the blocks before it cost nothing.
+    pub fn updates_from(&self, alloc: Global, from: usize) -> Result<Entries, NoMemory>
+        requires { from ≤ length self.now.updates }
+        ensures { IfOk result (λ entries. entries ≡ drop from self.now.updates) }
+    {
+        let found = self.updates.entries(alloc, &self.kinds, from)?;
+        Ok(Entries::from_vec(found))
     }
 
     /// The `n` atoms of a table's column from the row `from` on, in the documented order. Reading it

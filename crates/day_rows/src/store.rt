@@ -28,19 +28,6 @@ pub struct Store {
     pub held: usize,
 }
 
-// Copies of the updates of the blocks, in order. `kinds` are those of each table's columns.
-fn split_blocks(alloc: Global, blocks: &[&Block], kinds: &[Kinds]) -> Result<Vec<Entry>, NoMemory>
-    requires updates { AllByRecursion (IsUpdate kinds.now) (flat_map (λ block. block.now) blocks.now) }
-    requires bounded { total_rows (flat_map (λ block. block.now) blocks.now) ≤ 4294967295 }
-    ensures { IfOk result (λ entries. entries.items ≡ flat_map (λ block. block.now) blocks.now) }
-{
-    let mut entries = Vec::new(alloc);
-    for block in blocks {
-        entries = block.split(alloc, kinds, entries)?;
-    }
-    Ok(entries)
-}
-
 impl Store {
     /// No updates. It takes no memory.
     pub fn new(alloc: Global) -> Store
@@ -203,28 +190,56 @@ impl Store {
         Ok(order)
     }
 
-    /// Copies of the first updates: those of the first `sealed` blocks, and `n` more. `kinds` are those of each table's
-    /// columns.
+    // Of the first `sealed` blocks and the one after them: the index of the block that has the update `from`, and the number
+    // of updates before that block. `before` is the number of updates in the first `sealed` blocks.
+    fn place_of(&self, sealed: usize, before: usize, from: usize) -> (usize, usize)
+        requires sealed { sealed ≤ length self.now.blocks }
+        requires before { before ≡ length (flat_map (λ block. block) (take sealed self.now.blocks)) }
+        ensures block { result.0 ≤ sealed }
+        ensures start { result.1 ≡ length (flat_map (λ block. block) (take result.0 self.now.blocks)) }
+        ensures after { result.1 ≤ from }
+        ensures within { result.0 < sealed → from ≤ length (flat_map (λ block. block) (take (result.0 + 1) self.now.blocks)) }
+    {
+        let mut block = sealed;
+        let mut start = before;
+        while from < start {
+            block -= 1;
+            start -= self.next(block).len();
+        }
+        (block, start)
+    }
+
+    /// Copies of the updates from the index `from` on: of those of the first `sealed` blocks, which have `before` updates,
+    /// and `n` more. `kinds` are those of each table's columns. Blocks before the update `from` cost nothing.
     pub fn entries(
         &self,
         alloc: Global,
         kinds: &[Kinds],
         sealed: usize,
+        before: usize,
         n: usize,
+        from: usize,
     ) -> Result<Vec<Entry>, NoMemory>
-        requires few { length kinds.now ≤ 64 }
+        requires held { before + n < 2 ^ 64 }
         requires sealed { sealed ≤ length self.now.blocks }
+        requires before { before ≡ length (flat_map (λ block. block) (take sealed self.now.blocks)) }
         requires within { n ≤ length (get_or self.now.blocks sealed self.now.last) }
+        requires from { from ≤ before + n }
         requires updates { AllByRecursion (IsUpdate kinds.now)
             (flat_map (λ block. block) (take sealed self.now.blocks) ++ take n (get_or self.now.blocks sealed self.now.last)) }
         requires bounded { total_rows
             (flat_map (λ block. block) (take sealed self.now.blocks) ++ take n (get_or self.now.blocks sealed self.now.last)) ≤ 4294967295 }
         ensures { IfOk result (λ entries. entries.items
-            ≡ flat_map (λ block. block) (take sealed self.now.blocks) ++ take n (get_or self.now.blocks sealed self.now.last)) }
+            ≡ drop from (flat_map (λ block. block) (take sealed self.now.blocks) ++ take n (get_or self.now.blocks sealed self.now.last))) }
     {
-        let last = self.next(sealed).first(alloc, kinds, n)?;
-        let blocks = self.blocks.lent(alloc)?;
-        let entries = split_blocks(alloc, &blocks[..sealed], kinds)?;
-        last.split(alloc, kinds, entries)
+        let (first, start) = self.place_of(sealed, before, from);
+        let mut entries = Vec::with_capacity(alloc, before + n - from)?;
+        let mut skip = from - start;
+        for i in first..sealed {
+            let block = self.next(i);
+            entries = block.split(alloc, kinds, skip, block.len(), entries)?;
+            skip = 0;
+        }
+        self.next(sealed).split(alloc, kinds, skip, n, entries)
     }
 }

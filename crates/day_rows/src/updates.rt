@@ -268,15 +268,30 @@ impl Updates {
         Ok(order)
     }
 
-    /// Copies of the updates, in order. `kinds` are those of each table's columns.
-    pub fn entries(&self, alloc: Global, kinds: &[Kinds]) -> Result<Vec<Entry>, NoMemory>
-        requires few { length kinds.now ≤ 64 }
+    /// The number of updates.
+    pub fn len(&self) -> usize
+        ensures { result ≡ length self.now.updates }
+    {
+        self.shown
+    }
+
+    /// Copies of the updates from the index `from` on, in order. `kinds` are those of each table's columns. Blocks before
+    /// the update `from` cost nothing.
+    pub fn entries(
+        &self,
+        alloc: Global,
+        kinds: &[Kinds],
+        from: usize,
+    ) -> Result<Vec<Entry>, NoMemory>
         requires updates { AllByRecursion (IsUpdate kinds.now) self.now.updates }
         requires bounded { total_rows self.now.updates ≤ 4294967295 }
-        ensures { IfOk result (λ entries. entries.items ≡ self.now.updates) }
+        requires from { from ≤ length self.now.updates }
+        ensures { IfOk result (λ entries. entries.items ≡ drop from self.now.updates) }
     {
         let n = self.shown - self.before;
-        let found = self.store.entries(alloc, kinds, self.sealed, n)?;
+        let found = self
+            .store
+            .entries(alloc, kinds, self.sealed, self.before, n, from)?;
         Ok(found)
     }
 }

@@ -43,7 +43,7 @@ date_of-kept date (e.Upd by table columns ∷ es) all = date_of-kept date es all
 date_of-kept date (e.Roll by next ∷ es) all = absurd all.0
 date_of-kept date (e.Fault by ∷ es) all = date_of-kept date es all.1
 
-date_of-roll : (date next : ℤ) (by : ℕ) (es later : List Entry) → AllByRecursion KeepsDate es → date_of date (es ++ e.Roll by next ∷ later) ≡ date_of next later
+pub date_of-roll : (date next : ℤ) (by : ℕ) (es later : List Entry) → AllByRecursion KeepsDate es → date_of date (es ++ e.Roll by next ∷ later) ≡ date_of next later
 date_of-roll date next by [] later all = refl
 date_of-roll date next by (e.Upd own table columns ∷ es) later all = date_of-roll date next by es later all.1
 date_of-roll date next by (e.Roll own other ∷ es) later all = absurd all.0

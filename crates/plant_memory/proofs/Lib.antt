@@ -7,3 +7,4 @@ pub mod LawLemmas
 pub mod MadeLemmas
 pub mod MemoryLemmas
 pub mod ShownLemmas
+pub mod TailLemmas

@@ -17,6 +17,10 @@ pub record Past : Type 0 where
   pub by : ℕ
   pub next : ℤ
 
+-- the entries of a date that has ended: its updates and faults, and its roll
+abbrev pub entries_of : Past → List Entry
+entries_of past = woven past.marks past.day.updates ++ e.Roll past.by past.next ∷ []
+
 -- the updates and faults of the ended dates, each date followed by its roll, and those of the open one
 abbrev pub chronicle_of : List Past → List Entry → List Entry
 chronicle_of [] current = current

@@ -44,6 +44,12 @@ pub record SnapshotView : Type 0 where
   pub frame : Frame
   pub entries : List Entry
 
+-- a tail of a memory: its entries from an index on
+pub record TailView : Type 0 where
+  pub frame : Frame
+  pub entries : List Entry
+  pub from : ℕ
+
 -- the kinds of each table's columns
 abbrev pub kinds_of : List Shape → List (List Kind)
 kinds_of schema = map (λ shape. shape.kinds) schema
@@ -117,3 +123,8 @@ HasColumn schema = IsColumn (kinds_of schema)
 -- the dates of a snapshot are of the schema's tables
 pub record IsSnapshot (schema : List Shape) (history : HistoryView) : Type 0 where
   pub kinds_are : history.kinds ≡ kinds_of schema
+
+-- the dates of a tail are of the schema's tables, and its first entry is one of theirs, or the next
+pub record IsTail (schema : List Shape) (history : HistoryView) (from : ℕ) : Type 0 where
+  pub kinds_are : history.kinds ≡ kinds_of schema
+  pub within : from ≤ length history.entries

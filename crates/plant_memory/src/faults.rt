@@ -51,6 +51,13 @@ impl Faults {
         self.marks.len()
     }
 
+    /// The faults, in order.
+    pub fn marks(&self) -> &[Mark]
+        ensures { result.now ≡ self.now.marks }
+    {
+        self.marks.as_slice()
+    }
+
     /// Makes room for one more fault. An error changes nothing.
     pub fn reserve(&mut self) -> Result<(), NoMemory>
         ensures ok { OnOk result (self.new ≡ record self.old { spare = true }) }

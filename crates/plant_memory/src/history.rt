@@ -1,15 +1,16 @@
 //! The dates of a plant: those that have ended, which snapshots share, and the open one.
 ghost use Rattle.std.specs.Prelude.{◌≡◌, ◌<◌, ◌≤◌, ◌+◌, ◌-◌, ◌^◌, ◌<ℤ◌, ◌≤ℤ◌, pos, negsuc, [], ◌∷◌, ◌++◌, length, map, take, drop, true};
 ghost use Rattle.std.specs.Prelude.{IfOk, OnOk, OnErr, Some, slice_get, slice_index_or};
-ghost use Rattle.std.specs.List.{AllByRecursion};
+ghost use Rattle.std.specs.List.{AllByRecursion, flat_map};
 ghost use Rattle.q_values.specs.declared.kind.Kind.{Kind};
 ghost use Rattle.day_rows.specs.Chronicle.{date_of, DatesAscend};
 ghost use Rattle.day_rows.specs.Day.{IsUpdate, HasColumn, entry_rows, total_rows, settled};
 ghost use Rattle.day_rows.specs.Rows.{column_of};
 ghost use Rattle.plant_memory.specs.Chronicle.{by_of, index_after_roll, today, top_by, dates_of, date_at, rows_at, update_count};
-ghost use Rattle.plant_memory.specs.History.{IsColumn};
+ghost use Rattle.plant_memory.specs.History.{IsColumn, entries_of};
 
 use crate::faults::Faults;
+use crate::weaving::{place_of, weave};
 use day_rows::{ClosedDay, Entries, Entry, OpenDay, Schema};
 use q_values::{NoMemory, Vector};
 use std::alloc::Global;
@@ -43,6 +44,35 @@ impl Ended {
         ensures { result.now ≡ self.now.day }
     {
         &self.day
+    }
+
+    // The number of its entries, its roll included.
+    fn len(&self) -> u64
+        requires { length (entries_of self.now) < 2 ^ 64 }
+        ensures { result ≡ length (entries_of self.now) }
+    {
+        self.day.update_count() as u64 + self.faults.len() as u64 + 1
+    }
+
+    // Appends its entries from the index `from` on.
+    fn add_entries(
+        &self,
+        alloc: Global,
+        from: u64,
+        entries: &mut Vec<Entry>,
+    ) -> Result<(), NoMemory>
+        requires { from < length (entries_of self.now) }
+        ensures { OnOk result (entries.new.items ≡ entries.old.items ++ drop from (entries_of self.now)) }
+    {
+        let place = place_of(self.faults.marks(), self.day.update_count(), from);
+        let updates = self.day.updates_from(alloc, place.updates)?;
+        let marks = &self.faults.marks()[place.faults..];
+        weave(marks, place.since, updates, entries)?;
+        entries.push(Entry::Roll {
+            by: self.by,
+            date: self.next,
+        })?;
+        Ok(())
     }
 
     // The same date, whose content is shared and not copied.
@@ -136,6 +166,25 @@ fn shared_with(alloc: Global, ended: &[Ended], last: Ended) -> Result<Vec<Ended>
     let mut dates = shared(alloc, ended, 1)?;
     dates.push(last)?;
     Ok(dates)
+}
+
+// Of the dates that have ended and the open one: the index of the one that has the entry with the index `from`, and the
+// number of entries before that date. `opened_at` is the number of entries of the ended dates. The dates before it cost
+// nothing.
+fn date_with(ended: &[Ended], opened_at: u64, from: u64) -> (usize, u64)
+    requires { opened_at ≡ length (flat_map entries_of ended.now) }
+    ensures date { result.0 ≤ length ended.now }
+    ensures start { result.1 ≡ length (flat_map entries_of (take result.0 ended.now)) }
+    ensures after { result.1 ≤ from }
+    ensures within { result.0 < length ended.now → from < length (flat_map entries_of (take (result.0 + 1) ended.now)) }
+{
+    let mut date = ended.len();
+    let mut start = opened_at;
+    while from < start {
+        date -= 1;
+        start -= ended[date].len();
+    }
+    (date, start)
 }
 
 impl History {
@@ -419,5 +468,42 @@ impl History {
             return self.ended[k].day().column(alloc, table, column, from, n);
         }
         self.current.column(alloc, table, column, from, n)
+    }
+
+    // Appends the entries of the open date from the index `from` on.
+    fn add_today(&self, alloc: Global, from: u64, entries: &mut Vec<Entry>) -> Result<(), NoMemory>
+        requires { from ≤ length (today self.now.entries) }
+        ensures { OnOk result (entries.new.items ≡ entries.old.items ++ drop from (today self.now.entries)) }
+    {
+        let place = place_of(self.faults.marks(), self.current.update_count(), from);
+        let updates = self.current.updates_from(alloc, place.updates)?;
+        let marks = &self.faults.marks()[place.faults..];
+        weave(marks, place.since, updates, entries)
+    }
+
+    /// Copies of the entries from the index `from` on, in order: updates, faults and rolls. The dates before the one that
+    /// has the first of them cost nothing, and neither do the blocks of updates before it on that date.
+    pub fn entries_from(&self, alloc: Global, from: u64) -> Result<Entries, NoMemory>
+        requires { from ≤ length self.now.entries }
+        ensures { IfOk result (λ entries. entries ≡ drop from self.now.entries) }
+    {
+        let (first, start) = date_with(&self.ended, self.opened_at, from);
+        let mut entries = Vec::with_capacity(alloc, (self.length - from) as usize)?;
+        let mut skip = from - start;
+        for date in first..self.ended.len() {
+            self.ended[date].add_entries(alloc, skip, &mut entries)?;
+            skip = 0;
+        }
+        self.add_today(alloc, skip, &mut entries)?;
+        Ok(Entries::from_vec(entries))
+    }
+
+    /// The date that was open before the entry with the index `from`, in days since 2000.01.01.
+    pub fn date_before(&self, from: u64) -> i32
+        requires { from ≤ length self.now.entries }
+        ensures { result ≡ date_of self.now.first (take from self.now.entries) }
+    {
+        let (date, _) = date_with(&self.ended, self.opened_at, from);
+        self.date_at(date)
     }
 }

@@ -9,6 +9,8 @@
 //!   Between the two steps a caller may write the log record that [`Prepared`] holds to a disk.
 //! - [`Snapshot`] is the whole chronicle at one moment, read by date, table and column. It shares the dates that have
 //!   ended with the memory that it was taken of.
+//! - [`Tail`] is the chronicle at one moment too, from an index on: what a subscriber that has read up to there has yet to
+//!   be sent.
 //!
 //! ```text
 //! let mut memory = Memory::begin(alloc, schema, 8_767, &Limits::standard())?;    // 2024.01.02
@@ -37,6 +39,8 @@ mod prepared;
 mod refusal;
 mod request;
 mod snapshot;
+mod tail;
+mod weaving;
 
 pub use judge::is_next_day;
 pub use memory::Memory;
@@ -44,3 +48,4 @@ pub use prepared::{Prepared, PreparedRoll};
 pub use refusal::UpdRefusal;
 pub use request::UpdRequest;
 pub use snapshot::Snapshot;
+pub use tail::Tail;

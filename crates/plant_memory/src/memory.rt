@@ -18,10 +18,12 @@ use crate::prepared::{Prepared, PreparedRoll, entry_of, sole};
 use crate::refusal::UpdRefusal;
 use crate::request::UpdRequest;
 use crate::snapshot::Snapshot;
+use crate::tail::Tail;
 use day_rows::{Entries, Entry, OpenDay, Schema};
 use q_values::{Limits, NoMemory};
 use std::alloc::Global;
 use std::marker::Model;
+use std::sync::Arc;
 use tick_log::chunk_of;
 
 /// The number of entries from which on nothing more is prepared. No run reaches it.
@@ -30,8 +32,8 @@ const LONGEST_CHRONICLE: u64 = 9_223_372_036_854_775_808;
 /// A plant's entries in memory (KX, tick.q and r.q). Contracts see its frame, which no call changes, and its chronicle.
 #[derive(Drop)]
 pub struct Memory {
-    /// The tables.
-    pub(crate) schema: Schema,
+    /// The tables, which tails share.
+    pub(crate) schema: Arc<Schema>,
     /// The limits that updates are judged by.
     pub(crate) limits: Limits,
     /// The chronicle, kept date by date; its columns are of the schema's kinds.
@@ -43,9 +45,9 @@ impl Model for Memory {
 
     ghost Value = { MemoryView };
 
-    ghost view = { λ p. memory_of p.schema p.limits p.history };
+    ghost view = { λ p. memory_of p.schema.value p.limits p.history };
 
-    ghost invariant = { λ p. IsMemory p.schema p.limits p.history };
+    ghost invariant = { λ p. IsMemory p.schema.value p.limits p.history };
 }
 
 impl Memory {
@@ -68,7 +70,7 @@ impl Memory {
     {
         let history = History::new(alloc, &schema, date)?;
         Ok(Memory {
-            schema,
+            schema: Arc::new(alloc, schema)?,
             limits: *limits,
             history,
         })
@@ -341,9 +343,24 @@ impl Memory {
         ensures { IfOk result (λ s. s ≡ record { frame = self.now.frame; entries = self.now.entries }) }
     {
         Ok(Snapshot {
-            schema: std::snapshot::Snapshot::of(&self.schema),
+            schema: std::snapshot::Snapshot::of(self.schema()),
             limits: self.limits,
             history: self.history.copy(alloc)?,
+        })
+    }
+
+    /// The chronicle as it is now, from the index `from` on. It shares the dates that have ended, and the blocks of the open
+    /// one that are full: no row of them is copied.
+    pub fn tail(&self, alloc: Global, from: u64) -> Result<Tail, NoMemory>
+        requires { from ≤ length self.now.entries }
+        ensures { IfOk result (λ t. t ≡ record { frame = self.now.frame; entries = self.now.entries; from = from }) }
+    {
+        let history = self.history.copy(alloc)?;
+        Ok(Tail {
+            schema: self.schema.clone()?,
+            limits: self.limits,
+            history,
+            from,
         })
     }
 }

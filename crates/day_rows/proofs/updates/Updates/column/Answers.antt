@@ -1,7 +1,7 @@
 use Rattle.std.proofs.Common.{ap, ◌∙◌, take, drop}
 use Rattle.day_rows.specs.Blocks.{Kept, updates_in}
 use Rattle.day_rows.specs.Joined.{joined}
-use Rattle.day_rows.proofs.StoreLemmas.{part-shown}
+use Rattle.day_rows.proofs.PartLemmas.{part-shown}
 use Rattle.day_rows.proofs.updates.Updates.column.Goals as goal
 
 pub returns : goal.returns

@@ -1,8 +1,8 @@
-use Rattle.std.proofs.Common.{arith, ap, sym, subst, ◌∙◌}
+use Rattle.std.proofs.Common.{arith, ap, sym, subst, ◌∙◌, drop}
 use Rattle.std.specs.List.{AllByRecursion}
 use Rattle.day_rows.specs.Blocks.{Kept}
 use Rattle.day_rows.specs.Day.{IsUpdate, total_rows}
-use Rattle.day_rows.proofs.StoreLemmas.{first-all, first-whole}
+use Rattle.day_rows.proofs.KeptLemmas.{first-all, first-whole}
 use Rattle.day_rows.proofs.updates.Updates.entries.Goals as goal
 
 pub entries-requires-clause-updates : goal.entries-requires-clause-updates
@@ -46,4 +46,4 @@ returns c =
     let loose = c.self.inside.loose in
     let counts = c.self.inside.counts.items in
     let rows = c.self.inside.rows in
-    c.in_ok-found.ensures ∙ first-whole blocks last held shown room sealed before loose counts rows c.self.invariant ∙ ap (λ (k : Kept). k.updates) c.self.view_is
+    c.in_ok-found.ensures ∙ ap (drop c.args.from) (first-whole blocks last held shown room sealed before loose counts rows c.self.invariant ∙ ap (λ (k : Kept). k.updates) c.self.view_is)

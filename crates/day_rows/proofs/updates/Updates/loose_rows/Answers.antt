@@ -1,7 +1,7 @@
 use Rattle.std.proofs.Common.{ap, sym, ◌∙◌}
 use Rattle.day_rows.specs.Blocks.{Kept}
 use Rattle.day_rows.specs.Filled.{Filled, filled}
-use Rattle.day_rows.proofs.StoreLemmas.{loose-fits}
+use Rattle.day_rows.proofs.KeptLemmas.{loose-fits}
 use Rattle.day_rows.proofs.updates.Updates.loose_rows.Goals as goal
 
 pub returns-clause-below : goal.returns-clause-below

@@ -3,7 +3,7 @@ use Rattle.q_values.specs.Order.{IsOrder, atom_cmp}
 use Rattle.q_values.specs.declared.atom.Atom.{Atom}
 use Rattle.day_rows.specs.Blocks.{Kept, updates_in}
 use Rattle.day_rows.specs.Joined.{joined}
-use Rattle.day_rows.proofs.StoreLemmas.{part-shown}
+use Rattle.day_rows.proofs.PartLemmas.{part-shown}
 use Rattle.day_rows.proofs.updates.Updates.order.Goals as goal
 
 pub returns : goal.returns

@@ -3,7 +3,7 @@ use Rattle.std.proofs.lemmas.List.{length-set}
 use Rattle.day_rows.specs.Blocks.{Kept, updates_in, mark_of}
 use Rattle.day_rows.specs.Day.{total_rows}
 use Rattle.day_rows.proofs.BlockLemmas.{take_more_got}
-use Rattle.day_rows.proofs.StoreLemmas.{some-room, next-got, counts-fit, kept-pushed, room-left, loose-fits, sealed-few}
+use Rattle.day_rows.proofs.KeptLemmas.{some-room, next-got, counts-fit, kept-pushed, room-left, loose-fits, sealed-few}
 use Rattle.day_rows.proofs.updates.Updates.push.Goals as goal
 
 pub place_after-sealed-requires-clause-fits : goal.place_after-sealed-requires-clause-fits

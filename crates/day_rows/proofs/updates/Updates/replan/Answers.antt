@@ -5,7 +5,7 @@ use Rattle.day_rows.specs.Blocks.{Kept, updates_in}
 use Rattle.day_rows.specs.Day.{IsUpdate, entry_rows, total_rows}
 use Rattle.day_rows.specs.declared.entry.Entry.{Entry}
 use Rattle.day_rows.proofs.BlockLemmas.{all-right}
-use Rattle.day_rows.proofs.StoreLemmas.{loose-fits, first-all, first-whole, kept-first, kept-grown, length-shown, shown-planned, room-planned, enough-planned}
+use Rattle.day_rows.proofs.KeptLemmas.{loose-fits, first-all, first-whole, kept-first, kept-grown, length-shown, shown-planned, room-planned, enough-planned}
 use Rattle.day_rows.proofs.updates.Updates.replan.Goals as goal
 
 pub first-requires-clause-updates : goal.first-requires-clause-updates

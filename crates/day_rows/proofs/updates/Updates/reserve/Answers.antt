@@ -1,7 +1,8 @@
 use Rattle.std.proofs.Common.{arith, refl, ◌≡◌, ◌≤◌, ◌+◌, length, take}
 use Rattle.std.proofs.lemmas.List.{take_all}
 use Rattle.day_rows.specs.Blocks.{updates_in}
-use Rattle.day_rows.proofs.StoreLemmas.{longer, grows-whole, kept-grown, shown-planned, room-planned, enough-planned}
+use Rattle.day_rows.proofs.KeptLemmas.{grows-whole, kept-grown, shown-planned, room-planned, enough-planned}
+use Rattle.day_rows.proofs.StoreLemmas.{longer}
 use Rattle.day_rows.proofs.updates.Updates.reserve.Goals as goal
 
 pub extend-requires-clause-grows : goal.extend-requires-clause-grows

@@ -8,7 +8,7 @@ pub invariant_of-result : goal.invariant_of-result
 invariant_of-result c =
     let same : c.entry_of.result ≡ c.args.judged.update = search rules in
     let entries : c.of-of.result.value.entries ≡ c.args.self.now.entries = search rules in
-    let chunk : (before : ℕ) → before + entry_rows c.entry_of.result ≤ 4294967295 → IsChunk c.of-of.result.value.frame.schema before c.in_ok-chunk.chunk.bytes c.entry_of.result = rw (c.of-of.ensures, same) c.in_ok-chunk.ensures in
+    let chunk : (before : ℕ) → before + entry_rows c.entry_of.result ≤ 4294967295 → IsChunk c.of-of.result.value.frame.schema before c.in_ok-chunk.chunk.bytes c.entry_of.result = rw (c.of-of.ensures, same) (rw c.deref.ensures at c.in_ok-chunk.ensures) in
     let rolls = fresh-rolls _ _ c.in_ok-fresh.fresh c.in_ok-fresh.ensures.fresh in
     let few : 0 + entry_rows c.entry_of.result ≤ 4294967295 = rw same (omega (arith, c.requires.bounded)) in
     record {
