@@ -6,7 +6,7 @@ use q_unary::{aggregate, unary};
 use q_values::{Atom, Column, Kind, Vector};
 use q_verbs::{Side, Verb, Verb1, result_kind, result_kind1};
 use std::alloc::Global;
-use std::test::Fail;
+use std::process::Abort;
 
 // A test of the numbers of a column.
 #[derive(Clone, Copy, Debug)]
@@ -41,65 +41,75 @@ fn is_expected(case: Case, number: Option<i64>) -> bool {
     }
 }
 
-fn atom_of(kind: Kind, number: Option<i64>) -> Result<Atom, Fail> {
+fn atom_of(rt: &impl Abort, kind: Kind, number: Option<i64>) -> Atom {
     match atom_of_number(kind, number.unwrap_or(null_number(kind))) {
-        Some(atom) => Ok(atom),
-        None => Err(Fail::from("no number of the kind")),
+        Some(atom) => atom,
+        None => panic!(rt; "no number of the kind"),
     }
 }
 
-fn rows_of(alloc: Global, kind: Kind, count: u32) -> Result<Vector, Fail> {
+fn rows_of(rt: &impl Abort, alloc: Global, kind: Kind, count: u32) -> Vector {
     let mut rows = Vector::new(alloc, kind);
     for row in 0..count {
-        rows.push(atom_of(kind, number_at(row))?)?;
+        rows.push(atom_of(rt, kind, number_at(row)))
+            .expect(rt, "memory");
     }
-    Ok(rows)
+    rows
 }
 
 // The items of `in`.
-fn items_of(alloc: Global, kind: Kind, case: Case) -> Result<Vector, Fail> {
+fn items_of(rt: &impl Abort, alloc: Global, kind: Kind, case: Case) -> Vector {
     let mut items = Vector::new(alloc, kind);
     for number in -50..51i64 {
         if is_expected(case, Some(number)) {
-            items.push(atom_of(kind, Some(number))?)?;
+            items
+                .push(atom_of(rt, kind, Some(number)))
+                .expect(rt, "memory");
         }
     }
     if is_expected(case, None) {
-        items.push(atom_of(kind, None)?)?;
+        items.push(atom_of(rt, kind, None)).expect(rt, "memory");
     }
-    Ok(items)
+    items
 }
 
-fn among(alloc: Global, rows: &Vector, kind: Kind, case: Case) -> Result<Vector, Fail> {
-    let items = items_of(alloc, kind, case)?;
+fn among(rt: &impl Abort, alloc: Global, rows: &Vector, kind: Kind, case: Case) -> Vector {
+    let items = items_of(rt, alloc, kind, case);
     let left = Side::Column(rows);
     let right = Side::Column(&items);
     if result_kind(Verb::In, left.kind(), right.kind()).is_none() {
-        return Err(Fail::from("no such kinds"));
+        panic!(rt; "no such kinds");
     }
-    let found = is_in(alloc, &left, &right)?;
-    Ok(found)
+    let found = is_in(alloc, &left, &right).expect(rt, "memory");
+    found
 }
 
-fn between(alloc: Global, rows: &Vector, low: &Atom, high: &Atom) -> Result<Vector, Fail> {
+fn between(rt: &impl Abort, alloc: Global, rows: &Vector, low: &Atom, high: &Atom) -> Vector {
     let left = Side::Column(rows);
     if high.kind() != low.kind() || result_kind(Verb::Within, left.kind(), low.kind()).is_none() {
-        return Err(Fail::from("no such kinds"));
+        panic!(rt; "no such kinds");
     }
-    let found = is_within(alloc, &left, low, high)?;
-    Ok(found)
+    let found = is_within(alloc, &left, low, high).expect(rt, "memory");
+    found
 }
 
-fn found_of(alloc: Global, rows: &Vector, kind: Kind, case: Case) -> Result<Vector, Fail> {
+fn found_of(rt: &impl Abort, alloc: Global, rows: &Vector, kind: Kind, case: Case) -> Vector {
     match case {
-        Case::Few | Case::Many => among(alloc, rows, kind, case),
+        Case::Few | Case::Many => among(rt, alloc, rows, kind, case),
         Case::Between => between(
+            rt,
             alloc,
             rows,
-            &atom_of(kind, Some(-10))?,
-            &atom_of(kind, Some(10))?,
+            &atom_of(rt, kind, Some(-10)),
+            &atom_of(rt, kind, Some(10)),
         ),
-        Case::FromNull => between(alloc, rows, &atom_of(kind, None)?, &atom_of(kind, Some(5))?),
+        Case::FromNull => between(
+            rt,
+            alloc,
+            rows,
+            &atom_of(rt, kind, None),
+            &atom_of(rt, kind, Some(5)),
+        ),
     }
 }
 
@@ -132,60 +142,57 @@ const KINDS: [(Kind, Kind); 8] = [
 const CASES: [Case; 4] = [Case::Few, Case::Many, Case::Between, Case::FromNull];
 
 // The first kinds at which a case fails.
-fn first_failure(alloc: Global, count: u32) -> Result<Option<(Kind, Kind, Case)>, Fail> {
+fn first_failure(rt: &impl Abort, alloc: Global, count: u32) -> Option<(Kind, Kind, Case)> {
     for (kind, other) in KINDS {
-        let rows = rows_of(alloc, kind, count)?;
+        let rows = rows_of(rt, alloc, kind, count);
         for case in CASES {
-            let found = found_of(alloc, &rows, other, case)?;
+            let found = found_of(rt, alloc, &rows, other, case);
             if !is_right(&found, count, case) {
-                return Ok(Some((kind, other, case)));
+                return Some((kind, other, case));
             }
         }
     }
-    Ok(None)
+    None
 }
 
 #[test]
-fn a_thousand_rows(rt: HostRuntime) -> Result<(), Fail> {
-    assert!(rt; first_failure(rt.alloc(), 1_000)?.is_none());
-    Ok(())
+fn a_thousand_rows(rt: HostRuntime) {
+    assert!(rt; first_failure(&rt, rt.alloc(), 1_000).is_none());
 }
 
 #[test]
-fn a_hundred_thousand_rows(rt: HostRuntime) -> Result<(), Fail> {
-    assert!(rt; first_failure(rt.alloc(), 100_000)?.is_none());
-    Ok(())
+fn a_hundred_thousand_rows(rt: HostRuntime) {
+    assert!(rt; first_failure(&rt, rt.alloc(), 100_000).is_none());
 }
 
-fn is_atom(alloc: Global, found: Atom, wanted: Atom) -> Result<bool, Fail> {
-    let some = vector_of_atom(alloc, found)?;
-    let other = vector_of_atom(alloc, wanted)?;
-    Ok(is_same(&some, &other))
+fn is_atom(rt: &impl Abort, alloc: Global, found: Atom, wanted: Atom) -> bool {
+    let some = vector_of_atom(rt, alloc, found);
+    let other = vector_of_atom(rt, alloc, wanted);
+    is_same(&some, &other)
 }
 
 // Whether the least, the greatest and the numbers negated are those of the rows.
-fn ends_are_right(alloc: Global, kind: Kind) -> Result<bool, Fail> {
-    let rows = rows_of(alloc, kind, 100_000)?;
+fn ends_are_right(rt: &impl Abort, alloc: Global, kind: Kind) -> bool {
+    let rows = rows_of(rt, alloc, kind, 100_000);
     if result_kind1(Verb1::Min, rows.kind()).is_none()
         || result_kind1(Verb1::Neg, rows.kind()).is_none()
     {
-        return Ok(false);
+        return false;
     }
-    let least = aggregate(alloc, Verb1::Min, &rows)?;
-    let negated = unary(alloc, Verb1::Neg, &rows)?;
+    let least = aggregate(alloc, Verb1::Min, &rows).expect(rt, "memory");
+    let negated = unary(alloc, Verb1::Neg, &rows).expect(rt, "memory");
     if result_kind1(Verb1::Max, negated.kind()).is_none() {
-        return Ok(false);
+        return false;
     }
-    let greatest = aggregate(alloc, Verb1::Max, &negated)?;
-    let low = is_atom(alloc, least, atom_of(kind, Some(-50))?)?;
-    let high = is_atom(alloc, greatest, atom_of(kind, Some(50))?)?;
-    Ok(low && high)
+    let greatest = aggregate(alloc, Verb1::Max, &negated).expect(rt, "memory");
+    let low = is_atom(rt, alloc, least, atom_of(rt, kind, Some(-50)));
+    let high = is_atom(rt, alloc, greatest, atom_of(rt, kind, Some(50)));
+    low && high
 }
 
 #[test]
-fn ends_of_a_hundred_thousand_rows(rt: HostRuntime) -> Result<(), Fail> {
+fn ends_of_a_hundred_thousand_rows(rt: HostRuntime) {
     for kind in [Kind::Short, Kind::Integer, Kind::Long, Kind::Timespan] {
-        assert!(rt; ends_are_right(rt.alloc(), kind)?);
+        assert!(rt; ends_are_right(&rt, rt.alloc(), kind));
     }
-    Ok(())
 }

@@ -9,10 +9,10 @@ use crate::{kinds_rows, one_side_rows, two_sides_rows};
 use q_binary::binary;
 use q_matching::{is_in, is_like, is_within};
 use q_unary::{aggregate, unary};
-use q_values::{Atom, Column, Kind, NoMemory, Sym, Symbols, Vector};
+use q_values::{Atom, Column, Kind, Sym, Symbols, Vector};
 use q_verbs::{Side, Verb, Verb1, result_kind, result_kind1};
 use std::alloc::Global;
-use std::test::Fail;
+use std::process::Abort;
 
 // The kind of a letter (KX, Datatypes reference).
 fn kind_of_letter(letter: u8) -> Option<Kind> {
@@ -102,42 +102,42 @@ pub(crate) fn atom_of_number(kind: Kind, number: i64) -> Option<Atom> {
     }
 }
 
-fn atom_of_word(alloc: Global, kind: Kind, word: &str) -> Result<Option<Atom>, Fail> {
+fn atom_of_word(rt: &impl Abort, alloc: Global, kind: Kind, word: &str) -> Option<Atom> {
     if let Some(name) = word.strip_prefix('`') {
-        let symbol = Sym::of(alloc, name.as_bytes())?;
-        return Ok(Some(Atom::Symbol(symbol)));
+        let symbol = Sym::of(alloc, name.as_bytes()).expect(rt, "memory");
+        return Some(Atom::Symbol(symbol));
     }
     match number_of(kind, word) {
-        Some(number) => Ok(atom_of_number(kind, number)),
-        None => Ok(None),
+        Some(number) => atom_of_number(kind, number),
+        None => None,
     }
 }
 
-fn vector_of_words(alloc: Global, kind: Kind, words: &str) -> Result<Vector, Fail> {
+fn vector_of_words(rt: &impl Abort, alloc: Global, kind: Kind, words: &str) -> Vector {
     let mut items = Vector::new(alloc, kind);
     for word in words.split_ascii_whitespace() {
-        match atom_of_word(alloc, kind, word)? {
-            Some(atom) => items.push(atom)?,
-            None => return Err(Fail::from("no item of the kind")),
+        match atom_of_word(rt, alloc, kind, word) {
+            Some(atom) => items.push(atom).expect(rt, "memory"),
+            None => panic!(rt; "no item of the kind"),
         }
     }
-    Ok(items)
+    items
 }
 
-fn vector_of_text(alloc: Global, text: &str) -> Result<Vector, Fail> {
+fn vector_of_text(rt: &impl Abort, alloc: Global, text: &str) -> Vector {
     let mut items = Vector::new(alloc, Kind::Character);
     for byte in text.as_bytes() {
-        items.push(Atom::Character(*byte))?;
+        items.push(Atom::Character(*byte)).expect(rt, "memory");
     }
-    Ok(items)
+    items
 }
 
 // A column as a row writes it.
-fn vector_of(alloc: Global, column: &str) -> Result<Vector, Fail> {
+fn vector_of(rt: &impl Abort, alloc: Global, column: &str) -> Vector {
     let (front, words) = column.split_once(' ').unwrap_or((column, ""));
     match kind_of_word(front) {
-        Some(kind) => vector_of_words(alloc, kind, words),
-        None => vector_of_text(alloc, words),
+        Some(kind) => vector_of_words(rt, alloc, kind, words),
+        None => vector_of_text(rt, alloc, words),
     }
 }
 
@@ -188,116 +188,123 @@ fn gives_an_atom(verb: Verb1) -> bool
 }
 
 fn by_place(
+    rt: &impl Abort,
     alloc: Global,
     verb: Verb,
     left: &Vector,
     right: &Vector,
-) -> Result<Option<Vector>, NoMemory> {
+) -> Option<Vector> {
     if !goes_by_place(verb) || left.len() != right.len() {
-        return Ok(None);
+        return None;
     }
     match result_kind(verb, left.kind(), right.kind()) {
         Some(_) => {
-            let found = binary(alloc, verb, &Side::Column(left), &Side::Column(right))?;
-            Ok(Some(found))
+            let found = binary(alloc, verb, &Side::Column(left), &Side::Column(right)).expect(
+                rt, "memory",
+            );
+            Some(found)
         }
-        None => Ok(None),
+        None => None,
     }
 }
 
-fn among(alloc: Global, left: &Side<'_>, items: &Side<'_>) -> Result<Option<Vector>, NoMemory> {
+fn among(rt: &impl Abort, alloc: Global, left: &Side<'_>, items: &Side<'_>) -> Option<Vector> {
     match result_kind(Verb::In, left.kind(), items.kind()) {
         Some(_) => {
-            let found = is_in(alloc, left, items)?;
-            Ok(Some(found))
+            let found = is_in(alloc, left, items).expect(rt, "memory");
+            Some(found)
         }
-        None => Ok(None),
+        None => None,
     }
 }
 
 fn between_atoms(
+    rt: &impl Abort,
     alloc: Global,
     left: &Side<'_>,
     low: &Atom,
     high: &Atom,
-) -> Result<Option<Vector>, NoMemory> {
+) -> Option<Vector> {
     if high.kind() != low.kind() {
-        return Ok(None);
+        return None;
     }
     match result_kind(Verb::Within, left.kind(), low.kind()) {
         Some(_) => {
-            let found = is_within(alloc, left, low, high)?;
-            Ok(Some(found))
+            let found = is_within(alloc, left, low, high).expect(rt, "memory");
+            Some(found)
         }
-        None => Ok(None),
+        None => None,
     }
 }
 
-fn between(alloc: Global, left: &Side<'_>, ends: &Vector) -> Result<Option<Vector>, NoMemory> {
+fn between(rt: &impl Abort, alloc: Global, left: &Side<'_>, ends: &Vector) -> Option<Vector> {
     if ends.len() != 2 {
-        return Ok(None);
+        return None;
     }
-    let low = ends.at(alloc, 0)?;
-    let high = ends.at(alloc, 1)?;
-    let found = between_atoms(alloc, left, &low, &high)?;
-    Ok(found)
+    let low = ends.at(alloc, 0).expect(rt, "memory");
+    let high = ends.at(alloc, 1).expect(rt, "memory");
+    let found = between_atoms(rt, alloc, left, &low, &high);
+    found
 }
 
-fn alike(alloc: Global, left: &Side<'_>, pattern: &Vector) -> Result<Option<Vector>, NoMemory> {
+fn alike(rt: &impl Abort, alloc: Global, left: &Side<'_>, pattern: &Vector) -> Option<Vector> {
     if left.kind() != Kind::Symbol {
-        return Ok(None);
+        return None;
     }
     match pattern.column() {
         Column::Bytes(_, bytes) => {
-            let found = is_like(alloc, left, bytes)?;
-            Ok(Some(found))
+            let found = is_like(alloc, left, bytes).expect(rt, "memory");
+            Some(found)
         }
-        _ => Ok(None),
+        _ => None,
     }
 }
 
 // What a verb that tests the items of a side finds.
 fn found_of_test(
+    rt: &impl Abort,
     alloc: Global,
     verb: Verb,
     left: &Side<'_>,
     right: &Vector,
-) -> Result<Option<Vector>, NoMemory> {
+) -> Option<Vector> {
     match verb {
-        Verb::In => among(alloc, left, &Side::Column(right)),
-        Verb::Within => between(alloc, left, right),
-        Verb::Like => alike(alloc, left, right),
-        _ => Ok(None),
+        Verb::In => among(rt, alloc, left, &Side::Column(right)),
+        Verb::Within => between(rt, alloc, left, right),
+        Verb::Like => alike(rt, alloc, left, right),
+        _ => None,
     }
 }
 
 // The verb's result for the two columns; `None` where it doesn't take them.
 fn found_of_two(
+    rt: &impl Abort,
     alloc: Global,
     verb: Verb,
     left: &Vector,
     right: &Vector,
-) -> Result<Option<Vector>, NoMemory> {
+) -> Option<Vector> {
     if goes_by_place(verb) {
-        by_place(alloc, verb, left, right)
+        by_place(rt, alloc, verb, left, right)
     } else {
-        found_of_test(alloc, verb, &Side::Column(left), right)
+        found_of_test(rt, alloc, verb, &Side::Column(left), right)
     }
 }
 
 // The verb's result without items at the left.
 fn found_of_no_left(
+    rt: &impl Abort,
     alloc: Global,
     verb: Verb,
     left: &Vector,
     right: &Vector,
-) -> Result<Option<Vector>, NoMemory> {
+) -> Option<Vector> {
     let none = Vector::new(alloc, left.kind());
     if goes_by_place(verb) {
         let none_right = Vector::new(alloc, right.kind());
-        found_of_two(alloc, verb, &none, &none_right)
+        found_of_two(rt, alloc, verb, &none, &none_right)
     } else {
-        found_of_two(alloc, verb, &none, right)
+        found_of_two(rt, alloc, verb, &none, right)
     }
 }
 
@@ -310,215 +317,228 @@ fn is_wanted(found: Option<Vector>, wanted: &Vector) -> bool {
 
 // The verb's result for these sides, of which not both are columns.
 fn found_of_sides(
+    rt: &impl Abort,
     alloc: Global,
     verb: Verb,
     left: &Side<'_>,
     right: &Side<'_>,
-) -> Result<Option<Vector>, NoMemory>
+) -> Option<Vector>
     requires { AreBeside left.now right.now }
 {
     if !goes_by_place(verb) || result_kind(verb, left.kind(), right.kind()).is_none() {
-        return Ok(None);
+        return None;
     }
-    let found = binary(alloc, verb, left, right)?;
-    Ok(Some(found))
+    let found = binary(alloc, verb, left, right).expect(rt, "memory");
+    Some(found)
 }
 
 // Whether the item at the index is the one that is wanted there, and the items are as many.
 fn has_item(
+    rt: &impl Abort,
     found: Option<Vector>,
     wanted: &Vector,
     i: usize,
     alloc: Global,
-) -> Result<bool, NoMemory> {
+) -> bool {
     let Some(found) = found else {
-        return Ok(false);
+        return false;
     };
     if found.len() != wanted.len() || i >= wanted.len() {
-        return Ok(false);
+        return false;
     }
-    let some = found.take(alloc, i, 1)?;
-    let other = wanted.take(alloc, i, 1)?;
-    Ok(is_same(&some, &other))
+    let some = found.take(alloc, i, 1).expect(rt, "memory");
+    let other = wanted.take(alloc, i, 1).expect(rt, "memory");
+    is_same(&some, &other)
 }
 
 // Whether the verb gives the item that is wanted at the index where an atom stands for a column, or for each.
 fn atoms_give(
+    rt: &impl Abort,
     alloc: Global,
     verb: Verb,
     left: &Vector,
     right: &Vector,
     wanted: &Vector,
     i: usize,
-) -> Result<bool, NoMemory> {
+) -> bool {
     if i >= left.len() || i >= right.len() || i >= wanted.len() {
-        return Ok(false);
+        return false;
     }
-    let some = left.at(alloc, i)?;
-    let other = right.at(alloc, i)?;
-    let from_left = found_of_sides(alloc, verb, &Side::Atom(&some), &Side::Column(right))?;
-    let from_right = found_of_sides(alloc, verb, &Side::Column(left), &Side::Atom(&other))?;
-    let of_atoms = found_of_sides(alloc, verb, &Side::Atom(&some), &Side::Atom(&other))?;
-    let one = wanted.take(alloc, i, 1)?;
-    let left_holds = has_item(from_left, wanted, i, alloc)?;
-    let right_holds = has_item(from_right, wanted, i, alloc)?;
-    let both_hold = has_item(of_atoms, &one, 0, alloc)?;
-    Ok(left_holds && right_holds && both_hold)
+    let some = left.at(alloc, i).expect(rt, "memory");
+    let other = right.at(alloc, i).expect(rt, "memory");
+    let from_left = found_of_sides(rt, alloc, verb, &Side::Atom(&some), &Side::Column(right));
+    let from_right = found_of_sides(rt, alloc, verb, &Side::Column(left), &Side::Atom(&other));
+    let of_atoms = found_of_sides(rt, alloc, verb, &Side::Atom(&some), &Side::Atom(&other));
+    let one = wanted.take(alloc, i, 1).expect(rt, "memory");
+    let left_holds = has_item(rt, from_left, wanted, i, alloc);
+    let right_holds = has_item(rt, from_right, wanted, i, alloc);
+    let both_hold = has_item(rt, of_atoms, &one, 0, alloc);
+    left_holds && right_holds && both_hold
 }
 
 // Whether a verb that tests the items of a side gives the same for each item as an atom.
 fn tests_hold(
+    rt: &impl Abort,
     alloc: Global,
     verb: Verb,
     left: &Vector,
     right: &Vector,
     wanted: &Vector,
-) -> Result<bool, NoMemory> {
+) -> bool {
     for i in 0..left.len() {
         if i >= wanted.len() {
-            return Ok(false);
+            return false;
         }
-        let atom = left.at(alloc, i)?;
-        let one = wanted.take(alloc, i, 1)?;
-        let found = found_of_test(alloc, verb, &Side::Atom(&atom), right)?;
-        if !has_item(found, &one, 0, alloc)? {
-            return Ok(false);
+        let atom = left.at(alloc, i).expect(rt, "memory");
+        let one = wanted.take(alloc, i, 1).expect(rt, "memory");
+        let found = found_of_test(rt, alloc, verb, &Side::Atom(&atom), right);
+        if !has_item(rt, found, &one, 0, alloc) {
+            return false;
         }
     }
-    Ok(true)
+    true
 }
 
 // Whether each item of the row stands as an atom beside the other column.
 fn atoms_hold(
+    rt: &impl Abort,
     alloc: Global,
     verb: Verb,
     left: &Vector,
     right: &Vector,
     wanted: &Vector,
-) -> Result<bool, NoMemory> {
+) -> bool {
     if !goes_by_place(verb) {
-        return tests_hold(alloc, verb, left, right, wanted);
+        return tests_hold(rt, alloc, verb, left, right, wanted);
     }
     for i in 0..left.len() {
-        if !atoms_give(alloc, verb, left, right, wanted, i)? {
-            return Ok(false);
+        if !atoms_give(rt, alloc, verb, left, right, wanted, i) {
+            return false;
         }
     }
-    Ok(true)
+    true
 }
 
 fn two_sides_give(
+    rt: &impl Abort,
     alloc: Global,
     verb: Verb,
     left: &Vector,
     right: &Vector,
     wanted: &Vector,
-) -> Result<bool, NoMemory> {
-    let found = found_of_two(alloc, verb, left, right)?;
+) -> bool {
+    let found = found_of_two(rt, alloc, verb, left, right);
     if !is_wanted(found, wanted) {
-        return Ok(false);
+        return false;
     }
-    let none = found_of_no_left(alloc, verb, left, right)?;
-    let atoms = atoms_hold(alloc, verb, left, right, wanted)?;
-    Ok(atoms && is_wanted(none, &Vector::new(alloc, wanted.kind())))
+    let none = found_of_no_left(rt, alloc, verb, left, right);
+    let atoms = atoms_hold(rt, alloc, verb, left, right, wanted);
+    atoms && is_wanted(none, &Vector::new(alloc, wanted.kind()))
 }
 
 // Whether the verb's result is that of the row, and without items is empty.
-fn row_holds(alloc: Global, verb: Verb, row: &str) -> Result<bool, Fail> {
+fn row_holds(rt: &impl Abort, alloc: Global, verb: Verb, row: &str) -> bool {
     let (sides, result) = row.rsplit_once("; ").unwrap_or((row, ""));
     let (left, right) = sides.split_once("; ").unwrap_or((sides, ""));
-    let left = vector_of(alloc, left)?;
-    let right = vector_of(alloc, right)?;
-    let wanted = vector_of(alloc, result)?;
-    let holds = two_sides_give(alloc, verb, &left, &right, &wanted)?;
-    Ok(holds)
+    let left = vector_of(rt, alloc, left);
+    let right = vector_of(rt, alloc, right);
+    let wanted = vector_of(rt, alloc, result);
+    let holds = two_sides_give(rt, alloc, verb, &left, &right, &wanted);
+    holds
 }
 
 // A column of one.
-pub(crate) fn vector_of_atom(alloc: Global, atom: Atom) -> Result<Vector, Fail> {
+pub(crate) fn vector_of_atom(rt: &impl Abort, alloc: Global, atom: Atom) -> Vector {
     let mut items = Vector::new(alloc, atom.kind());
-    items.push(atom)?;
-    Ok(items)
+    items.push(atom).expect(rt, "memory");
+    items
 }
 
 // The verb's result for the column; `None` where it doesn't take it.
-fn found_of_one(alloc: Global, verb: Verb1, items: &Vector) -> Result<Option<Vector>, Fail> {
+fn found_of_one(rt: &impl Abort, alloc: Global, verb: Verb1, items: &Vector) -> Option<Vector> {
     if result_kind1(verb, items.kind()).is_none() {
-        return Ok(None);
+        return None;
     }
     if gives_a_list(verb) {
-        let found = unary(alloc, verb, items)?;
-        return Ok(Some(found));
+        let found = unary(alloc, verb, items).expect(rt, "memory");
+        return Some(found);
     }
     if gives_an_atom(verb) {
-        let atom = aggregate(alloc, verb, items)?;
-        let found = vector_of_atom(alloc, atom)?;
-        return Ok(Some(found));
+        let atom = aggregate(alloc, verb, items).expect(rt, "memory");
+        let found = vector_of_atom(rt, alloc, atom);
+        return Some(found);
     }
-    Ok(None)
+    None
 }
 
 // Whether the verb makes an atom, or of an empty column an empty one.
-fn none_is_none(alloc: Global, verb: Verb1, items: &Vector, wanted: &Vector) -> Result<bool, Fail> {
+fn none_is_none(
+    rt: &impl Abort,
+    alloc: Global,
+    verb: Verb1,
+    items: &Vector,
+    wanted: &Vector,
+) -> bool {
     if !gives_a_list(verb) {
-        return Ok(true);
+        return true;
     }
-    let found = found_of_one(alloc, verb, &Vector::new(alloc, items.kind()))?;
-    Ok(is_wanted(found, &Vector::new(alloc, wanted.kind())))
+    let found = found_of_one(rt, alloc, verb, &Vector::new(alloc, items.kind()));
+    is_wanted(found, &Vector::new(alloc, wanted.kind()))
 }
 
-fn row_holds_of_one(alloc: Global, verb: Verb1, row: &str) -> Result<bool, Fail> {
+fn row_holds_of_one(rt: &impl Abort, alloc: Global, verb: Verb1, row: &str) -> bool {
     let (items, result) = row.split_once("; ").unwrap_or((row, ""));
-    let items = vector_of(alloc, items)?;
-    let wanted = vector_of(alloc, result)?;
-    let found = found_of_one(alloc, verb, &items)?;
+    let items = vector_of(rt, alloc, items);
+    let wanted = vector_of(rt, alloc, result);
+    let found = found_of_one(rt, alloc, verb, &items);
     if !is_wanted(found, &wanted) {
-        return Ok(false);
+        return false;
     }
-    none_is_none(alloc, verb, &items, &wanted)
+    none_is_none(rt, alloc, verb, &items, &wanted)
 }
 
 /// The first of the rows where the verb has another result.
 pub(crate) fn first_wrong(
+    rt: &impl Abort,
     alloc: Global,
     verb: Verb,
     rows: &[&'static str],
-) -> Result<Option<&'static str>, Fail> {
+) -> Option<&'static str> {
     for row in rows {
-        if !row_holds(alloc, verb, row)? {
-            return Ok(Some(*row));
+        if !row_holds(rt, alloc, verb, row) {
+            return Some(*row);
         }
     }
-    Ok(None)
+    None
 }
 
 /// The same for a verb with one side.
 pub(crate) fn first_wrong_of_one(
+    rt: &impl Abort,
     alloc: Global,
     verb: Verb1,
     rows: &[&'static str],
-) -> Result<Option<&'static str>, Fail> {
+) -> Option<&'static str> {
     for row in rows {
-        if !row_holds_of_one(alloc, verb, row)? {
-            return Ok(Some(*row));
+        if !row_holds_of_one(rt, alloc, verb, row) {
+            return Some(*row);
         }
     }
-    Ok(None)
+    None
 }
 
 #[test]
-fn each_row_of_the_verbs(rt: HostRuntime) -> Result<(), Fail> {
+fn each_row_of_the_verbs(rt: HostRuntime) {
     for (verb, rows) in two_sides_rows::TWO_SIDES {
-        assert_eq!(rt; first_wrong(rt.alloc(), verb, rows)?, None, "{verb:?}");
+        assert_eq!(rt; first_wrong(&rt, rt.alloc(), verb, rows), None, "{verb:?}");
     }
     for (verb, rows) in one_side_rows::ONE_SIDE {
         assert_eq!(rt;
-            first_wrong_of_one(rt.alloc(), verb, rows)?,
+            first_wrong_of_one(&rt, rt.alloc(), verb, rows),
             None,
             "{verb:?}"
         );
     }
-    Ok(())
 }
 
 // Whether the kinds of the verb's results are those of the line, where the left side has this kind.
