@@ -1,7 +1,7 @@
 -- Batches of updates, one after the other.
 use Rattle.std.proofs.Common.{add-one, ◌⊎◌, inl, inr, Option, ◌≡◌, ℕ, ℤ, zero, suc, ◌+◌, ◌*◌, ◌/◌, ◌<◌, ◌≤◌, ◌++◌, true, Some, None, List, [], ◌∷◌, length, map, take, drop, get_or, refl, sym, ap, ap₂, ◌∙◌, subst, arith, slice_get}
 use Rattle.std.specs.List.{flat_map, range_with_len, AllByRecursion}
-use Rattle.std.proofs.lemmas.List.{append-nil, append_assoc, length-append, take_all, take_at, take_more, take-append-drop, drop_at, drop_all, drop-drop, drop_more}
+use Rattle.std.proofs.lemmas.List.{append-nil, append_assoc, length-append, take_all, take_at, take_more, take-append-drop, drop_at, drop-drop, drop_more}
 use Rattle.std.proofs.lemmas.List.Concat.{flat_map-append}
 use Rattle.q_values.specs.declared.atom.Atom.{Atom}
 use Rattle.day_rows.specs.Chronicle.{KeepsDate}
@@ -9,7 +9,7 @@ use Rattle.day_rows.specs.declared.entry.Entry.{Entry}
 use Rattle.day_rows.specs.declared.entry.Entry.TheVariants as e
 use Rattle.day_rows.specs.declared.schema.Shape.{Shape}
 use Rattle.pubsub.specs.Filters.{Subscribed}
-use Rattle.pubsub.specs.Steps.{IsBatch, IsRoll, BeginsWithin, told_one, date_after}
+use Rattle.pubsub.specs.Steps.{IsBatch, IsRoll, told_one, date_after}
 use Rattle.pubsub.specs.Told.{Publication, published, rows_told, end_told, lines_in, updates_today, batches_of, batch_told, told_today, told_later, told}
 
 -- ---- cutting after every 16
@@ -123,17 +123,7 @@ roll_more s first date next entries from entry before after from_in read is so_f
     ∙ ap (λ (ps : List Publication). before ++ ps) (sym (roll_then s date entry rest is) ∙ ap (told true s date) (sym here))
     ∙ so_far
 
--- the end of the entries
-pub batches_all : (s : Subscribed) (first date : ℤ) (entries : List Entry) (from : ℕ) (told_so_far : List Publication) → length entries ≤ from → told_so_far ++ told true s date (drop from entries) ≡ told true s first entries → told_so_far ≡ told true s first entries
-batches_all s first date entries from told_so_far past so_far =
-    sym (append-nil told_so_far) ∙ ap (λ (es : List Entry). told_so_far ++ told true s date es) (sym (drop_all from entries past)) ∙ so_far
-
 -- ---- where a batch ends
-
-updates-first : (entry : Entry) (entries : List Entry) → KeepsDate entry → length (updates_today (entry ∷ entries)) ≡ length (updates_today (entry ∷ [])) + length (updates_today entries)
-updates-first (e.Upd by table columns) entries keeps = omega arith
-updates-first (e.Roll by next) entries keeps = absurd keeps
-updates-first (e.Fault by) entries keeps = omega arith
 
 count-append : (xs ys : List Entry) → AllByRecursion KeepsDate xs → length (updates_today (xs ++ ys)) ≡ length (updates_today xs) + length (updates_today ys)
 count-append xs ys quiet = ap length (updates-append xs ys quiet) ∙ length-append (updates_today xs) (updates_today ys)
@@ -151,44 +141,9 @@ pub count_more : (entries : List Entry) (i : ℕ) (entry : Entry) → i < length
 count_more entries i entry i_in is quiet =
     ap (λ (es : List Entry). length (updates_today es)) (take_more entries i entry i_in ∙ ap (λ (x : Entry). take i entries ++ x ∷ []) (sym is)) ∙ count-append (take i entries) (entry ∷ []) quiet
 
-roll-first : (entry : Entry) (entries : List Entry) → IsRoll entry → updates_today (entry ∷ entries) ≡ []
-roll-first (e.Upd by table columns) entries is = absurd is
-roll-first (e.Roll by next) entries is = refl
-roll-first (e.Fault by) entries is = absurd is
-
--- a batch that a roll ends
-pub ends_at_roll : (entries : List Entry) (i count : ℕ) (entry : Entry) → i < length entries → entry ≡ get_or entries i entry → AllByRecursion KeepsDate (take i entries) → length (updates_today (take i entries)) ≡ count → count < 16 → IsRoll entry → IsBatch entries i
-ends_at_roll entries i count entry i_in read quiet size few roll = record {
-  quiet = quiet;
-  full = inr (omega (arith, size, few), ap updates_today (drop_more entries i entry i_in ∙ ap (λ (x : Entry). x ∷ drop (i + 1) entries) (sym read)) ∙ roll-first entry (drop (i + 1) entries) roll);
-}
-
--- a roll that begins the entries
-pub begins_late : (entries : List Entry) (i : ℕ) (entry : Entry) → entry ≡ get_or entries i entry → IsRoll entry → BeginsWithin entries → 0 < i
-begins_late [] i entry read roll begins = absurd begins
-begins_late (x ∷ entries) zero entry read roll begins = absurd (both x begins (subst IsRoll read roll))
-  where
-    both : (x : Entry) → KeepsDate x → IsRoll x → ⊥
-    both (e.Upd by table columns) keeps is = is
-    both (e.Roll by next) keeps is = keeps
-    both (e.Fault by) keeps is = is
-begins_late (x ∷ entries) (suc i) entry read roll begins = omega arith
-
--- a full batch, and a last one
+-- a full batch
 pub ends_full : (entries : List Entry) (n : ℕ) → AllByRecursion KeepsDate (take n entries) → length (updates_today (take n entries)) ≡ 16 → IsBatch entries n
 ends_full entries n quiet full = record { quiet = quiet; full = inl full }
-
-pub ends_at_end : (entries : List Entry) (i count : ℕ) → length entries ≤ i → AllByRecursion KeepsDate (take i entries) → length (updates_today (take i entries)) ≡ count → count < 16 → IsBatch entries (length entries)
-ends_at_end entries i count past quiet size few =
-    let same : take i entries ≡ take (length entries) entries = take_all i entries past ∙ sym (take_all (length entries) entries (omega arith)) in
-    record {
-      quiet = subst (AllByRecursion KeepsDate) same quiet;
-      full = inr (subst (λ (es : List Entry). length (updates_today es) < 16) same (omega (arith, size, few)), ap updates_today (drop_all (length entries) entries (omega arith)));
-    }
-
-pub some_entries : (entries : List Entry) → BeginsWithin entries → 0 < length entries
-some_entries [] begins = absurd begins
-some_entries (x ∷ entries) begins = omega arith
 
 -- ---- the tables of a batch
 

@@ -1,5 +1,5 @@
 -- Filters of tables, one after the other.
-use Rattle.std.proofs.Common.{add-one, ◌≡◌, ℕ, zero, suc, ◌+◌, ◌<◌, ◌==◌, ◌++◌, false, if◌then◌else◌, List, [], ◌∷◌, length, map, take, get_or, refl, sym, ap, ap₂, ◌∙◌, arith, Some, slice_get}
+use Rattle.std.proofs.Common.{Bool, add-one, ◌≡◌, ℕ, zero, suc, ◌+◌, ◌<◌, ◌==◌, ◌++◌, false, if◌then◌else◌, List, [], ◌∷◌, length, map, take, get_or, refl, sym, ap, ap₂, ◌∙◌, arith, Some, slice_get}
 use Rattle.std.specs.List.{list_any}
 use Rattle.std.specs.Str.{bytes_eq}
 use Rattle.std.proofs.lemmas.List.{take_more, map-append, length-take-le, length-map}
@@ -35,18 +35,27 @@ replaced-append asked new (t ∷ tables) more (f ∷ filters) others size =
     ap (λ l. (if is_asked asked t then new else f) ∷ l) (replaced-append asked new tables more filters others (omega (arith, size)))
 
 -- one more table
-pub replaced_more : (asked : List ℕ) (new : Filter) (tables : List (List ℕ)) (filters : List Filter) (i : ℕ) (table : List ℕ) (old : Filter) → length filters ≡ length tables → i < length tables → slice_get tables i ≡ Some table → old ≡ get_or filters i old → replaced asked new (take (i + 1) tables) (take (i + 1) filters) ≡ replaced asked new (take i tables) (take i filters) ++ (if is_asked asked table then new else old) ∷ []
+replaced_more : (asked : List ℕ) (new : Filter) (tables : List (List ℕ)) (filters : List Filter) (i : ℕ) (table : List ℕ) (old : Filter) → length filters ≡ length tables → i < length tables → slice_get tables i ≡ Some table → old ≡ get_or filters i old → replaced asked new (take (i + 1) tables) (take (i + 1) filters) ≡ replaced asked new (take i tables) (take i filters) ++ (if is_asked asked table then new else old) ∷ []
 replaced_more asked new tables filters i table old size h e o =
     ap₂ (replaced asked new) (take_more tables i table h) (take_more filters i old (omega (arith, size, h)))
     ∙ replaced-append asked new (take i tables) (get_or tables i table ∷ []) (take i filters) (get_or filters i old ∷ []) (length-take-le i filters (omega (arith, size, h)) ∙ sym (length-take-le i tables (omega (arith, h))))
     ∙ ap₂ (λ t f. replaced asked new (take i tables) (take i filters) ++ (if is_asked asked t then new else f) ∷ []) (get_or_from_slice_get tables i table table e) (sym o)
+
+-- its filter is put at the end
+pub replaced_push : (asked : List ℕ) (new : Filter) (tables : List (List ℕ)) (filters : List Filter) (i : ℕ) (table : List ℕ) (old put : Filter) (found after : List Filter) (named : Bool) → length filters ≡ length tables → i < length tables → slice_get tables i ≡ Some table → old ≡ get_or filters i old
+    → named ≡ is_asked asked table → put ≡ (if named then new else old) → found ≡ replaced asked new (take i tables) (take i filters) → after ≡ found ++ put ∷ []
+    → after ≡ replaced asked new (take (i + 1) tables) (take (i + 1) filters)
+replaced_push asked new tables filters i table old put found after named size h e o n p before pushed =
+    pushed
+    ∙ ap₂ (λ (l : List Filter) (f : Filter). l ++ f ∷ []) before (p ∙ ap (λ b. if b then new else old) n)
+    ∙ sym (replaced_more asked new tables filters i table old size h e o)
 
 length-replaced : (asked : List ℕ) (new : Filter) (tables : List (List ℕ)) (filters : List Filter) → length filters ≡ length tables → length (replaced asked new tables filters) ≡ length tables
 length-replaced asked new [] filters size = refl
 length-replaced asked new (t ∷ tables) [] size = absurd (omega (arith, size))
 length-replaced asked new (t ∷ tables) (f ∷ filters) size = ap suc (length-replaced asked new tables filters (omega (arith, size)))
 
-pub tables_beside : (tables : List (List ℕ)) (filters : List Filter) (schema : List Shape) → IsSubscription tables filters schema → length filters ≡ length tables
+tables_beside : (tables : List (List ℕ)) (filters : List Filter) (schema : List Shape) → IsSubscription tables filters schema → length filters ≡ length tables
 tables_beside tables filters schema is = is.each ∙ sym (length-map schema (λ (s : Shape). s.table)) ∙ sym (ap length is.names)
 
 -- the filters after a request are those of the same tables

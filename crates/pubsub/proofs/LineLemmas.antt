@@ -73,18 +73,18 @@ some_pass test (x ∷ xs) e = by (test x) (some_pass test xs) e
 
 -- ---- marked rows are those that pass
 
-pub marked_none : {X : Type 0} (test : X → Bool) (xs : List X) → AreMarked (map test xs) None → filter test xs ≡ []
+marked_none : {X : Type 0} (test : X → Bool) (xs : List X) → AreMarked (map test xs) None → filter test xs ≡ []
 marked_none test xs are = none_pass test xs (sym (any-marks test xs) ∙ are)
 
-pub marked_rows : {X : Type 0} (test : X → Bool) (xs : List X) (rows : Rows) → AreMarked (map test xs) (Some rows) → at_rows rows xs ≡ filter test xs
+marked_rows : {X : Type 0} (test : X → Bool) (xs : List X) (rows : Rows) → AreMarked (map test xs) (Some rows) → at_rows rows xs ≡ filter test xs
 marked_rows test xs r.All are = sym (all_pass test xs (sym (all-marks test xs) ∙ are.1))
 marked_rows test xs (r.At places) are = ap (gathered xs) are.1 ∙ gathers xs (map test xs) (sym (length-map xs test)) ∙ filter-kept test xs
 
-pub marked_some : {X : Type 0} (test : X → Bool) (xs : List X) (rows : Rows) → AreMarked (map test xs) (Some rows) → 0 < length (filter test xs)
+marked_some : {X : Type 0} (test : X → Bool) (xs : List X) (rows : Rows) → AreMarked (map test xs) (Some rows) → 0 < length (filter test xs)
 marked_some test xs r.All are = some_pass test xs (sym (any-marks test xs) ∙ are.0)
 marked_some test xs (r.At places) are = some_pass test xs (sym (any-marks test xs) ∙ are.0)
 
-pub marked_below : {X : Type 0} (test : X → Bool) (xs : List X) (rows : Rows) → AreMarked (map test xs) (Some rows) → AreBelow (length xs) rows
+marked_below : {X : Type 0} (test : X → Bool) (xs : List X) (rows : Rows) → AreMarked (map test xs) (Some rows) → AreBelow (length xs) rows
 marked_below test xs r.All are = tt
 marked_below test xs (r.At places) are =
     subst (All (λ place. place < length xs)) (sym are.1) (places_within (length xs) 0 (map test xs) (omega (arith, length-map xs test)))
@@ -92,7 +92,7 @@ marked_below test xs (r.At places) are =
 -- ---- the columns of rows
 
 -- a column, read from the rows
-pub column-lines : (columns : List Contents) (c : ℕ) (column : Contents) → All (λ x. length x.atoms ≡ rows_of columns) columns → slice_get columns c ≡ Some column → map (λ line. get_or line c absent) (lines_of columns) ≡ column.atoms
+column-lines : (columns : List Contents) (c : ℕ) (column : Contents) → All (λ x. length x.atoms ≡ rows_of columns) columns → slice_get columns c ≡ Some column → map (λ line. get_or line c absent) (lines_of columns) ≡ column.atoms
 column-lines columns c column even known =
     let c_in = slice_get_within columns c column known in
     let read : (p : ℕ) → get_or (map (atom_at p) columns) c absent ≡ get_or column.atoms p absent =
@@ -104,12 +104,12 @@ column-lines columns c column even known =
     ∙ ap (λ n. map (λ p. get_or column.atoms p absent) (range_with_len 0 n)) size
     ∙ places-read_all column.atoms absent
 
-pub map-at_rows : {X Y : Type 0} (f : X → Y) (rows : Rows) (xs : List X) → map f (at_rows rows xs) ≡ at_rows rows (map f xs)
+map-at_rows : {X Y : Type 0} (f : X → Y) (rows : Rows) (xs : List X) → map f (at_rows rows xs) ≡ at_rows rows (map f xs)
 map-at_rows f r.All xs = refl
 map-at_rows f (r.At places) xs = map-gathered f xs places.items
 
 -- what `passed` says, where the marks are those of the symbols
-pub passed_marks : (chosen : Filter) (columns : List Contents) (have : HaveSymbols columns) → map (chooses chosen) have.symbols.atoms ≡ map (passes chosen) (lines_of columns)
+passed_marks : (chosen : Filter) (columns : List Contents) (have : HaveSymbols columns) → map (chooses chosen) have.symbols.atoms ≡ map (passes chosen) (lines_of columns)
 passed_marks chosen columns have =
     ap (map (chooses chosen)) (sym (column-lines columns 1 have.symbols have.even have.second)) ∙ map-map (chooses chosen) (λ line. get_or line 1 absent) (lines_of columns)
 
@@ -132,7 +132,7 @@ passed_some chosen columns part have same are =
 size_of : (kinds : List Kind) (columns : List Contents) → AreColumns kinds columns → length columns ≡ length kinds
 size_of kinds columns are = sym (length-map columns (λ (x : Contents). x.kind)) ∙ ap length are.of_kinds
 
-pub part_column-lines : (kinds : List Kind) (c : ℕ) (part : Part) → c < length kinds → IsPart kinds part → map (λ line. get_or line c absent) (part_lines part) ≡ part_atoms c part
+part_column-lines : (kinds : List Kind) (c : ℕ) (part : Part) → c < length kinds → IsPart kinds part → map (λ line. get_or line c absent) (part_lines part) ≡ part_atoms c part
 part_column-lines kinds c part c_in is =
     let columns = part.columns.now in
     map-at_rows (λ line. get_or line c absent) part.rows (lines_of columns)
@@ -169,7 +169,7 @@ columns_more kinds parts i column i_in are kind atoms =
     } ∷ [])
     ∙ ap (λ (xs : List Atom). columns_from 0 (take i kinds) lines ++ record { kind = column.kind; atoms = xs } ∷ []) (parts_column-lines kinds i parts i_in are ∙ sym atoms)
 
-pub length-columns_from : (n : ℕ) (kinds : List Kind) (lines : List (List Atom)) → length (columns_from n kinds lines) ≡ length kinds
+length-columns_from : (n : ℕ) (kinds : List Kind) (lines : List (List Atom)) → length (columns_from n kinds lines) ≡ length kinds
 length-columns_from n [] lines = refl
 length-columns_from n (kind ∷ kinds) lines = ap suc (length-columns_from (n + 1) kinds lines)
 
@@ -182,7 +182,7 @@ first_length n [] lines some = absurd (omega (arith, some))
 first_length n (kind ∷ kinds) lines some = length-map lines (λ line. get_or line n absent)
 
 -- the columns of rows have one length
-pub even-columns_from : (kinds : List Kind) (lines : List (List Atom)) → 0 < length kinds → All (λ (column : Contents). length column.atoms ≡ rows_of (columns_from 0 kinds lines)) (columns_from 0 kinds lines)
+even-columns_from : (kinds : List Kind) (lines : List (List Atom)) → 0 < length kinds → All (λ (column : Contents). length column.atoms ≡ rows_of (columns_from 0 kinds lines)) (columns_from 0 kinds lines)
 even-columns_from kinds lines some =
     All-from_recursion (λ (column : Contents). length column.atoms ≡ rows_of (columns_from 0 kinds lines)) (columns_from 0 kinds lines)
     (subst (λ n. AllByRecursion (λ (column : Contents). length column.atoms ≡ n) (columns_from 0 kinds lines)) (sym (first_length 0 kinds lines some)) (each_length 0 kinds lines))

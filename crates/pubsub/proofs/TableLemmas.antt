@@ -1,10 +1,9 @@
 -- The rows that a batch has for a table.
-use Rattle.std.proofs.Common.{◌≡◌, ℕ, zero, suc, ◌+◌, ◌<◌, ◌==◌, ◌++◌, Bool, true, false, if◌then◌else◌, Option, Some, None, List, [], ◌∷◌, length, map, take, get_or, refl, sym, ap, ap₂, ◌∙◌, subst, arith, slice_get}
-use Rattle.std.specs.List.{filter, flat_map, AllByRecursion}
+use Rattle.std.proofs.Common.{◌≡◌, ℕ, zero, suc, ◌<◌, ◌==◌, ◌++◌, Bool, true, false, if◌then◌else◌, Option, Some, None, List, [], ◌∷◌, length, map, refl, sym, ap, ◌∙◌, subst, arith, slice_get}
+use Rattle.std.specs.List.{filter, flat_map}
 use Rattle.std.proofs.lemmas.Bool.{eqb-true}
-use Rattle.std.proofs.lemmas.List.{append-nil, length-append, take_more}
-use Rattle.std.proofs.lemmas.List.Concat.{flat_map-append}
-use Rattle.std.proofs.lemmas.List.Elements.{All-from_recursion, filter-append}
+use Rattle.std.proofs.lemmas.List.{append-nil}
+use Rattle.std.proofs.lemmas.List.Elements.{All-from_recursion}
 use Rattle.std.proofs.lemmas.Option.{get_or_from_slice_get, slice_get_within, same_Some}
 use Rattle.q_values.specs.Contents.{Contents}
 use Rattle.q_values.specs.Table.{rows_of}
@@ -17,7 +16,7 @@ use Rattle.day_rows.specs.declared.entry.Entry.{Entry}
 use Rattle.day_rows.specs.declared.entry.Entry.TheVariants as e
 use Rattle.day_rows.specs.declared.schema.Shape.{Shape}
 use Rattle.pubsub.specs.Filters.{Subscribed}
-use Rattle.pubsub.specs.Parts.{AreBelow, part_lines, IsPart, IsPassed, HaveSymbols, ArePassed}
+use Rattle.pubsub.specs.Parts.{AreBelow, part_lines, IsPassed, HaveSymbols, ArePassed}
 use Rattle.pubsub.specs.Steps.{AreOfTable, IsPassedIn, columns_in}
 use Rattle.pubsub.specs.Told.{Publication, upd, publication, published, passes, grid_of, rows_told, lines_in, IsOfSchema}
 use Rattle.pubsub.specs.declared.filter.Filter.{Filter}
@@ -47,16 +46,6 @@ in_table schema table (e.Upd by to own) columns found is = by_table (to == table
 in_table schema table (e.Roll by next) columns found is = cc
 in_table schema table (e.Fault by) columns found is = cc
 
--- where an entry has no columns for a table
-pub not_in_table : (table : ℕ) (entry : Entry) → None ≡ columns_in table entry → lines_in table entry ≡ []
-not_in_table table (e.Upd by to own) found = by_table (to == table) found
-  where
-    by_table : (b : Bool) → None ≡ (if b then Some own else None) → (if b then lines_of own else []) ≡ []
-    by_table true e = cc
-    by_table false e = refl
-not_in_table table (e.Roll by next) found = refl
-not_in_table table (e.Fault by) found = refl
-
 pub passed_in : (chosen : Filter) (schema : List Shape) (table : ℕ) (entry : Entry) (columns : List Contents) → AreOfTable schema table columns → lines_in table entry ≡ lines_of columns → (found : Option Part) → IsPassed chosen columns found → IsPassedIn chosen schema table entry found
 passed_in chosen schema table entry columns of same None none = ap (filter (passes chosen)) same ∙ none
 passed_in chosen schema table entry columns of same (Some part) is = (
@@ -69,47 +58,6 @@ passed_in chosen schema table entry columns of same (Some part) is = (
     below = subst (λ (cs : List Contents). AreBelow (rows_of cs) part.rows) (sym is.0) is.3;
   },
 )
-
--- ---- parts, entry by entry
-
-lines_more : (table : ℕ) (batch : List Entry) (i : ℕ) (entry : Entry) → i < length batch → entry ≡ get_or batch i entry → flat_map (lines_in table) (take (i + 1) batch) ≡ flat_map (lines_in table) (take i batch) ++ lines_in table entry
-lines_more table batch i entry i_in is =
-    ap (flat_map (lines_in table)) (take_more batch i entry i_in ∙ ap (λ (x : Entry). take i batch ++ x ∷ []) (sym is))
-    ∙ flat_map-append (lines_in table) (take i batch) (entry ∷ [])
-    ∙ ap (λ (ls : List (List Atom)). flat_map (lines_in table) (take i batch) ++ ls) (append-nil (lines_in table entry))
-
-all_push : {X : Type 0} (P : X → Type 0) (xs : List X) (x : X) → AllByRecursion P xs → P x → AllByRecursion P (xs ++ x ∷ [])
-all_push P [] x all p = (p, tt)
-all_push P (y ∷ xs) x all p = (all.0, all_push P xs x all.1 p)
-
-parts_lines : (parts : List Part) (part : Part) → flat_map part_lines (parts ++ part ∷ []) ≡ flat_map part_lines parts ++ part_lines part
-parts_lines parts part = flat_map-append part_lines parts (part ∷ []) ∙ ap (λ (ls : List (List Atom)). flat_map part_lines parts ++ ls) (append-nil (part_lines part))
-
--- one more part
-pub parts_more : (chosen : Filter) (schema : List Shape) (table : ℕ) (batch : List Entry) (i : ℕ) (entry : Entry) (parts after : List Part) (part : Part) → i < length batch → entry ≡ get_or batch i entry
-    → ArePassed chosen schema table (flat_map (lines_in table) (take i batch)) parts → IsPassedIn chosen schema table entry (Some part) → after ≡ parts ++ part ∷ []
-    → ArePassed chosen schema table (flat_map (lines_in table) (take (i + 1) batch)) after
-parts_more chosen schema table batch i entry parts after part i_in read are is pushed =
-    let lines = flat_map (lines_in table) (take i batch) in
-    subst (λ (ps : List Part). ArePassed chosen schema table (flat_map (lines_in table) (take (i + 1) batch)) ps) (sym pushed)
-    (record {
-      passed = parts_lines parts part ∙ ap₂ (λ (l m : List (List Atom)). l ++ m) are.passed is.0 ∙ sym (filter-append (passes chosen) lines (lines_in table entry)) ∙ ap (filter (passes chosen)) (sym (lines_more table batch i entry i_in read));
-      some = λ h. omega (arith, ap length (parts_lines parts part), length-append (flat_map part_lines parts) (part_lines part), is.1);
-      of_table = λ shape known. all_push (IsPart shape.kinds) parts part (are.of_table shape known) (subst (λ (sh : Shape). IsPart sh.kinds part) (same_Some is.2 shape (sym is.3 ∙ known)) is.4);
-    })
-
--- an entry without chosen rows
-pub parts_same : (chosen : Filter) (schema : List Shape) (table : ℕ) (batch : List Entry) (i : ℕ) (entry : Entry) (parts : List Part) → i < length batch → entry ≡ get_or batch i entry
-    → ArePassed chosen schema table (flat_map (lines_in table) (take i batch)) parts → IsPassedIn chosen schema table entry None
-    → ArePassed chosen schema table (flat_map (lines_in table) (take (i + 1) batch)) parts
-parts_same chosen schema table batch i entry parts i_in read are none =
-    let lines = flat_map (lines_in table) (take i batch) in
-    record {
-      passed = are.passed
-          ∙ sym (ap (filter (passes chosen)) (lines_more table batch i entry i_in read) ∙ filter-append (passes chosen) lines (lines_in table entry) ∙ ap (λ (ls : List (List Atom)). filter (passes chosen) lines ++ ls) none ∙ append-nil (filter (passes chosen) lines));
-      some = are.some;
-      of_table = are.of_table;
-    }
 
 -- ---- the message of a table
 

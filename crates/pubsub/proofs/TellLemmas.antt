@@ -1,8 +1,7 @@
 -- What is told of one entry after the other.
 use Rattle.std.proofs.Common.{inl, inr, Option, option_map, ◌≡◌, ℕ, ℤ, ◌+◌, ◌<◌, ◌≤◌, ◌++◌, Some, None, List, [], ◌∷◌, length, map, drop, get_or, refl, sym, ap, ap₂, ◌∙◌, subst, arith, slice_get}
-use Rattle.std.specs.List.{filter, flat_map, AllByRecursion}
+use Rattle.std.specs.List.{filter}
 use Rattle.std.proofs.lemmas.List.{append-nil, append_assoc, map-append, drop_more, drop_all}
-use Rattle.std.proofs.lemmas.List.Elements.{All-from_recursion}
 use Rattle.std.proofs.lemmas.Option.{get_or_from_slice_get, slice_get-map, slice_get_cases, same_Some}
 use Rattle.q_values.specs.Contents.{Contents}
 use Rattle.q_values.specs.declared.atom.Atom.{Atom}
@@ -13,12 +12,10 @@ use Rattle.day_rows.specs.declared.entry.Entry.{Entry}
 use Rattle.day_rows.specs.declared.entry.Entry.TheVariants as e
 use Rattle.day_rows.specs.declared.schema.Shape.{Shape}
 use Rattle.pubsub.specs.Filters.{Subscribed}
-use Rattle.pubsub.specs.Parts.{part_lines}
 use Rattle.pubsub.specs.Steps.{AreOfTable, told_one, date_after}
 use Rattle.pubsub.specs.Told.{Publication, upd, publication, published, passes, grid_of, rows_told, told_each, IsOfSchema}
 use Rattle.pubsub.specs.declared.filter.Filter.{Filter}
 use Rattle.pubsub.specs.declared.filter.Filter.TheVariants as f
-use Rattle.pubsub.specs.declared.parts.Part.{Part}
 
 -- one more message
 pub told_push : (messages : List TapMessage) (message : TapMessage) (told : Publication) → publication message ≡ told → map publication (messages ++ message ∷ []) ≡ map publication messages ++ told ∷ []
@@ -27,14 +24,6 @@ told_push messages message told e = map-append publication messages (message ∷
 pub published_some : (shape : Shape) (lines : List (List Atom)) → 0 < length lines → published (Some shape) lines ≡ upd shape.table (grid_of shape lines) ∷ []
 published_some shape [] some = absurd (omega (arith, some))
 published_some shape (line ∷ lines) some = refl
-
--- the message of a part of one update
-pub part_told : (shape : Shape) (part : Part) (lines : List (List Atom)) (message : TapMessage) (before after : List TapMessage) → part_lines part ≡ lines → 0 < length (part_lines part)
-    → publication message ≡ upd shape.table (grid_of shape (flat_map part_lines (part ∷ []))) → after ≡ before ++ message ∷ [] → map publication after ≡ map publication before ++ published (Some shape) lines
-part_told shape part lines message before after same some is pushed =
-    ap (map publication) pushed
-    ∙ told_push before message (upd shape.table (grid_of shape lines)) (is ∙ ap (λ (ls : List (List Atom)). upd shape.table (grid_of shape ls)) (append-nil (part_lines part) ∙ same))
-    ∙ ap (λ (ps : List Publication). map publication before ++ ps) (sym (published_some shape lines (subst (λ (ls : List (List Atom)). 0 < length ls) same some)))
 
 -- the filter of a table, which a call lent
 pub rows_told_by : (subscribed : Subscribed) (schema : List Shape) (table : ℕ) (shape : Shape) (chosen : Filter) (lines : List (List Atom)) → subscribed.schema ≡ schema → slice_get schema table ≡ Some shape → slice_get subscribed.filters table ≡ Some chosen
@@ -57,8 +46,12 @@ of_table schema by table columns is =
     same_kinds : (schema : List Shape) (table : ℕ) (kinds : List Kind) (shape : Shape) → slice_get (map (λ (s : Shape). s.kinds) schema) table ≡ Some kinds → slice_get schema table ≡ Some shape → kinds ≡ shape.kinds
     same_kinds schema table kinds shape h g = same_Some kinds shape.kinds (sym h ∙ slice_get-map (λ (s : Shape). s.kinds) schema table ∙ ap (option_map (λ (s : Shape). s.kinds)) g)
 
+-- and an update with the columns of a schema's table is of the schema
+pub from_table : (schema : List Shape) (by table : ℕ) (columns : List Contents) → AreOfTable schema table columns → IsOfSchema schema (e.Upd by table columns)
+from_table schema by table columns of = (of.0.kinds, slice_get-map (λ (s : Shape). s.kinds) schema table ∙ ap (option_map (λ (s : Shape). s.kinds)) of.1, of.2)
+
 -- what is told, entry by entry
-pub told-cons : (subscribed : Subscribed) (date : ℤ) (entry : Entry) (entries : List Entry) → told_each subscribed date (entry ∷ entries) ≡ told_one subscribed date entry ++ told_each subscribed (date_after date entry) entries
+told-cons : (subscribed : Subscribed) (date : ℤ) (entry : Entry) (entries : List Entry) → told_each subscribed date (entry ∷ entries) ≡ told_one subscribed date entry ++ told_each subscribed (date_after date entry) entries
 told-cons subscribed date (e.Upd by table columns) entries = refl
 told-cons subscribed date (e.Roll by next) entries = refl
 told-cons subscribed date (e.Fault by) entries = refl
@@ -79,6 +72,3 @@ told_more subscribed first date next entries i entry before after i_in is so_far
 pub told_all : (subscribed : Subscribed) (first date : ℤ) (entries : List Entry) (i : ℕ) (told : List Publication) → length entries ≤ i → told ++ told_each subscribed date (drop i entries) ≡ told_each subscribed first entries → told ≡ told_each subscribed first entries
 told_all subscribed first date entries i told past so_far =
     sym (append-nil told) ∙ ap (λ (es : List Entry). told ++ told_each subscribed date es) (sym (drop_all i entries past)) ∙ so_far
-
-pub all_at : (P : Entry → Type 0) (entries : List Entry) (i : ℕ) (entry : Entry) → AllByRecursion P entries → i < length entries → entry ≡ get_or entries i entry → P entry
-all_at P entries i entry all i_in is = subst P (sym is) (All-from_recursion P entries all i entry i_in)

@@ -50,7 +50,8 @@ pub record IsPart (kinds : List Kind) (part : Part) : Type 0 where
 abbrev pub IsPassed : Filter → List Contents → Option Part → Type 0
 IsPassed chosen columns None = filter (passes chosen) (lines_of columns) ≡ []
 IsPassed chosen columns (Some part) =
-    (part.columns.now ≡ columns) × (part_lines part ≡ filter (passes chosen) (lines_of columns)) × (0 < length (part_lines part)) × AreBelow (rows_of columns) part.rows
+    (part.columns.now ≡ columns) × (part_lines part ≡ filter (passes chosen) (lines_of columns))
+    × (0 < length (part_lines part)) × AreBelow (rows_of columns) part.rows
 
 -- columns of one length, the second of symbols
 pub record HaveSymbols (columns : List Contents) : Type 0 where

@@ -12,7 +12,7 @@
 //! messages(alloc, date, &entries, &schema, &subscription, false)?
 //! ```
 //!
-//! has a message for each update of `trade` with rows of `a` or `b`, with just these rows, and one for the end of each
+//! has a message for each update of `trade` with rows of `a` or `b`, with exactly these rows, and one for the end of each
 //! date. With `true` at the end, the updates of a date are joined in batches of 16, each with one message for each table.
 //! A set of no symbols chooses no rows, yet its subscriber is told of the ends of dates; [`Filter::Nothing`] isn't.
 //!
@@ -21,11 +21,13 @@
 //! them, column by column, `telling` makes messages of single updates, and `batches` of many. Where all rows of an update
 //! are chosen its columns are copied whole, and where none is, nothing is.
 //!
-//! It knows nothing of sessions, cursors and bytes: the caller has the entries, and sends the messages.
+//! It knows nothing of sessions, cursors and bytes: the caller has the entries, and sends the messages. Nor does it judge
+//! updates: those of the entries are of the schema, as [`are_of_schema`] says of entries from elsewhere.
 #![tactic(auto)]
 
 mod batches;
 mod filter;
+mod fitting;
 mod parts;
 mod publishing;
 mod request;
@@ -35,6 +37,7 @@ mod symbol_set;
 mod telling;
 
 pub use filter::Filter;
+pub use fitting::are_of_schema;
 pub use publishing::{TapMessages, messages};
 pub use request::{SubRefusal, SubRequest, Wanted};
 pub use subscription::Subscription;

@@ -4,7 +4,7 @@ ghost use Rattle.std.specs.HashSet.{contains};
 ghost use Rattle.std.specs.List.{list_any};
 ghost use Rattle.std.specs.Str.{bytes_eq};
 ghost use Rattle.q_values.specs.Bytes.{HasNoNul};
-ghost use Rattle.pubsub.specs.SymbolSet.{has_text};
+ghost use Rattle.pubsub.specs.SymbolSet.{has_short, has_text};
 
 use q_values::{NoMemory, ShortSymbol, Symbols};
 use std::alloc::Global;
@@ -13,11 +13,23 @@ use std::marker::Model;
 use std::snapshot::Snapshot;
 use std::sync::Arc;
 
+/// The most symbols that are compared one by one, which is faster than a hashed set for so few.
+const FEW: usize = 12;
+
+// Symbols of at most eight bytes that are searched for.
+#[derive(Drop)]
+enum Short {
+    // few of them
+    Few(Vec<ShortSymbol>),
+    // more
+    Many(HashSet<ShortSymbol>),
+}
+
 // Symbols that are searched for.
 #[derive(Drop)]
 struct Held {
     // those of at most eight bytes
-    short: HashSet<ShortSymbol>,
+    short: Short,
     // all of them
     texts: HashSet<Vec<u8>>,
     // all of them, as they were given
@@ -35,19 +47,63 @@ impl Model for Held {
     ghost invariant = { λ h. AreGiven h.short h.texts h.given.value };
 }
 
-// Puts a symbol into a set that has only symbols of at most eight bytes.
-fn put_short(short: &mut HashSet<ShortSymbol>, symbol: &[u8]) -> Result<(), NoMemory>
+fn push_short(items: &mut Vec<ShortSymbol>, symbol: &[u8]) -> Result<(), NoMemory>
     requires { HasNoNul symbol.now }
     ensures { OnOk result ((bytes : List ℕ) → length bytes ≤ 8
-        → contains bytes_eq short.new bytes ≡ (contains bytes_eq short.old bytes || bytes_eq bytes symbol.now)) }
+        → list_any (bytes_eq bytes) items.new.items ≡ (list_any (bytes_eq bytes) items.old.items || bytes_eq bytes symbol.now)) }
 {
     match ShortSymbol::of(symbol) {
-        Some(put) => {
-            short.insert(put)?;
+        Some(short) => {
+            items.push(short)?;
             Ok(())
         }
         None => Ok(()),
     }
+}
+
+// Those of at most eight bytes.
+fn short_items(alloc: Global, symbols: &Symbols) -> Result<Vec<ShortSymbol>, NoMemory>
+    ensures { IfOk result (λ items. (bytes : List ℕ) → length bytes ≤ 8
+        → list_any (bytes_eq bytes) items.items ≡ list_any (bytes_eq bytes) symbols.now) }
+{
+    let mut items = Vec::new(alloc);
+    for i in 0..symbols.len() {
+        push_short(&mut items, symbols.at(i))?;
+    }
+    Ok(items)
+}
+
+fn short_set(alloc: Global, items: &[ShortSymbol]) -> Result<HashSet<ShortSymbol>, NoMemory>
+    ensures { IfOk result (λ set. (bytes : List ℕ) → contains bytes_eq set bytes ≡ list_any (bytes_eq bytes) items.now) }
+{
+    let mut set = HashSet::new(alloc);
+    for item in items {
+        set.insert(*item)?;
+    }
+    Ok(set)
+}
+
+fn short_of(alloc: Global, symbols: &Symbols) -> Result<Short, NoMemory>
+    ensures { IfOk result (λ short. (bytes : List ℕ) → length bytes ≤ 8
+        → has_short short bytes ≡ list_any (bytes_eq bytes) symbols.now) }
+{
+    let items = short_items(alloc, symbols)?;
+    if items.len() <= FEW {
+        return Ok(Short::Few(items));
+    }
+    let set = short_set(alloc, &items)?;
+    Ok(Short::Many(set))
+}
+
+// Whether the symbol is one of few, with no branch for each.
+fn is_one_of(items: &[ShortSymbol], symbol: &ShortSymbol) -> bool
+    ensures { result ≡ list_any (bytes_eq symbol.now) items.now }
+{
+    let mut found = false;
+    for item in items {
+        found |= *symbol == *item;
+    }
+    found
 }
 
 fn put_text(alloc: Global, texts: &mut HashSet<Vec<u8>>, symbol: &[u8]) -> Result<(), NoMemory>
@@ -57,17 +113,6 @@ fn put_text(alloc: Global, texts: &mut HashSet<Vec<u8>>, symbol: &[u8]) -> Resul
     let text = Vec::from_slice(alloc, symbol)?;
     texts.insert(text)?;
     Ok(())
-}
-
-fn short_of(alloc: Global, symbols: &Symbols) -> Result<HashSet<ShortSymbol>, NoMemory>
-    ensures { IfOk result (λ short. (bytes : List ℕ) → length bytes ≤ 8
-        → contains bytes_eq short bytes ≡ list_any (bytes_eq bytes) symbols.now) }
-{
-    let mut short = HashSet::new(alloc);
-    for i in 0..symbols.len() {
-        put_short(&mut short, symbols.at(i))?;
-    }
-    Ok(short)
 }
 
 fn texts_of(alloc: Global, symbols: &Symbols) -> Result<HashSet<Vec<u8>>, NoMemory>
@@ -123,8 +168,12 @@ impl SymbolSet {
         ensures { result ≡ list_any (bytes_eq symbol.now) self.now }
     {
         let held: &Held = &self.held;
+        // its length is known from here on
         let _number = symbol.number();
-        held.short.contains(symbol)
+        match &held.short {
+            Short::Few(items) => is_one_of(items, symbol),
+            Short::Many(items) => items.contains(symbol),
+        }
     }
 
     /// Whether the set has the symbol of these bytes.
