@@ -9,7 +9,7 @@ use Rattle.day_rows.specs.declared.entry.Entry.{Entry}
 use Rattle.day_rows.specs.declared.entry.Entry.TheVariants as e
 use Rattle.plant_memory.specs.Chronicle.{last_fault}
 use Rattle.plant_memory.specs.Frame.{Frame}
-use Rattle.plant_memory.specs.Memory.{MemoryView, SnapshotView, next_roll}
+use Rattle.plant_memory.specs.Memory.{MemoryView, SnapshotView, TailView, next_roll}
 use Rattle.plant_core.specs.Adds.{roll_place}
 use Rattle.plant_memory.specs.Turns.{IsRefusal}
 use Rattle.plant_memory.specs.Verdict.{accepts, is_next_day, verdict}
@@ -148,6 +148,17 @@ pub record Asks (old new : AccessView) : Type 0 where
 abbrev pub Snaps : AccessView → AccessView → Result SnapshotView NoMemory → Type 0
 Snaps old new (Ok snapshot) = Asks old new × (snapshot ≡ record { frame = old.frame; entries = new.seen })
 Snaps old new (Err _) = Asks old new
+
+-- the access saw what the others made, and nothing else changed
+pub record Sees (old new : AccessView) : Type 0 where
+  pub others : List Entry
+  pub saw : SeesMore old others
+  pub after : new ≡ record old { seen = old.seen ++ others }
+
+-- what a call of `tail` changes and answers
+abbrev pub Tails : AccessView → AccessView → ℕ → Result TailView NoMemory → Type 0
+Tails old new from (Ok tail) = Sees old new × (tail ≡ record { frame = old.frame; entries = new.seen; from = from })
+Tails old new from (Err _) = Sees old new
 
 -- what a plant, loaded from a disk as it was then, shows to the one pass that holds it, which began when the plant had `began`
 -- entries

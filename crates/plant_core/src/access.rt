@@ -1,9 +1,9 @@
 //! How a session reaches the plant: the trait [`Access`] and what its calls answer.
-ghost use Rattle.std.specs.Prelude.{◌≡◌, ℕ, Some};
+ghost use Rattle.std.specs.Prelude.{◌≡◌, ◌≤◌, ℕ, Some, length};
 ghost use Rattle.plant_memory.specs.Chronicle.{last_fault};
 
 use day_rows::Schema;
-use plant_memory::{Snapshot, UpdRefusal, UpdRequest};
+use plant_memory::{Snapshot, Tail, UpdRefusal, UpdRequest};
 use q_values::NoMemory;
 use std::alloc::Global;
 use std::sync::Wait;
@@ -58,7 +58,7 @@ pub enum TickTurn {
 
 /// The way of one pass (one session, say) to the plant.
 pub trait Access {
-    ghost use Rattle.plant_core.specs.Access.{AccessView, Updates, Ticks, Snaps};
+    ghost use Rattle.plant_core.specs.Access.{AccessView, Updates, Ticks, Snaps, Tails};
 
     /// What contracts see of it: its number, the frame, what it has seen and made, and how often it asked.
     ghost shown: { Self → AccessView };
@@ -82,6 +82,11 @@ pub trait Access {
     /// A snapshot of the whole chronicle. The error is that it is out of memory.
     fn snapshot<R: Wait>(&mut self, rt: &R, alloc: Global) -> Result<Snapshot, NoMemory>
         ensures { Snaps (shown self.old) (shown self.new) result };
+
+    /// The whole chronicle from the index `from` on, up to which this pass has seen it. The error is that it is out of memory.
+    fn tail<R: Wait>(&mut self, rt: &R, alloc: Global, from: u64) -> Result<Tail, NoMemory>
+        requires { from ≤ length (shown self.old).seen }
+        ensures { Tails (shown self.old) (shown self.new) from result };
 
     /// The index of the last fault that this pass made. There is one.
     fn last_fault(&self) -> u64

@@ -1,4 +1,4 @@
-//! A plant: it judges updates, logs them in memory and on a disk, ends its dates, and gives snapshots to read from.
+//! A plant: it judges updates, logs them in memory and on a disk, ends its dates, and gives snapshots and tails to read.
 //!
 //! A plant stands for one list, its chronicle: updates, rolls (a roll ends the open date and opens the next) and faults (the
 //! disk failed at an update or a roll, which isn't logged).
@@ -41,4 +41,5 @@ pub use access::{Access, TickTurn, UpdTurn};
 pub use chronicle::PlantFrame;
 pub use load::LoadFailure;
 pub use plant::Plant;
+pub use plant_memory::{Snapshot, Tail};
 pub use solo::Solo;

@@ -1,5 +1,5 @@
 //! A plant: one list of updates and rolls, to which entries are only ever appended, in memory and on a disk.
-ghost use Rattle.std.specs.Prelude.{◌≡◌, ◌<◌, ◌+◌, ◌^◌, ◌<ℤ◌, ◌≤ℤ◌, ◌+ℤ◌, pos, true, length, IfOk, IfErr, OnOk, OnErr, Option};
+ghost use Rattle.std.specs.Prelude.{◌≡◌, ◌<◌, ◌≤◌, ◌+◌, ◌^◌, ◌<ℤ◌, ◌≤ℤ◌, ◌+ℤ◌, pos, true, length, IfOk, IfErr, OnOk, OnErr, Option};
 ghost use Rattle.q_values.specs.Limits.{AreLimits};
 ghost use Rattle.q_values.specs.Tree.{trees};
 ghost use Rattle.day_rows.specs.Chronicle.{date_of};
@@ -12,7 +12,7 @@ ghost use Rattle.plant_core.specs.Plant.{IsSound, LeavesDisk, shown_by};
 use date_logs::DateLogs;
 use day_rows::Schema;
 use outside_api::Disk;
-use plant_memory::{Memory, Prepared, PreparedRoll, Snapshot, UpdRefusal, UpdRequest};
+use plant_memory::{Memory, Prepared, PreparedRoll, Snapshot, Tail, UpdRefusal, UpdRequest};
 use q_values::{Limits, NoMemory};
 use std::alloc::Global;
 use std::marker::Model;
@@ -147,6 +147,15 @@ impl<D: Disk> Plant<D> {
         ensures { IfOk result (λ s. s ≡ record { frame = self.now.memory.frame; entries = self.now.memory.entries }) }
     {
         self.memory.snapshot(alloc)
+    }
+
+    /// The chronicle as it is now, from the index `from` on. It shares the dates that have ended, and the blocks of the open
+    /// one that are full: no row of them is copied.
+    pub fn tail(&self, alloc: Global, from: u64) -> Result<Tail, NoMemory>
+        requires { from ≤ length self.now.memory.entries }
+        ensures { IfOk result (λ t. t ≡ record { frame = self.now.memory.frame; entries = self.now.memory.entries; from = from }) }
+    {
+        self.memory.tail(alloc, from)
     }
 
     /// The disk. It takes no memory.

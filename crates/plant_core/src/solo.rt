@@ -7,7 +7,7 @@ use crate::commits::Logging;
 use crate::plant::Plant;
 use day_rows::Schema;
 use outside_api::Disk;
-use plant_memory::{Snapshot, UpdRefusal, UpdRequest, is_next_day};
+use plant_memory::{Snapshot, Tail, UpdRefusal, UpdRequest, is_next_day};
 use q_values::NoMemory;
 use std::alloc::Global;
 use std::marker::Model;
@@ -128,6 +128,10 @@ impl<D: Disk> Access for Solo<D> {
     fn snapshot<R: Wait>(&mut self, _rt: &R, alloc: Global) -> Result<Snapshot, NoMemory> {
         self.snapshots = self.snapshots.saturating_add(1);
         self.plant.snapshot(alloc)
+    }
+
+    fn tail<R: Wait>(&mut self, _rt: &R, alloc: Global, from: u64) -> Result<Tail, NoMemory> {
+        self.plant.tail(alloc, from)
     }
 
     fn last_fault(&self) -> u64 {

@@ -7,4 +7,5 @@ pub mod LawLemmas
 pub mod MadeLemmas
 pub mod MemoryLemmas
 pub mod ShownLemmas
+pub mod TableLemmas
 pub mod TailLemmas

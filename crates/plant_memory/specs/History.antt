@@ -3,7 +3,7 @@ use Rattle.std.specs.Prelude.{◌≡◌, ◌<◌, ◌+◌, ◌^◌, ◌≤ℤ◌
 use Rattle.std.specs.Ordering.{int_cmp}
 use Rattle.std.specs.declared.cmp.Ordering.TheVariants.{Less}
 use Rattle.q_values.specs.declared.kind.Kind.{Kind}
-use Rattle.day_rows.specs.Day.{Day, Opened, IsDay, total_rows}
+use Rattle.day_rows.specs.Day.{Day, Opened, IsDay, IsUpdate, total_rows}
 use Rattle.day_rows.specs.declared.entry.Entry.{Entry}
 use Rattle.day_rows.specs.declared.entry.Entry.TheVariants as e
 use Rattle.plant_memory.specs.Chronicle.{index_after_roll, top_by}
@@ -61,6 +61,12 @@ pub record IsHistory (first : ℤ) (pasts : List Past) (current : Day) (marks : 
   pub rows_is : rows ≡ total_rows current.updates
   pub top_is : top ≡ top_by (chronicle_of pasts (woven marks current.updates))
   pub few : top + 1 < 2 ^ 64
+
+-- an update is of one of the tables whose columns have these kinds
+abbrev pub IsOfTables : List (List Kind) → Entry → Type 0
+IsOfTables tables (e.Upd by table columns) = IsUpdate tables (e.Upd by table columns)
+IsOfTables tables (e.Roll by date) = Unit {0}
+IsOfTables tables (e.Fault by) = Unit {0}
 
 -- a table has a column with this index, of this kind
 pub record IsColumn (tables : List (List Kind)) (table column : ℕ) (kind : Kind) : Type 0 where

@@ -13,7 +13,7 @@ use Rattle.day_rows.specs.declared.schema.Shape.{Shape}
 use Rattle.tick_log.specs.Chunk.{IsChunk}
 use Rattle.plant_memory.specs.Chronicle.{by_of, today}
 use Rattle.plant_memory.specs.Frame.{Frame}
-use Rattle.plant_memory.specs.History.{HistoryView, IsColumn}
+use Rattle.plant_memory.specs.History.{HistoryView, IsColumn, IsOfTables}
 use Rattle.plant_memory.specs.Verdict.{accepts, roll_due, verdict}
 
 -- a memory: what no call changes, the chronicle, the update that room was made for, and whether there is room for a fault
@@ -53,6 +53,10 @@ pub record TailView : Type 0 where
 -- the kinds of each table's columns
 abbrev pub kinds_of : List Shape → List (List Kind)
 kinds_of schema = map (λ shape. shape.kinds) schema
+
+-- an update is of one of the schema's tables: it has columns of the kinds of that table, all of one length
+abbrev pub IsOfSchema : List Shape → Entry → Type 0
+IsOfSchema schema = IsOfTables (kinds_of schema)
 
 -- the roll that is due before a prepared update
 abbrev pub due : PreparedView → List Entry

@@ -7,7 +7,7 @@ ghost use Rattle.day_rows.specs.Chronicle.{date_of, DatesAscend};
 ghost use Rattle.day_rows.specs.Day.{IsUpdate, HasColumn, entry_rows, total_rows, settled};
 ghost use Rattle.day_rows.specs.Rows.{column_of};
 ghost use Rattle.plant_memory.specs.Chronicle.{by_of, index_after_roll, today, top_by, dates_of, date_at, rows_at, update_count};
-ghost use Rattle.plant_memory.specs.History.{IsColumn, entries_of};
+ghost use Rattle.plant_memory.specs.History.{IsColumn, IsOfTables, entries_of};
 
 use crate::faults::Faults;
 use crate::weaving::{place_of, weave};
@@ -479,6 +479,13 @@ impl History {
         let updates = self.current.updates_from(alloc, place.updates)?;
         let marks = &self.faults.marks()[place.faults..];
         weave(marks, place.since, updates, entries)
+    }
+
+    /// Whoever calls it knows that each update is of one of the tables. It takes no memory and changes nothing.
+    pub fn learn_tables(&self)
+        ensures { AllByRecursion (IsOfTables self.now.kinds) self.now.entries }
+    {
+        let _dates = self.ended.len();
     }
 
     /// Copies of the entries from the index `from` on, in order: updates, faults and rolls. The dates before the one that

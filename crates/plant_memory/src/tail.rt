@@ -1,6 +1,8 @@
 //! Tails of a plant, which subscribers are sent.
 ghost use Rattle.std.specs.Prelude.{◌≡◌, length, take, drop, IfOk};
+ghost use Rattle.std.specs.List.{AllByRecursion};
 ghost use Rattle.day_rows.specs.Chronicle.{date_of};
+ghost use Rattle.plant_memory.specs.Memory.{IsOfSchema};
 
 use crate::history::History;
 use day_rows::{Entries, Schema};
@@ -48,8 +50,10 @@ impl Tail {
     /// Copies of the tail's entries, in order. The dates before the one that has the first of them cost nothing, and neither
     /// do the blocks of updates before it on that date.
     pub fn entries(&self, alloc: Global) -> Result<Entries, NoMemory>
-        ensures { IfOk result (λ entries. entries ≡ drop self.now.from self.now.entries) }
+        ensures entries { IfOk result (λ entries. entries ≡ drop self.now.from self.now.entries) }
+        ensures updates { IfOk result (AllByRecursion (IsOfSchema self.now.frame.schema)) }
     {
+        self.history.learn_tables();
         self.history.entries_from(alloc, self.from)
     }
 
