@@ -39,8 +39,10 @@ unheard_yet limits place heard (s.greeted c ∷ events) h = absurd (stays_greete
     stays_greeted limits place heard (s.greeted c ∷ events) h = h
     stays_greeted limits place heard (s.asked m ∷ events) h = stays_greeted limits (place + length h.0) h.1 events h.4
     stays_greeted limits place heard (s.idled ∷ events) h = stays_greeted limits place heard events h
+    stays_greeted limits place heard (s.published ∷ events) h = stays_greeted limits place heard events h
 unheard_yet limits place heard (s.asked m ∷ events) h = absurd h
 unheard_yet limits place heard (s.idled ∷ events) h = unheard_yet limits place heard events h
+unheard_yet limits place heard (s.published ∷ events) h = unheard_yet limits place heard events h
 
 -- after the handshake messages were heard
 heard_frames : (limits : Limits) (place : ℕ) (heard : List ℕ) (events : List Event) → Hears limits true place heard events true → Frames limits place heard (messages_heard events)
@@ -48,6 +50,7 @@ heard_frames limits place heard [] h = h.0
 heard_frames limits place heard (s.greeted c ∷ events) h = absurd h
 heard_frames limits place heard (s.asked m ∷ events) h = (h.0, h.1, h.2, h.3, heard_frames limits (place + length h.0) h.1 events h.4)
 heard_frames limits place heard (s.idled ∷ events) h = heard_frames limits place heard events h
+heard_frames limits place heard (s.published ∷ events) h = heard_frames limits place heard events h
 
 -- the handshake, and the messages after it
 pub record Greeted (limits : Limits) (heard : List ℕ) (events : List Event) : Type 0 where
@@ -66,6 +69,9 @@ heard_greeted limits heard (s.greeted c ∷ events) h =
     record { capability = c; greeting = h.0; others = h.1; parts = h.2; greets = h.3; is = refl; frames = subst (λ n. Frames limits n h.1 (messages_heard events)) z (heard_frames limits (0 + length h.0) h.1 events h.4) }
 heard_greeted limits heard (s.asked m ∷ events) h = absurd h
 heard_greeted limits heard (s.idled ∷ events) h =
+    let g = heard_greeted limits heard events h in
+    record { capability = g.capability; greeting = g.greeting; others = g.others; parts = g.parts; greets = g.greets; is = g.is; frames = g.frames }
+heard_greeted limits heard (s.published ∷ events) h =
     let g = heard_greeted limits heard events h in
     record { capability = g.capability; greeting = g.greeting; others = g.others; parts = g.parts; greets = g.greets; is = g.is; frames = g.frames }
 
@@ -179,7 +185,8 @@ read_by limits e.Closed heard rest events greeted idled h r few = record {
 read_by limits e.Truncated heard rest events greeted idled h r few = record { unserved = []; ending = ending_of rest; stream = needed_read limits greeted heard rest events h r.0; all = refl; cause = (some_ends rest r.1, few) }
 read_by limits (e.BadMessage code at) heard rest events greeted idled h r few = bad_read limits greeted heard rest events code at idled h r few
 read_by limits e.ReadFault heard rest events greeted idled h r few = record { unserved = []; ending = ending_of rest; stream = needed_read limits greeted heard rest events h r; all = refl; cause = (no_fault_of rest, few) }
-read_by limits e.WriteFault heard rest events greeted idled h r few =
+read_by limits e.WriteFault heard rest events greeted idled h (inr needed) few = record { unserved = []; ending = ending_of rest; stream = needed_read limits greeted heard rest events h needed; all = tt; cause = few }
+read_by limits e.WriteFault heard rest events greeted idled h (inl r) few =
     let more = messages_read (suc (length rest)) limits (length heard) rest (omega arith) in
     record { unserved = more.0; ending = more.1; stream = stream_by limits heard rest events (heard_greeted limits heard events (subst (λ g. Hears limits false 0 heard events g) r h)) more.0 more.1 more.2; all = tt; cause = few }
 read_by limits e.Idle heard rest events greeted idled h r spent = record { unserved = []; ending = ending_of rest; stream = needed_read limits greeted heard rest events h r; all = refl; cause = (no_fault_of rest, spent) }
@@ -199,13 +206,13 @@ both_none : (x y : List ℕ) → x ++ y ≡ [] → (x ≡ []) × (y ≡ [])
 both_none [] y h = (refl, h)
 both_none (a ∷ x) y h = absurd cc
 
-was_open : (end : End) (limits : Limits) (l : LinkView) (greeted : Bool) (heard rest : List ℕ) (events : List Event) → Hears limits false 0 heard events greeted → Rests end limits greeted (0 + length heard) rest → heard ++ rest ≡ [] → NeedsNoRead end → WasOpenAt end l
+was_open : (end : End) (limits : Limits) (l : LinkView) (greeted : Bool) (heard rest : List ℕ) (events : List Event) → Hears limits false 0 heard events greeted → Rests end limits greeted (0 + length heard) rest → heard ++ rest ≡ [] → NeedsNoRead end greeted → WasOpenAt end l
 was_open e.Closed limits l greeted heard rest events h r none needs = tt
 was_open e.Truncated limits l greeted heard rest events h r none needs = tt
 was_open (e.BadMessage code at) limits l greeted heard rest events h r none needs = absurd (bad_some limits greeted (0 + length heard) rest code at r (both_none heard rest none).1)
 was_open e.ReadFault limits l greeted heard rest events h r none needs = absurd needs
 was_open e.WriteFault limits l greeted heard rest events h r none needs =
-    let g = heard_greeted limits heard events (subst (λ x. Hears limits false 0 heard events x) r h) in
+    let g = heard_greeted limits heard events (subst (λ x. Hears limits false 0 heard events x) needs h) in
     absurd (omega (arith, some_greeting limits g.greeting g.capability g.greets, ap length (both_none heard rest none).0, ap length g.parts, length-append g.greeting g.others))
 was_open e.Idle limits l greeted heard rest events h r none needs = absurd needs
 was_open e.NoMemory limits l greeted heard rest events h r none needs = absurd needs
@@ -245,13 +252,14 @@ whole_session limits a b end c =
       nothing = reads_something end limits c.greeted (0 + length c.heard) c.rest c.given c.rests;
       after = c.after;
       served = c.works.served;
+      looked = c.looked;
       notes = c.works.notes;
       sent = c.sent;
       clock = c.works.clock;
       access = c.works.access;
     }
   where
-    opened : ((c.given ≡ []) × (c.idled ≡ 0) × NeedsNoRead end) ⊎ WasOpenAt end a.link → WasOpenAt end a.link
+    opened : ((c.given ≡ []) × (c.idled ≡ 0) × NeedsNoRead end c.greeted) ⊎ WasOpenAt end a.link → WasOpenAt end a.link
     opened (inl none) = was_open end limits a.link c.greeted c.heard c.rest (events_of c.steps) c.hears c.rests (sym c.bytes ∙ none.0) none.2
     opened (inr still) = still
 
@@ -281,6 +289,7 @@ no_session limits l k n a =
       nothing = refl;
       after = fresh_state a;
       served = works.served;
+      looked = refl;
       notes = works.notes;
       sent = refl;
       clock = works.clock;

@@ -4,7 +4,7 @@ use Rattle.std.proofs.lemmas.List.{append-nil, length-append}
 use Rattle.day_rows.specs.declared.entry.Entry.{Entry}
 use Rattle.plant_core.specs.Access.{AccessView, SeesMore}
 use Rattle.q_values.specs.declared.turn.Turn.{Turn}
-use Rattle.q_values.specs.declared.turn.Turn.TheVariants.{Logged, Rolled, Refused, Failed, Quiet, Answered}
+use Rattle.q_values.specs.declared.turn.Turn.TheVariants.{Logged, Rolled, Refused, Failed, Quiet, Answered, Subscribed, Told, TooLong}
 use Rattle.session.specs.Lawful.{AllGoOn, GoesOn, length_after, last_length}
 use Rattle.session.specs.Run.{Advances, advanced}
 
@@ -21,6 +21,9 @@ lower_one n m (Refused count now) le h = (omega arith, omega arith)
 lower_one n m (Failed place now) le h = (omega arith, omega arith)
 lower_one n m (Quiet count now) le h = (omega arith, omega arith)
 lower_one n m (Answered count) le h = (omega arith, omega arith)
+lower_one n m (Subscribed count) le h = (omega arith, omega arith)
+lower_one n m (Told from to) le h = (omega arith, omega arith)
+lower_one n m (TooLong from to) le h = (omega arith, omega arith)
 lower_one n m t le h = (tt, le)
 
 -- lengths that begin lower
@@ -38,6 +41,9 @@ weaker_one n (Refused count now) h = omega (arith, h)
 weaker_one n (Failed place now) h = omega (arith, h)
 weaker_one n (Quiet count now) h = omega (arith, h)
 weaker_one n (Answered count) h = omega (arith, h)
+weaker_one n (Subscribed count) h = omega (arith, h)
+weaker_one n (Told from to) h = omega (arith, h)
+weaker_one n (TooLong from to) h = omega (arith, h)
 weaker_one n t h = h
 
 -- lengths that go on exactly never fall
@@ -65,3 +71,20 @@ advances a b others made turns asked ticked saw after each last =
           let none : a.seen ++ others ≡ a.seen = ap (λ o. a.seen ++ o) (saw.alone only) ∙ append-nil a.seen in
           record { each = rw none at each; last = (rw none at last) ∙ ap (λ l. length (l ++ made)) (sym none) ∙ sym size };
     }
+
+rises_one : (n : ℕ) (t : Turn) → GoesOn at_most n t → n ≤ length_after n t
+rises_one n (Logged place now) h = omega (arith, h)
+rises_one n (Rolled place now) h = omega (arith, h)
+rises_one n (Refused count now) h = omega (arith, h)
+rises_one n (Failed place now) h = omega (arith, h)
+rises_one n (Quiet count now) h = omega (arith, h)
+rises_one n (Answered count) h = omega (arith, h)
+rises_one n (Subscribed count) h = omega (arith, h)
+rises_one n (Told from to) h = omega (arith, h)
+rises_one n (TooLong from to) h = omega (arith, h)
+rises_one n t h = omega arith
+
+-- lengths that never fall end no lower than they begin
+pub go_on-rises : (n : ℕ) (ts : List Turn) → AllGoOn at_most n ts → n ≤ last_length n ts
+go_on-rises n [] h = omega arith
+go_on-rises n (t ∷ ts) h = omega (arith, rises_one n t h.0, go_on-rises (length_after n t) ts h.1)

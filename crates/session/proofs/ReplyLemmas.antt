@@ -66,6 +66,6 @@ too_long limits t n e long =
     let longer : ltb limits.reply (length (response t)) ≡ true = lt-ltb _ _ (omega arith) in
     rw (longer, response-limit) refl
 
--- a value whose response is within the limit can be written
-pub within_plain : (limits : Limits) (t : Tree) (n : ℕ) → AreLimits limits → IsShaped t → n ≡ saturated (length (response t)) → n ≤ limits.reply → IsPlain t
-within_plain limits t n are shaped e within = shaped_plain t shaped (omega (arith, e, within, are.reply, length-append (1 ∷ 2 ∷ 0 ∷ 0 ∷ to_le_bytes w32 (8 + length (written t))) (written t)))
+-- a value in shape whose response is within the limit can be written
+pub within_plain : (limits : Limits) (t : Tree) → AreLimits limits → IsShaped t → length (response t) ≤ limits.reply → IsPlain t
+within_plain limits t are shaped within = shaped_plain t shaped (omega (arith, within, are.reply, length-append (1 ∷ 2 ∷ 0 ∷ 0 ∷ to_le_bytes w32 (8 + length (written t))) (written t)))

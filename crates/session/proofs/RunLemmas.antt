@@ -14,16 +14,14 @@ use Rattle.session.specs.State.{State}
 use Rattle.session.specs.declared.end.End.{End}
 use Rattle.session.specs.declared.end.End.TheVariants as e
 use Rattle.session.proofs.JoinLemmas.{hears-append, idles-append, works-append}
+use Rattle.session.proofs.ChainLemmas.{fits-chain}
+use Rattle.session.proofs.PartLemmas.{events, parts, sent_is}
+use Rattle.session.specs.Owing.{FitsPlant}
+use Rattle.plant_memory.specs.Frame.{Frame}
 use Rattle.plant_core.specs.Access.{AccessView}
 use Rattle.q_values.specs.declared.turn.Turn.{Turn}
 use Rattle.session.proofs.StepLemmas.{works-none}
 use Rattle.session.proofs.ToldLemmas.{moved-moved, moved-none}
-
-abbrev pub events : List Step → List Event
-events = map (λ s. s.event)
-
-abbrev pub parts : List Step → List (List ℕ)
-parts = map (λ s. s.deed.sent)
 
 -- bytes that came in two parts
 bytes-append : (r x h s y g t : List ℕ) → r ++ x ≡ h ++ s → s ++ y ≡ g ++ t → r ++ (x ++ y) ≡ (h ++ g) ++ t
@@ -51,7 +49,6 @@ runs-append limits place a b c u v w r s t x y z p q =
       placed = q.placed ∙ ap told_place far;
       counted = rw (map-append, idles-append, p.counted, q.counted) refl;
       idles = omega arith;
-      some = q.some;
       opened = opened-append p.opened q.opened;
     }
   where
@@ -65,7 +62,7 @@ ended-moved : (end : End) (l : LinkView) (g t : List ℕ) (i : ℕ) (g' t' : Lis
 ended-moved end l g t i g' t' i' = ap (ended_link end) (moved-moved l g t i g' t' i')
 
 -- more parts before those that were sent
-sent-append : (end : End) (front rest : List (List ℕ)) (written : List ℕ) → IsSent end rest written → IsSent end (front ++ rest) (flat_map (λ part. part) front ++ written)
+pub sent-append : (end : End) (front rest : List (List ℕ)) (written : List ℕ) → IsSent end rest written → IsSent end (front ++ rest) (flat_map (λ part. part) front ++ written)
 sent-append e.WriteFault front rest written h = record {
   whole = front ++ h.whole;
   last = h.last;
@@ -108,10 +105,6 @@ open_at e.WriteFault a h = h
 open_at e.Idle a h = h
 open_at e.NoMemory a h = tt
 
-sent_is : (steps : List Step) → flat_map (λ part. part) (parts steps) ≡ sent_in steps
-sent_is [] = refl
-sent_is (s ∷ steps) = ap (λ l. s.deed.sent ++ l) (sent_is steps)
-
 -- steps and then an end
 pub runs-converses : (limits : Limits) (place : ℕ) (a b c : World) (u v : State) (r s : ReaderView) (x y : ℕ) (end : End) (p : Runs limits place a b u v r s x y) → Converses limits (place + length p.heard) b c v s y end → Converses limits place a c u r x end
 runs-converses limits place a b c u v r s x y end p q =
@@ -132,19 +125,20 @@ runs-converses limits place a b c u v r s x y end p q =
       hears = rw map-append (hears-append limits r.framer.greeted s.framer.greeted q.greeted place p.heard q.heard (events p.steps) (events q.steps) p.hears q.hears);
       rests = subst (λ n. Rests end limits q.greeted n q.rest) far q.rests;
       sent = rw map-append (subst (λ l. IsSent end (parts p.steps ++ parts q.steps) (l ++ q.written)) (sent_is p.steps) (sent-append end (parts p.steps) (parts q.steps) q.written q.sent));
+      looked = q.looked;
       counted = rw (map-append, idles-append, p.counted, q.counted) refl;
       idles = spends-append end x y p.idled q.idled p.idles q.idles;
       opened = opened-append p.opened q.opened;
     }
   where
-    opened-append : ((p.given ≡ []) × (p.idled ≡ 0)) ⊎ (a.link.ended ≡ false) → ((q.given ≡ []) × (q.idled ≡ 0) × NeedsNoRead end) ⊎ WasOpenAt end b.link → ((p.given ++ q.given ≡ []) × (p.idled + q.idled ≡ 0) × NeedsNoRead end) ⊎ WasOpenAt end a.link
+    opened-append : ((p.given ≡ []) × (p.idled ≡ 0)) ⊎ (a.link.ended ≡ false) → ((q.given ≡ []) × (q.idled ≡ 0) × NeedsNoRead end q.greeted) ⊎ WasOpenAt end b.link → ((p.given ++ q.given ≡ []) × (p.idled + q.idled ≡ 0) × NeedsNoRead end q.greeted) ⊎ WasOpenAt end a.link
     opened-append (inl one) (inl two) = inl (rw (one.0, two.0) refl, omega (arith, one.1, two.1), two.2)
     opened-append (inl one) (inr still) = inr (was_open-before end a.link b.link (link_stays a.link b.link p.given (sent_in p.steps) p.idled p.link) still)
     opened-append (inr still) other = inr (open_at end a.link still)
 
 -- nothing was done yet
-pub runs_none : (limits : Limits) (place : ℕ) (l : LinkView) (k : Option (List ℤ)) (n : Option (List Turn)) (a : AccessView) (u : State) (r : ReaderView) (left : ℕ) → r.framer.limits ≡ limits → r.framer.place ≡ told_place place → 0 < left → Runs limits place (world l k n a) (world l k n a) u u r r left left
-runs_none limits place l k n a u r left same at some =
+pub runs_none : (limits : Limits) (place : ℕ) (l : LinkView) (k : Option (List ℤ)) (n : Option (List Turn)) (a : AccessView) (u : State) (r : ReaderView) (left : ℕ) → r.framer.limits ≡ limits → r.framer.place ≡ told_place place → Runs limits place (world l k n a) (world l k n a) u u r r left left
+runs_none limits place l k n a u r left same at =
     let z : place ≡ place + 0 = omega arith in
     record {
       steps = [];
@@ -159,7 +153,6 @@ runs_none limits place l k n a u r left same at some =
       placed = at ∙ ap told_place z;
       counted = refl;
       idles = omega arith;
-      some = some;
       opened = inl (refl, refl);
     }
 
@@ -167,9 +160,16 @@ runs_none limits place l k n a u r left same at some =
 pub same_frame : (limits : Limits) (place : ℕ) (a b : World) (u v : State) (r s : ReaderView) (x y : ℕ) → Runs limits place a b u v r s x y → a.access.frame.limits ≡ limits → b.access.frame.limits ≡ limits
 same_frame limits place a b u v r s x y p same = ap (λ (v : AccessView). v.frame.limits) p.works.access.after ∙ same
 
+-- a subscriber fits the plant after steps as before them
+pub fits_on : (limits : Limits) (place : ℕ) (a b : World) (u v : State) (r s : ReaderView) (x y : ℕ) → Runs limits place a b u v r s x y → FitsPlant a.access.frame u.known u.subscriber → FitsPlant b.access.frame v.known v.subscriber
+fits_on limits place a b u v r s x y p fits =
+    subst (λ (f : Frame). FitsPlant f v.known v.subscriber) (sym (ap (λ (w : AccessView). w.frame) p.works.access.after)) (fits-chain a.access.frame a.access.by b.access.seen u v p.steps fits p.works.served)
+
 -- steps, and what comes next
-pub goes_on : (limits : Limits) (place : ℕ) (a b c : World) (u v w : State) (r s t : ReaderView) (x y z : ℕ) → Runs limits place a b u v r s x y → ((q : ℕ) → s.framer.place ≡ told_place q → Runs limits q b c v w s t y z) → Runs limits place a c u w r t x z
-goes_on limits place a b c u v w r s t x y z p next = runs-append limits place a b c u v w r s t x y z p (next (place + length p.heard) p.placed)
+pub goes_on : (limits : Limits) (place : ℕ) (a b c : World) (u v w : State) (r s t : ReaderView) (x y z : ℕ) → Runs limits place a b u v r s x y → ((q : ℕ) → s.framer.place ≡ told_place q → Runs limits q b c v w s t y z × (0 < z)) → Runs limits place a c u w r t x z × (0 < z)
+goes_on limits place a b c u v w r s t x y z p next =
+    let more = next (place + length p.heard) p.placed in
+    (runs-append limits place a b c u v w r s t x y z p more.0, more.1)
 
 pub goes_to_end : (limits : Limits) (place : ℕ) (a b c : World) (u v : State) (r s : ReaderView) (x y : ℕ) (end : End) → Runs limits place a b u v r s x y → ((q : ℕ) → s.framer.place ≡ told_place q → Converses limits q b c v s y end) → Converses limits place a c u r x end
 goes_to_end limits place a b c u v r s x y end p next = runs-converses limits place a b c u v r s x y end p (next (place + length p.heard) p.placed)

@@ -5,8 +5,8 @@ use Rattle.day_rows.specs.declared.entry.Entry.{Entry}
 use Rattle.day_rows.specs.declared.entry.Entry.TheVariants as e
 use Rattle.outside_api.specs.Told.{told}
 use Rattle.day_rows.specs.declared.schema.Shape.{Shape}
-use Rattle.plant_core.specs.Access.{AccessView, SeesMore, Logs, Looks, Fails, Asks, Waits, Rolls, FailsRoll, Wants, next_count}
-use Rattle.plant_memory.specs.Memory.{SnapshotView, next_roll}
+use Rattle.plant_core.specs.Access.{AccessView, SeesMore, Logs, Looks, Fails, Asks, next_count}
+use Rattle.plant_memory.specs.Memory.{SnapshotView}
 use Rattle.plant_memory.specs.Turns.{IsRefusal}
 use Rattle.plant_memory.specs.Frame.{Frame}
 use Rattle.plant_memory.specs.Verdict.{Verdict, refuses, verdict}
@@ -27,7 +27,7 @@ use Rattle.session.specs.Replies as replies
 use Rattle.session.specs.Reply.{response, reply, replied, refusal_text}
 use Rattle.session.specs.Request.{Request, update, mistyped, text, other}
 use Rattle.session.specs.Run.{Advances, advanced}
-use Rattle.session.specs.Served.{Deed, IsUnserved, ServesIdle, entry_turns}
+use Rattle.session.specs.Served.{Deed, IsUnserved, entry_turns}
 use Rattle.session.specs.State.{State}
 use Rattle.session.specs.declared.answer.Answer.{Answer}
 use Rattle.session.specs.declared.reply.Reply.{Reply}
@@ -249,16 +249,6 @@ pub does_unserved : (a : AccessView) (k : Option (List ℤ)) (limits : Limits) (
 does_unserved a k limits sync answer same roll turn answered =
     does_nothing a k (ServesValue a.frame a.by a.seen sync other) answer (unserved_turn sync) roll turn (tells_unserved _ sync) (inl (unserved_deed a.frame limits sync answer same roll turn answered))
 
--- a text that subscribes
-pub does_subscribed : (a : AccessView) (k : Option (List ℤ)) (limits : Limits) (bytes : List ℕ) (v : verdicts.Verdict) (answer : Answer) → a.frame.limits ≡ limits → IsVerdict bytes v → is_subscription v ≡ true → answer.roll ≡ None → answer.turn ≡ unserved_turn true → sent_by answer.reply ≡ replied true (reply limits (wrong (codes "nyi"))) → Does (ServesValue a.frame a.by a.seen true (text bytes)) k k a a answer
-does_subscribed a k limits bytes v answer same is asks roll turn answered =
-    does_nothing a k (ServesValue a.frame a.by a.seen true (text bytes)) answer (unserved_turn true) roll turn (tells_unserved _ true) (inl (inr ((v, is, asks), unserved_deed a.frame limits true answer same roll turn answered)))
-
--- an async text
-pub does_passed : (a : AccessView) (k : Option (List ℤ)) (limits : Limits) (bytes : List ℕ) (answer : Answer) → answer.roll ≡ None → answer.turn ≡ t.Passed → sent_by answer.reply ≡ [] → Does (ServesValue a.frame a.by a.seen false (text bytes)) k k a a answer
-does_passed a k limits bytes answer roll turn answered =
-    does_nothing a k (ServesValue a.frame a.by a.seen false (text bytes)) answer t.Passed roll turn (tells_passed _) (inl (record { noted = rw (roll, turn) refl; unanswered = answered; still = record { unread = refl; unmade = refl; unasked = (refl, refl) } }))
-
 -- an update whose parts are of wrong kinds
 pub does_mistyped : (a : AccessView) (k : Option (List ℤ)) (limits : Limits) (sync : Bool) (answer : Answer) → a.frame.limits ≡ limits → answer.roll ≡ None → answer.turn ≡ t.Declined → sent_by answer.reply ≡ replied sync (reply limits (wrong (codes "type"))) → Does (ServesValue a.frame a.by a.seen sync mistyped) k k a a answer
 does_mistyped a k limits sync answer same roll turn answered =
@@ -280,6 +270,13 @@ never_both e = cc
 unsubscribed_by : (bytes : List ℕ) (v : verdicts.Verdict) → IsVerdict bytes v → is_subscription v ≡ false → Subscribes bytes → ⊥
 unsubscribed_by bytes v is asks s = never_both (sym asks ∙ ap is_subscription (one-verdict bytes v s.0 is s.1) ∙ s.2)
 
+-- an async text that doesn't subscribe
+pub does_passed : (a : AccessView) (k : Option (List ℤ)) (bytes : List ℕ) (v : verdicts.Verdict) (answer : Answer) → IsVerdict bytes v → is_subscription v ≡ false → answer.roll ≡ None → answer.turn ≡ t.Passed → sent_by answer.reply ≡ []
+    → Does (ServesValue a.frame a.by a.seen false (text bytes)) k k a a answer
+does_passed a k bytes v answer is asks roll turn answered =
+    does_nothing a k (ServesValue a.frame a.by a.seen false (text bytes)) answer t.Passed roll turn (tells_passed _)
+    (inl (unsubscribed_by bytes v is asks, record { noted = rw (roll, turn) refl; unanswered = answered; still = record { unread = refl; unmade = refl; unasked = (refl, refl) } }))
+
 -- a text was answered over a snapshot
 pub does_answered : (a b : AccessView) (k : Option (List ℤ)) (limits : Limits) (bytes : List ℕ) (v : verdicts.Verdict) (answer : Answer)
     → a.frame.limits ≡ limits → Asks a b → IsVerdict bytes v → is_subscription v ≡ false
@@ -296,7 +293,7 @@ does_answered a b k limits bytes v answer same l is asks roll turn answered =
       ticked = 0;
       clock = sym (told-nil k);
       access = advances_idle a b l.others (turns_by answer.roll answer.turn) 1 0 l.saw (asks_after a b l) (rw turns (record { each = (sym size, tt); last = size }));
-      done = inl (inl (record {
+      done = inl (record {
         count = length b.seen;
         front = b.seen;
         is_front = record { count = refl; more = []; whole = sym (append-nil b.seen) };
@@ -308,7 +305,7 @@ does_answered a b k limits bytes v answer same l is asks roll turn answered =
         unread = refl;
         unmade = refl;
         asked = (refl, refl);
-      }));
+      });
     }
 
 pub does_short_text : (a b : AccessView) (k : Option (List ℤ)) (request : Request) (answer : Answer) → Asks a b → answer.roll ≡ None → answer.turn ≡ t.Short → sent_by answer.reply ≡ response (wrong (codes "wsfull")) → Does (ServesValue a.frame a.by b.seen true request) k k a b answer
@@ -322,119 +319,6 @@ does_short_text a b k request answer l roll turn answered =
       clock = sym (told-nil k);
       access = advances_idle a b l.others (turns_by answer.roll answer.turn) 1 0 l.saw (asks_after a b l) (rw turns (tells_short (length (a.seen ++ l.others))));
       done = inr (record { noted = turns; answered = answered; read = omega arith; unticked = refl; unmade = refl });
-    }
-
--- what a read timeout leaves
-idle_after : (a b : AccessView) (others : List Entry) → b ≡ record a { seen = a.seen ++ others; ticks = next_count a.ticks } → b ≡ advanced a others [] 0 1
-idle_after a b others after = after ∙ ap (λ m. record a { seen = a.seen ++ others; mine = m; ticks = next_count a.ticks }) (sym (append-nil a.mine))
-
-pub does_quiet : (a b : AccessView) (before : State) (k k' : Option (List ℤ)) (now : ℤ) (count : ℕ) (answer : Answer) → k' ≡ told k (now ∷ []) → Waits a b now count → answer.roll ≡ None → answer.turn ≡ t.Quiet count now → sent_by answer.reply ≡ [] → Does (ServesIdle a.frame a.by b.seen before) k k' a b answer
-does_quiet a b before k k' now count answer read l roll turn unsent =
-    let turns : turns_by answer.roll answer.turn ≡ t.Quiet count now ∷ [] = rw (roll, turn) refl in
-    let seen : b.seen ≡ a.seen ++ l.others = ap (λ (v : AccessView). v.seen) l.after in
-    record {
-      readings = now ∷ [];
-      made = [];
-      asked = 0;
-      ticked = 1;
-      clock = read;
-      access = advances_idle a b l.others (turns_by answer.roll answer.turn) 0 1 l.saw (idle_after a b l.others l.after) (rw turns (record { each = (sym l.length, tt); last = l.length }));
-      done = record {
-        unsent = unsent;
-        done = inl (record { count = count; front = a.seen ++ l.others; is_front = record { count = l.length; more = []; whole = seen ∙ sym (append-nil (a.seen ++ l.others)) }; now = now; same = l.early; noted = turns; read = refl; unmade = refl; asked = (refl, refl) });
-      };
-    }
-
-pub does_short_idle : (a b : AccessView) (before : State) (k k' : Option (List ℤ)) (now : ℤ) (answer : Answer) → before.known ≡ length a.seen → k' ≡ told k (now ∷ []) → Wants a b now → answer.roll ≡ None → answer.turn ≡ t.Short → sent_by answer.reply ≡ [] → Does (ServesIdle a.frame a.by b.seen before) k k' a b answer
-does_short_idle a b before k k' now answer knows read l roll turn unsent =
-    let turns : turns_by answer.roll answer.turn ≡ t.Short ∷ [] = rw (roll, turn) refl in
-    let seen : b.seen ≡ a.seen ++ l.others = ap (λ (v : AccessView). v.seen) l.after in
-    record {
-      readings = now ∷ [];
-      made = [];
-      asked = 0;
-      ticked = 1;
-      clock = read;
-      access = advances_idle a b l.others (turns_by answer.roll answer.turn) 0 1 l.saw (idle_after a b l.others l.after) (rw turns (tells_short (length (a.seen ++ l.others))));
-      done = record {
-        unsent = unsent;
-        done = inr (inr (inr (record {
-          count = length (a.seen ++ l.others);
-          front = a.seen ++ l.others;
-          is_front = record { count = refl; more = []; whole = seen ∙ sym (append-nil (a.seen ++ l.others)) };
-          known = omega (arith, knows, length-append a.seen l.others);
-          now = now;
-          next = l.due;
-          noted = turns;
-          read = refl;
-          unmade = refl;
-          asked = (refl, refl);
-        })));
-      };
-    }
-
-pub does_rolled : (a b : AccessView) (before : State) (k k' : Option (List ℤ)) (now : ℤ) (place : ℕ) (answer : Answer) → k' ≡ told k (now ∷ []) → Rolls a b now place → answer.roll ≡ None → answer.turn ≡ t.Rolled place now → sent_by answer.reply ≡ [] → Does (ServesIdle a.frame a.by b.seen before) k k' a b answer
-does_rolled a b before k k' now place answer read l roll turn unsent =
-    let n = length (a.seen ++ l.others) in
-    let entry = next_roll a.frame.first (a.seen ++ l.others) a.by in
-    let turns : turns_by answer.roll answer.turn ≡ t.Rolled n now ∷ [] = rw (roll, turn, l.at_end) refl in
-    let seen : b.seen ≡ (a.seen ++ l.others) ++ entry ∷ [] = ap (λ (v : AccessView). v.seen) l.after in
-    let each : AllGoOn just n (turns_by answer.roll answer.turn) = rw turns (refl, tt) in
-    let size : n + 1 ≡ length ((a.seen ++ l.others) ++ entry ∷ []) = sym (length-append (a.seen ++ l.others) (entry ∷ [])) in
-    let last : last_length n (turns_by answer.roll answer.turn) ≡ length ((a.seen ++ l.others) ++ entry ∷ []) = ap (λ ts. last_length n ts) turns ∙ size in
-    let after = l.after ∙ ap (λ s. record a { seen = s; mine = a.mine ++ entry ∷ []; ticks = next_count a.ticks }) (append_assoc a.seen l.others (entry ∷ [])) in
-    record {
-      readings = now ∷ [];
-      made = entry ∷ [];
-      asked = 0;
-      ticked = 1;
-      clock = read;
-      access = advances a b l.others (entry ∷ []) (turns_by answer.roll answer.turn) 0 1 l.saw after each last;
-      done = record {
-        unsent = unsent;
-        done = inr (inl (record {
-          front = a.seen ++ l.others;
-          now = now;
-          next = l.due;
-          rolled = refl;
-          stands = record { more = []; whole = seen ∙ sym (append-nil ((a.seen ++ l.others) ++ entry ∷ [])) };
-          noted = turns;
-          read = refl;
-          asked = (refl, refl);
-        }));
-      };
-    }
-
-pub does_failed_idle : (a b : AccessView) (before : State) (k k' : Option (List ℤ)) (now : ℤ) (place : ℕ) (answer : Answer) → k' ≡ told k (now ∷ []) → FailsRoll a b now place → answer.roll ≡ None → answer.turn ≡ t.Failed place now → sent_by answer.reply ≡ [] → Does (ServesIdle a.frame a.by b.seen before) k k' a b answer
-does_failed_idle a b before k k' now place answer read l roll turn unsent =
-    let n = length (a.seen ++ l.others) in
-    let entry = e.Fault a.by in
-    let turns : turns_by answer.roll answer.turn ≡ t.Failed n now ∷ [] = rw (roll, turn, l.at_end) refl in
-    let seen : b.seen ≡ (a.seen ++ l.others) ++ entry ∷ [] = ap (λ (v : AccessView). v.seen) l.after in
-    let each : AllGoOn just n (turns_by answer.roll answer.turn) = rw turns (refl, tt) in
-    let size : n + 1 ≡ length ((a.seen ++ l.others) ++ entry ∷ []) = sym (length-append (a.seen ++ l.others) (entry ∷ [])) in
-    let last : last_length n (turns_by answer.roll answer.turn) ≡ length ((a.seen ++ l.others) ++ entry ∷ []) = ap (λ ts. last_length n ts) turns ∙ size in
-    let after = l.after ∙ ap (λ s. record a { seen = s; mine = a.mine ++ entry ∷ []; ticks = next_count a.ticks }) (append_assoc a.seen l.others (entry ∷ [])) in
-    record {
-      readings = now ∷ [];
-      made = entry ∷ [];
-      asked = 0;
-      ticked = 1;
-      clock = read;
-      access = advances a b l.others (entry ∷ []) (turns_by answer.roll answer.turn) 0 1 l.saw after each last;
-      done = record {
-        unsent = unsent;
-        done = inr (inr (inl (record {
-          front = a.seen ++ l.others;
-          now = now;
-          next = l.due;
-          failed = refl;
-          stands = record { more = []; whole = seen ∙ sym (append-nil ((a.seen ++ l.others) ++ entry ∷ [])) };
-          noted = turns;
-          read = refl;
-          asked = (refl, refl);
-        })));
-      };
     }
 
 -- a question was answered over the snapshot that was asked for

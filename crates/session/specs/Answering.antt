@@ -10,10 +10,12 @@ use Rattle.q_values.specs.declared.limits.Limits.{Limits}
 use Rattle.q_values.specs.declared.turn.Turn.{Turn}
 use Rattle.q_values.specs.declared.turn.Turn.TheVariants as t
 use Rattle.session.specs.Replies.{reply_bytes, Refuses}
-use Rattle.session.specs.Reply.{response, replied}
+use Rattle.session.specs.Reply.{response, reply, replied}
 use Rattle.session.specs.Request.{Request}
 use Rattle.session.specs.Run.{Advances}
 use Rattle.session.specs.Served.{Deed, ServesRequest, IsShort}
+use Rattle.pubsub.specs.declared.request.SubRefusal.{SubRefusal}
+use Rattle.pubsub.specs.declared.request.SubRefusal.TheVariants as s
 use Rattle.session.specs.declared.answer.Answer.{Answer}
 use Rattle.session.specs.declared.reply.Reply.{Reply}
 
@@ -49,6 +51,16 @@ pub record AnswersRefused (limits : Limits) (sync : Bool) (count : ℕ) (now : �
 abbrev pub AnswersRefusal : Limits → Bool → ℕ → ℤ → UpdRefusal → Answer → Type 0
 AnswersRefusal limits sync count now why answer = AnswersRefused limits sync count now why answer ⊎ AnswersShort sync answer
 
+-- the answer to a subscription to a table that isn't there: its name
+pub record AnswersName (limits : Limits) (sync : Bool) (name : List ℕ) (answer : Answer) : Type 0 where
+  pub roll : answer.roll ≡ None
+  pub turn : answer.turn ≡ t.Declined
+  pub reply : sent_by answer.reply ≡ replied sync (reply limits (wrong name))
+
+abbrev pub AnswersUnknown : Limits → Bool → SubRefusal → Answer → Type 0
+AnswersUnknown limits sync (s.NoTable name) answer = AnswersName limits sync name answer ⊎ AnswersShort sync answer
+AnswersUnknown limits sync s.NoMemory answer = AnswersShort sync answer
+
 -- an answer, with the clock's readings, the entries that were made, and the snapshots and ticks that were asked for
 abbrev pub deed_of : Answer → List ℤ → List Entry → ℕ → ℕ → Deed
 deed_of answer readings made asked ticked = record {
@@ -70,6 +82,6 @@ pub record Does (Done : Deed → Type 0) (clock_old clock_new : Option (List ℤ
   pub access : Advances old new (turns_by answer.roll answer.turn) made asked ticked
   pub done : Done (deed_of answer readings made asked ticked)
 
--- what is done with a message that has a value
+-- what is done with a message that has a value and is no subscription
 abbrev pub ServesValue : Frame → ℕ → List Entry → Bool → Request → Deed → Type 0
 ServesValue frame by seen sync request deed = ServesRequest frame by seen sync request deed ⊎ IsShort sync deed

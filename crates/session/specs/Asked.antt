@@ -5,13 +5,14 @@ use Rattle.q_values.specs.Tree.{Tree, tree, trees}
 use Rattle.q_values.specs.declared.atom.Atom.{Atom}
 use Rattle.q_values.specs.declared.kind.Kind.{Kind}
 use Rattle.q_values.specs.declared.value.Value.{Value}
-use Rattle.session.specs.Request.{Request, update, mistyped, text, other, characters_of, parts_request}
+use Rattle.session.specs.Request.{Request, update, subscribe, mistyped, text, other, characters_of, parts_request}
 use Rattle.session.specs.declared.request.Asked.{Asked}
 use Rattle.session.specs.declared.request.Asked.TheVariants as c
 
 -- the code has read this request
 abbrev pub Asks : Request → Asked → Type 0
 Asks request (c.Update r) = request ≡ update r.table (trees r.items)
+Asks request (c.Subscription r) = request ≡ subscribe r
 Asks request c.Mistyped = request ≡ mistyped
 Asks request (c.Text bytes) = request ≡ text bytes
 Asks request c.Other = request ≡ other

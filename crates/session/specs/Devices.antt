@@ -1,11 +1,11 @@
 -- The devices of a session's state, and what a part of a session leaves as it was.
-use Rattle.std.specs.Prelude.{◌≡◌, ℤ, List, Option}
+use Rattle.std.specs.Prelude.{◌≡◌, ℤ, false, List, length, Option}
 use Rattle.std.specs.Borrow.{MutBor}
 use Rattle.outside_api.specs.Link.{LinkView}
 use Rattle.plant_core.specs.Access.{AccessView}
 use Rattle.q_values.specs.declared.turn.Turn.{Turn}
 use Rattle.session.specs.Run.{World, world}
-use Rattle.session.specs.State.{State, fresh_state}
+use Rattle.session.specs.State.{State, is_owed}
 use Rattle.session.specs.declared.session.Session.{Session}
 
 -- a field holds the reference that was given, and its value is unchanged
@@ -17,9 +17,17 @@ pub record IsLent {T : Type 0} (given field : MutBor T) : Type 0 where
 abbrev pub world_of : {A L C G N : Type 0} → (A → AccessView) → (L → LinkView) → (C → Option (List ℤ)) → (N → Option (List Turn)) → Session A L C G N → World
 world_of access link clock notes s = world (link s.link.now) (clock s.clock.now) (notes s.recorder.now) (access s.access.now)
 
--- what a session knows, by what its access shows
+-- what a session knows between two events, by what its access shows
 abbrev pub state_of : {A L C G N : Type 0} → (A → AccessView) → Session A L C G N → State
-state_of access s = fresh_state (access s.access.now)
+state_of access s = record { known = length (access s.access.now).seen; subscriber = s.subscriber; due = false }
+
+-- the same when an event was served, and publications haven't been looked for
+abbrev pub served_of : {A L C G N : Type 0} → (A → AccessView) → Session A L C G N → State
+served_of access s = record {
+  known = length (access s.access.now).seen;
+  subscriber = s.subscriber;
+  due = is_owed s.subscriber (length (access s.access.now).seen);
+}
 
 -- the session still has its devices and its limits
 pub record HasSameDevices {A L C G N : Type 0} (old new : Session A L C G N) : Type 0 where
@@ -35,8 +43,13 @@ pub record HearsNothing {A L C G N : Type 0} (old new : Session A L C G N) : Typ
   pub reader : new.reader.now ≡ old.reader.now
   pub idles_left : new.idles_left ≡ old.idles_left
 
+-- nothing was read, and the subscriber is as it was
+pub record KeepsSubscriber {A L C G N : Type 0} (old new : Session A L C G N) : Type 0 where
+  pub unheard : HearsNothing old new
+  pub subscriber : new.subscriber ≡ old.subscriber
+
 -- nothing was read, written or noted
 pub record OnlyAsks {A L C G N : Type 0} (old new : Session A L C G N) : Type 0 where
-  pub unheard : HearsNothing old new
+  pub unheard : KeepsSubscriber old new
   pub link : new.link.now ≡ old.link.now
   pub recorder : new.recorder.now ≡ old.recorder.now

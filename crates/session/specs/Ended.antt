@@ -48,13 +48,14 @@ HasReadAll WriteFault link = Unit {0}
 HasReadAll Idle link = Unit {0}
 HasReadAll NoMemory link = Unit {0}
 
--- at `Idle` all the read timeouts that were left have come, at another end not all
+-- At `Idle` all the read timeouts that were left have come, at another end not all; but the write that failed may be that of what is
+-- published after the last one.
 abbrev pub SpendsIdles : End → ℕ → ℕ → Type 0
 SpendsIdles Closed left idled = idled < left
 SpendsIdles Truncated left idled = idled < left
 SpendsIdles (BadMessage code at) left idled = idled < left
 SpendsIdles ReadFault left idled = idled < left
-SpendsIdles WriteFault left idled = idled < left
+SpendsIdles WriteFault left idled = idled ≤ left
 SpendsIdles Idle left idled = idled ≡ left
 SpendsIdles NoMemory left idled = idled < left
 
@@ -65,13 +66,14 @@ IsBad limits greeted place rest code at =
     ((k : ℕ) × (front_of limits rest ≡ fault code k) × (at ≡ told_place (place + k)))
     (HasNoNul (take (limits.greeting + 1) rest) × (limits.greeting < length rest) × (code ≡ b.Greeting) × (at ≡ told_place (place + limits.greeting)))
 
--- the bytes that were read and not heard, from an offset of the stream on, at each end
+-- The bytes that were read and not heard, from an offset of the stream on, at each end. A write fails after a handshake, or after a
+-- read timeout, at which all that was read is a part of what comes next.
 abbrev pub Rests : End → Limits → Bool → ℕ → List ℕ → Type 0
 Rests Closed limits greeted place rest = rest ≡ []
 Rests Truncated limits greeted place rest = IsNeeded limits greeted rest × (0 < length rest)
 Rests (BadMessage code at) limits greeted place rest = IsBad limits greeted place rest code at
 Rests ReadFault limits greeted place rest = IsNeeded limits greeted rest
-Rests WriteFault limits greeted place rest = greeted ≡ true
+Rests WriteFault limits greeted place rest = (greeted ≡ true) ⊎ IsNeeded limits greeted rest
 Rests Idle limits greeted place rest = IsNeeded limits greeted rest
 Rests NoMemory limits greeted place rest = ⊥
 
@@ -94,15 +96,25 @@ IsSent ReadFault parts written = written ≡ flat_map (λ part. part) parts
 IsSent Idle parts written = written ≡ flat_map (λ part. part) parts
 IsSent NoMemory parts written = written ≡ flat_map (λ part. part) parts
 
--- the end may come without another read
-abbrev pub NeedsNoRead : End → Type 0
-NeedsNoRead Closed = Unit {0}
-NeedsNoRead Truncated = Unit {0}
-NeedsNoRead (BadMessage code at) = Unit {0}
-NeedsNoRead ReadFault = ⊥
-NeedsNoRead WriteFault = Unit {0}
-NeedsNoRead Idle = ⊥
-NeedsNoRead NoMemory = ⊥
+-- the end may come without another read, where the handshake was heard or wasn't
+abbrev pub NeedsNoRead : End → Bool → Type 0
+NeedsNoRead Closed greeted = Unit {0}
+NeedsNoRead Truncated greeted = Unit {0}
+NeedsNoRead (BadMessage code at) greeted = Unit {0}
+NeedsNoRead ReadFault greeted = ⊥
+NeedsNoRead WriteFault greeted = greeted ≡ true
+NeedsNoRead Idle greeted = ⊥
+NeedsNoRead NoMemory greeted = ⊥
+
+-- no publications are to be looked for in the end, unless a write failed
+abbrev pub LeavesNoneDue : End → State → Type 0
+LeavesNoneDue WriteFault after = Unit {0}
+LeavesNoneDue NoMemory after = after.due ≡ false
+LeavesNoneDue Closed after = after.due ≡ false
+LeavesNoneDue Truncated after = after.due ≡ false
+LeavesNoneDue (BadMessage code at) after = after.due ≡ false
+LeavesNoneDue ReadFault after = after.due ≡ false
+LeavesNoneDue Idle after = after.due ≡ false
 
 -- some steps of a session, from an offset of the stream on
 pub record Runs (limits : Limits) (place : ℕ) (a b : World) (before after : State) (r s : ReaderView) (left_old left_new : ℕ) : Type 0 where
@@ -119,7 +131,6 @@ pub record Runs (limits : Limits) (place : ℕ) (a b : World) (before after : St
   pub placed : s.framer.place ≡ told_place (place + length heard)
   pub counted : idles_heard (map (λ s. s.event) steps) ≡ idled
   pub idles : left_old ≡ left_new + idled
-  pub some : 0 < left_new
   pub opened : ((given ≡ []) × (idled ≡ 0)) ⊎ (a.link.ended ≡ false)
 
 -- steps of a session from an offset of the stream on, and then its end
@@ -139,11 +150,12 @@ pub record Converses (limits : Limits) (place : ℕ) (a b : World) (before : Sta
   pub hears : Hears limits r.framer.greeted place heard (map (λ s. s.event) steps) greeted
   pub rests : Rests end limits greeted (place + length heard) rest
   pub sent : IsSent end (map (λ s. s.deed.sent) steps) written
+  pub looked : LeavesNoneDue end after
   pub counted : idles_heard (map (λ s. s.event) steps) ≡ idled
   pub idles : SpendsIdles end left idled
-  pub opened : ((given ≡ []) × (idled ≡ 0) × NeedsNoRead end) ⊎ WasOpenAt end a.link
+  pub opened : ((given ≡ []) × (idled ≡ 0) × NeedsNoRead end greeted) ⊎ WasOpenAt end a.link
 
--- a session goes on after some steps, or ends
+-- a session goes on after some steps, with read timeouts left, or ends
 abbrev pub Goes : Limits → ℕ → World → World → State → State → ReaderView → ReaderView → ℕ → ℕ → Option End → Type 0
 Goes limits place a b before after r s left_old left_new result =
-    MatchOption result (Runs limits place a b before after r s left_old left_new) (λ end. Converses limits place a b before r left_old end)
+    MatchOption result (Runs limits place a b before after r s left_old left_new × (0 < left_new)) (λ end. Converses limits place a b before r left_old end)

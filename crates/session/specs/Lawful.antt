@@ -1,7 +1,7 @@
 -- The lengths of the chronicle that turns report, one after the other.
 use Rattle.std.specs.Prelude.{◌≡◌, ◌≤◌, ◌+◌, ℕ, List, [], ◌∷◌}
 use Rattle.q_values.specs.declared.turn.Turn.{Turn}
-use Rattle.q_values.specs.declared.turn.Turn.TheVariants.{Logged, Rolled, Refused, Failed, Quiet, Answered}
+use Rattle.q_values.specs.declared.turn.Turn.TheVariants.{Logged, Rolled, Refused, Failed, Quiet, Answered, Subscribed, Told, TooLong}
 
 -- the chronicle's length after a turn: as the turn reports it, or else the length before it
 abbrev pub length_after : ℕ → Turn → ℕ
@@ -11,6 +11,9 @@ length_after n (Refused count now) = count
 length_after n (Failed place now) = place + 1
 length_after n (Quiet count now) = count
 length_after n (Answered count) = count
+length_after n (Subscribed count) = count
+length_after n (Told from to) = to
+length_after n (TooLong from to) = to
 length_after n turn = n
 
 -- R holds of the length before a turn and the length that it reports
@@ -21,6 +24,9 @@ GoesOn R n (Refused count now) = R n count
 GoesOn R n (Failed place now) = R n place
 GoesOn R n (Quiet count now) = R n count
 GoesOn R n (Answered count) = R n count
+GoesOn R n (Subscribed count) = R n count
+GoesOn R n (Told from to) = R n to
+GoesOn R n (TooLong from to) = R n to
 GoesOn R n turn = Unit {0}
 
 -- the length after all turns

@@ -8,6 +8,7 @@ pub mod Ended
 pub mod Heard
 pub mod Reading
 pub mod Lawful
+pub mod Owing
 pub mod Replies
 pub mod Reply
 pub mod Request
@@ -15,3 +16,5 @@ pub mod Run
 pub mod Served
 pub mod Session
 pub mod State
+pub mod Steps
+pub mod Subscribing

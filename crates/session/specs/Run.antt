@@ -8,8 +8,9 @@ use Rattle.outside_api.specs.Told.{told, Tells}
 use Rattle.plant_core.specs.Access.{AccessView}
 use Rattle.q_values.specs.declared.turn.Turn.{Turn}
 use Rattle.session.specs.Lawful.{AreLengths, AreExact}
-use Rattle.session.specs.Served.{Step, IsStep}
+use Rattle.session.specs.Served.{Step}
 use Rattle.session.specs.State.{State, Chain}
+use Rattle.session.specs.Steps.{IsStep}
 
 -- what the devices of a session show
 pub record World : Type 0 where

@@ -1,10 +1,10 @@
 -- What a session does with what it hears.
-use Rattle.std.specs.Prelude.{◌≡◌, ◌≤◌, ◌+◌, ◌⊎◌, ℕ, ℤ, Bool, true, false, List, [], ◌∷◌, ◌++◌, length, min, codes}
+use Rattle.std.specs.Prelude.{◌≡◌, ◌<◌, ◌≤◌, ◌+◌, ◌⊎◌, ℕ, ℤ, Bool, true, false, List, [], ◌∷◌, ◌++◌, length, min, codes, Option, Some, None}
 use Rattle.day_rows.specs.Chronicle.{date_of}
 use Rattle.day_rows.specs.declared.entry.Entry.{Entry}
 use Rattle.day_rows.specs.declared.entry.Entry.TheVariants as e
 use Rattle.gateway.specs.Answer.{IsAnswer, Subscribes}
-use Rattle.ipc_frame.specs.Stream.{Content, Message, built, unbuilt}
+use Rattle.ipc_frame.specs.Stream.{Message}
 use Rattle.plant_memory.specs.Frame.{Frame}
 use Rattle.plant_memory.specs.Memory.{next_roll}
 use Rattle.plant_memory.specs.Verdict.{accepts, refuses, verdict, is_next_day}
@@ -13,16 +13,16 @@ use Rattle.q_values.specs.Tree.{Tree, identity, wrong}
 use Rattle.q_values.specs.declared.turn.Turn.{Turn}
 use Rattle.q_values.specs.declared.turn.Turn.TheVariants as t
 use Rattle.session.specs.Chronicle.{IsFront}
-use Rattle.session.specs.Lawful.{AreLengths}
 use Rattle.session.specs.Reply.{response, reply, replied, refusal_text}
-use Rattle.session.specs.Request.{Request, update, mistyped, text, other, request_of}
+use Rattle.session.specs.Request.{Request, update, subscribe, mistyped, text, other}
 use Rattle.session.specs.State.{State}
 
--- what a session hears: a handshake with this capability, a message, or a read timeout
+-- what a session serves: a handshake with this capability, a message, a read timeout, or what its subscriber is owed
 pub data Event : Type 0 where
   greeted : ℕ → Event
   asked : Message → Event
   idled : Event
+  published : Event
 
 -- what was done with an event: the turns noted, the bytes sent, the readings of the clock, the entries made, and how many
 -- snapshots and ticks the access was asked for
@@ -148,23 +148,19 @@ abbrev pub IsUnserved : Frame → Bool → Deed → Type 0
 IsUnserved frame true deed = IsDeclined frame true (codes "nyi") deed
 IsUnserved frame false deed = IsPassed deed
 
--- a sync text is answered, and one that subscribes is declined; an async text is never evaluated
+-- a sync text is answered; an async text that doesn't subscribe is never evaluated
 abbrev pub ServesText : Frame → List Entry → Bool → List ℕ → Deed → Type 0
-ServesText frame seen true bytes deed = IsAnswered frame seen bytes deed ⊎ (Subscribes bytes × IsDeclined frame true (codes "nyi") deed)
-ServesText frame seen false bytes deed = IsPassed deed
+ServesText frame seen true bytes deed = IsAnswered frame seen bytes deed
+ServesText frame seen false bytes deed = (Subscribes bytes → ⊥) × IsPassed deed
 
--- what is done with a request, where there is memory
+-- what is done with a request that is no subscription, where there is memory
 abbrev pub ServesRequest : Frame → ℕ → List Entry → Bool → Request → Deed → Type 0
 ServesRequest frame by seen sync (update table items) deed =
     IsLogged frame by seen sync table items deed ⊎ IsRefused frame by seen sync table items deed ⊎ IsFailed frame by seen sync table items deed
+ServesRequest frame by seen sync (subscribe request) deed = ⊥
 ServesRequest frame by seen sync mistyped deed = IsDeclined frame sync (codes "type") deed
 ServesRequest frame by seen sync (text bytes) deed = ServesText frame seen sync bytes deed
 ServesRequest frame by seen sync other deed = IsUnserved frame sync deed
-
--- what is done with a message: one outside the profile is not served; with another the session may be out of memory
-abbrev pub ServesContent : Frame → ℕ → List Entry → Bool → Content → Deed → Type 0
-ServesContent frame by seen sync (unbuilt at) deed = IsUnserved frame sync deed
-ServesContent frame by seen sync (built value) deed = ServesRequest frame by seen sync (request_of value) deed ⊎ IsShort sync deed
 
 -- the handshake is answered with one byte: its capability, but 3 at most
 pub record IsGreeted (capability : ℕ) (deed : Deed) : Type 0 where
@@ -229,15 +225,3 @@ IsIdle frame by seen before deed =
 pub record ServesIdle (frame : Frame) (by : ℕ) (seen : List Entry) (before : State) (deed : Deed) : Type 0 where
   pub unsent : deed.sent ≡ []
   pub done : IsIdle frame by seen before deed
-
--- what is done with an event in this state, where this is the chronicle in the end
-abbrev pub Serves : Frame → ℕ → List Entry → State → Event → Deed → Type 0
-Serves frame by seen before (greeted capability) deed = IsGreeted capability deed
-Serves frame by seen before (asked message) deed = ServesContent frame by seen message.sync message.content deed
-Serves frame by seen before idled deed = ServesIdle frame by seen before deed
-
--- A step is served as its event asks in the state before it. The lengths that its turns report begin at no less than what
--- was known before it, never fall, and end within what is known after it.
-pub record IsStep (frame : Frame) (by : ℕ) (seen : List Entry) (before after : State) (s : Step) : Type 0 where
-  pub served : Serves frame by seen before s.event s.deed
-  pub lengths : AreLengths before.known after.known s.deed.turns

@@ -1,14 +1,15 @@
 -- What a session is: what it read from its link, and what it did with that.
-use Rattle.std.specs.Prelude.{◌≡◌, ◌<◌, ◌⊎◌, ℕ, Bool, false, List, [], ◌++◌, map, min}
+use Rattle.std.specs.Prelude.{◌≡◌, ◌<◌, ◌≤◌, ◌⊎◌, ℕ, Bool, false, List, [], ◌++◌, map, min}
 use Rattle.outside_api.specs.Counts.{last_count}
 use Rattle.outside_api.specs.Told.{told, Tells}
 use Rattle.ipc_frame.specs.Stream.{Ending, Message, closed, truncated, bad, IsStream}
 use Rattle.q_values.specs.declared.limits.Limits.{Limits}
-use Rattle.session.specs.Ended.{ended_link, HasReadAll, WasOpenAt, IsSent}
+use Rattle.session.specs.Ended.{ended_link, HasReadAll, WasOpenAt, IsSent, LeavesNoneDue}
 use Rattle.session.specs.Heard.{Hears, greeting_heard, messages_heard, idles_heard}
 use Rattle.session.specs.Run.{World, Advances, moved, turns_of, readings_of, made_in, snapshots_in, ticks_in}
-use Rattle.session.specs.Served.{Event, Step, IsStep}
+use Rattle.session.specs.Served.{Event, Step}
 use Rattle.session.specs.State.{State, Chain, fresh_state}
+use Rattle.session.specs.Steps.{IsStep}
 use Rattle.session.specs.declared.end.End.{End}
 use Rattle.session.specs.declared.end.End.TheVariants.{Closed, Truncated, BadMessage, ReadFault, WriteFault, Idle, NoMemory}
 
@@ -22,7 +23,7 @@ HasCause limits Closed ending idled = (ending ≡ closed) × (idled < limits.idl
 HasCause limits Truncated ending idled = (ending ≡ truncated) × (idled < limits.idle)
 HasCause limits (BadMessage code at) ending idled = (place : ℕ) × (ending ≡ bad code place) × (at ≡ min place last_count) × (idled < limits.idle)
 HasCause limits ReadFault ending idled = HasNoFault ending × (idled < limits.idle)
-HasCause limits WriteFault ending idled = idled < limits.idle
+HasCause limits WriteFault ending idled = idled ≤ limits.idle
 HasCause limits Idle ending idled = HasNoFault ending × (idled ≡ limits.idle)
 HasCause limits NoMemory ending idled = (ending ≡ closed) × (idled ≡ 0)
 
@@ -46,7 +47,7 @@ LeavesNone (BadMessage code at) unserved = unserved ≡ []
 LeavesNone ReadFault unserved = unserved ≡ []
 LeavesNone Idle unserved = unserved ≡ []
 
--- what was heard in these steps
+-- what was served in these steps
 abbrev pub events_of : List Step → List Event
 events_of = map (λ s. s.event)
 
@@ -77,6 +78,7 @@ pub record IsSession (limits : Limits) (a b : World) (end : End) : Type 0 where
   -- what was heard was served, over prefixes of the chronicle, each step in the state that the one before it left
   pub after : State
   pub served : Chain (IsStep a.access.frame a.access.by b.access.seen) (fresh_state a.access) after steps
+  pub looked : LeavesNoneDue end after
   -- what was noted, what was written, and the readings of the clock
   pub notes : Tells a.notes b.notes (turns_of steps)
   pub sent : IsSent end (map (λ s. s.deed.sent) steps) written

@@ -1,19 +1,15 @@
 //! Acting on what was heard: the turns are noted, and then the bytes are sent.
 ghost use Rattle.std.specs.Prelude.{◌≡◌, ◌∷◌, [], ℕ, min};
-ghost use Rattle.ipc_frame.specs.Stream.{built};
 ghost use Rattle.outside_api.specs.Told.{Tells};
-ghost use Rattle.q_values.specs.Limits.{AreLimits};
-ghost use Rattle.q_values.specs.Tree.{tree};
-ghost use Rattle.session.specs.Acting.{Acts, Finishes, NotesRoll, IdlesBy, IsUnservedBy, IsShortBy};
+ghost use Rattle.session.specs.Acting.{Finishes, NotesRoll, IdlesBy};
 ghost use Rattle.session.specs.Answering.{turns_by, sent_by};
-ghost use Rattle.session.specs.Served.{ServesContent};
 
-use crate::answer::{Answer, short, unserved};
+use crate::answer::Answer;
 use crate::end::End;
 use crate::session::Session;
 use outside_api::{Clock, Gate, Link, Recorder};
 use plant_core::Access;
-use q_values::{Limits, Turn, Value};
+use q_values::Turn;
 use std::alloc::Global;
 use std::sync::Wait;
 
@@ -30,7 +26,7 @@ fn note_roll<N: Recorder>(recorder: &mut N, roll: Option<Turn>)
 }
 
 /// Sends bytes, if there are any. A write that fails ends the session.
-fn send<L: Link>(link: &mut L, bytes: &[u8]) -> Option<End>
+pub fn send<L: Link>(link: &mut L, bytes: &[u8]) -> Option<End>
     ensures { Finishes (L.shown link.old) (L.shown link.new) bytes.now result }
 {
     if bytes.is_empty() {
@@ -61,53 +57,23 @@ pub fn greet<L: Link, N: Recorder>(link: &mut L, recorder: &mut N, capability: u
     send(link, &[capability.min(MAX_CAPABILITY)])
 }
 
-/// Serves a message whose object is outside the profile.
-pub fn serve_outside<L: Link, N: Recorder>(
-    link: &mut L,
-    recorder: &mut N,
-    limits: &Limits,
-    sync: bool,
-) -> Option<End>
-    ensures { IsUnservedBy limits.now sync (L.shown link.old) (L.shown link.new) (N.noted recorder.old) (N.noted recorder.new) result }
-{
-    finish(link, recorder, &unserved(sync, limits))
-}
-
-/// Serves a message whose value could not be built: out of memory.
-pub fn serve_short<L: Link, N: Recorder>(link: &mut L, recorder: &mut N, sync: bool) -> Option<End>
-    ensures { IsShortBy sync (L.shown link.old) (L.shown link.new) (N.noted recorder.old) (N.noted recorder.new) result }
-{
-    finish(link, recorder, &short(sync))
-}
-
 impl<A: Access, L: Link, C: Clock, G: Gate, N: Recorder> Session<'_, A, L, C, G, N> {
-    ghost use Rattle.session.specs.Devices.{world_of, state_of, HearsNothing};
+    ghost use Rattle.session.specs.Devices.{world_of, state_of, KeepsSubscriber};
 
-    /// Serves a message that has a value.
-    pub fn serve_value<R: Wait>(
-        &mut self,
-        rt: &R,
-        alloc: Global,
-        sync: bool,
-        value: Value,
-    ) -> Option<End>
-        requires limits { AreLimits self.old.limits.now }
-        requires same { (A.shown self.old.access.now).frame.limits ≡ self.old.limits.now }
-        ensures same { HearsNothing self.old self.new }
-        ensures acts { Acts
-            (ServesContent (A.shown self.old.access.now).frame (A.shown self.old.access.now).by
-            (A.shown self.new.access.now).seen sync (built (tree value)))
-            (world_of A.shown L.shown C.readings N.noted self.old)
-            (world_of A.shown L.shown C.readings N.noted self.new)
-            result }
+    /// Notes the turns of an answer, and then sends its bytes. A write that fails ends the session.
+    pub fn finish(&mut self, answer: &Answer) -> Option<End>
+        ensures same { KeepsSubscriber self.old self.new }
+        ensures access { self.new.access.now ≡ self.old.access.now }
+        ensures clock { self.new.clock.now ≡ self.old.clock.now }
+        ensures noted { Tells (N.noted self.old.recorder.now) (N.noted self.new.recorder.now) (turns_by answer.now.roll answer.now.turn) }
+        ensures sent { Finishes (L.shown self.old.link.now) (L.shown self.new.link.now) (sent_by answer.now.reply) result }
     {
-        let answer = self.answer_value(rt, alloc, sync, value);
-        finish(self.link, self.recorder, &answer)
+        finish(self.link, self.recorder, answer)
     }
 
     /// Serves a read timeout of the link, for which nothing is sent.
     pub fn serve_timeout<R: Wait>(&mut self, rt: &R, alloc: Global)
-        ensures same { HearsNothing self.old self.new }
+        ensures same { KeepsSubscriber self.old self.new }
         ensures idled { IdlesBy (state_of A.shown self.old)
             (world_of A.shown L.shown C.readings N.noted self.old)
             (world_of A.shown L.shown C.readings N.noted self.new) }

@@ -4,23 +4,21 @@ ghost use Rattle.gateway.specs.Answer.{is_subscription, verdict_answer};
 ghost use Rattle.gateway.specs.Views.{verdict_of};
 ghost use Rattle.q_values.specs.Limits.{AreLimits};
 ghost use Rattle.qsql_parse.specs.Verdicts.{IsVerdict};
-ghost use Rattle.q_values.specs.Tree.{tree, trees, identity, wrong};
+ghost use Rattle.q_values.specs.Tree.{trees, identity, wrong};
 ghost use Rattle.session.specs.Answering.{Does, ServesValue, AnswersRefusal, sent_by, roll_turn};
 ghost use Rattle.session.specs.Replies.{reply_bytes};
 ghost use Rattle.session.specs.Reply.{response, reply, replied};
-ghost use Rattle.session.specs.Asked.{Asks};
-ghost use Rattle.session.specs.Request.{Request, update, text, request_of};
+ghost use Rattle.session.specs.Request.{update, text};
 ghost use Rattle.session.specs.Served.{ServesIdle};
 
 use crate::reply::{Reply, disk, done, mistyped, nyi, refuse, respond, wsfull};
-use crate::request::{Asked, asked_by};
 use crate::session::Session;
 use day_rows::Schema;
 use gateway::Question;
 use outside_api::{Clock, Gate, Link, Point, Recorder};
 use plant_core::{Access, TickTurn, UpdTurn};
 use plant_memory::{Snapshot, UpdRefusal, UpdRequest};
-use q_values::{Limits, NoMemory, Turn, Value};
+use q_values::{Limits, NoMemory, Turn};
 use std::alloc::Global;
 use std::sync::Wait;
 
@@ -48,7 +46,7 @@ impl Answer {
 }
 
 /// The response, if the message was sync.
-fn replying(sync: bool, reply: Reply) -> Option<Reply>
+pub fn replying(sync: bool, reply: Reply) -> Option<Reply>
     ensures { sent_by result ≡ replied sync (reply_bytes reply) }
 {
     if sync { Some(reply) } else { None }
@@ -80,8 +78,8 @@ pub fn unserved(sync: bool, limits: &Limits) -> Answer
     }
 }
 
-/// The answer to an update whose parts are of the wrong kinds.
-fn declined(sync: bool, limits: &Limits) -> Answer
+/// The answer to an update or a subscription whose parts are of the wrong kinds.
+pub fn declined(sync: bool, limits: &Limits) -> Answer
     ensures roll { result.roll ≡ None }
     ensures turn { result.turn ≡ Turn.Declined }
     ensures reply { sent_by result.reply ≡ replied sync (reply limits.now (wrong (codes "type"))) }
@@ -198,7 +196,7 @@ impl<A: Access, L: Link, C: Clock, G: Gate, N: Recorder> Session<'_, A, L, C, G,
     ghost use Rattle.session.specs.Devices.{OnlyAsks, state_of};
 
     /// Logs an update, or refuses it, or tells that the disk failed.
-    fn answer_update<R: Wait>(
+    pub fn answer_update<R: Wait>(
         &mut self,
         rt: &R,
         alloc: Global,
@@ -261,71 +259,28 @@ impl<A: Access, L: Link, C: Clock, G: Gate, N: Recorder> Session<'_, A, L, C, G,
         }
     }
 
-    /// Answers a text, if anybody waits for the response. A text that subscribes isn't served.
-    fn answer_text<R: Wait>(&mut self, rt: &R, alloc: Global, sync: bool, asked: &[u8]) -> Answer
-        requires limits { AreLimits self.old.limits.now }
-        requires same { (A.shown self.old.access.now).frame.limits ≡ self.old.limits.now }
-        ensures same { OnlyAsks self.old self.new }
-        ensures clock { self.new.clock.now ≡ self.old.clock.now }
-        ensures does { (k : Option (List ℤ)) → Does
-            (ServesValue (A.shown self.old.access.now).frame (A.shown self.old.access.now).by (A.shown self.new.access.now).seen
-            sync (text asked.now))
-            k k (A.shown self.old.access.now) (A.shown self.new.access.now) result }
-    {
-        if !sync {
-            return unserved(sync, self.limits);
-        }
-        match Question::of(alloc, asked) {
-            Ok(question) => {
-                if question.is_subscription() {
-                    unserved(true, self.limits)
-                } else {
-                    self.answer_question(rt, alloc, &question)
-                }
-            }
-            Err(_) => short(true),
-        }
-    }
-
-    /// Answers what a message asks for.
-    fn answer_asked<R: Wait>(&mut self, rt: &R, alloc: Global, sync: bool, asked: &Asked) -> Answer
-        requires limits { AreLimits self.old.limits.now }
-        requires same { (A.shown self.old.access.now).frame.limits ≡ self.old.limits.now }
-        ensures same { OnlyAsks self.old self.new }
-        ensures does { (request : Request) → Asks request asked.now → Does
-            (ServesValue (A.shown self.old.access.now).frame (A.shown self.old.access.now).by (A.shown self.new.access.now).seen
-            sync request)
-            (C.readings self.old.clock.now) (C.readings self.new.clock.now)
-            (A.shown self.old.access.now) (A.shown self.new.access.now) result }
-    {
-        match asked {
-            Asked::Update(request) => self.answer_update(rt, alloc, sync, request),
-            Asked::Mistyped => declined(sync, self.limits),
-            Asked::Text(bytes) => self.answer_text(rt, alloc, sync, bytes.as_slice()),
-            Asked::Other => unserved(sync, self.limits),
-        }
-    }
-
-    /// Answers a message that has a value.
-    pub fn answer_value<R: Wait>(
+    /// Answers a text that doesn't subscribe, if anybody waits for the response.
+    pub fn answer_text<R: Wait>(
         &mut self,
         rt: &R,
         alloc: Global,
         sync: bool,
-        value: Value,
+        question: &Question,
     ) -> Answer
         requires limits { AreLimits self.old.limits.now }
         requires same { (A.shown self.old.access.now).frame.limits ≡ self.old.limits.now }
+        requires asks { is_subscription (verdict_of question.now) ≡ false }
         ensures same { OnlyAsks self.old self.new }
-        ensures does { Does
+        ensures clock { self.new.clock.now ≡ self.old.clock.now }
+        ensures does { (bytes : List ℕ) (k : Option (List ℤ)) → IsVerdict bytes (verdict_of question.now) → Does
             (ServesValue (A.shown self.old.access.now).frame (A.shown self.old.access.now).by (A.shown self.new.access.now).seen
-            sync (request_of (tree value)))
-            (C.readings self.old.clock.now) (C.readings self.new.clock.now)
-            (A.shown self.old.access.now) (A.shown self.new.access.now) result }
+            sync (text bytes))
+            k k (A.shown self.old.access.now) (A.shown self.new.access.now) result }
     {
-        match asked_by(alloc, value) {
-            Ok(asked) => self.answer_asked(rt, alloc, sync, &asked),
-            Err(_) => short(sync),
+        if sync {
+            self.answer_question(rt, alloc, question)
+        } else {
+            unserved(false, self.limits)
         }
     }
 

@@ -30,11 +30,15 @@
 mod act;
 mod answer;
 mod end;
+mod message;
+mod publishing;
 mod reader;
 mod reply;
 mod request;
 mod serve;
 mod session;
+mod subscriber;
+mod subscribing;
 
 pub use end::{End, Report};
 pub use ipc_frame::Bad;

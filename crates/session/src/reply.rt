@@ -1,7 +1,7 @@
 //! Responses: the bytes that answer a message.
 ghost use Rattle.std.specs.Prelude.{◌≡◌, ◌≤◌, ◌∷◌, [], length, IfOk, IfErr, OnErr, codes};
 ghost use Rattle.ipc_codec.specs.Lengths.{saturated};
-ghost use Rattle.gateway.specs.Shaped.{IsShaped};
+ghost use Rattle.ipc_codec.specs.Written.{IsPlain};
 ghost use Rattle.q_values.specs.Limits.{AreLimits};
 ghost use Rattle.q_values.specs.Tree.{tree, identity, wrong};
 ghost use Rattle.session.specs.Reply.{response, reply, refusal_text};
@@ -108,7 +108,7 @@ fn more_than_one_day(limits: &Limits) -> Reply
 }
 
 /// The error `limit`, for what is longer or more than the limits allow.
-fn over_the_limit(limits: &Limits) -> Reply
+pub fn over_the_limit(limits: &Limits) -> Reply
     ensures { reply_bytes result ≡ reply limits.now (wrong (codes "limit")) }
 {
     fixed(limits, &LIMIT)
@@ -138,7 +138,8 @@ fn response_length(value: &Value) -> usize
 /// The response with a value, or the error `limit` where it would be longer than `limits.reply` bytes. The limit is judged
 /// before anything is encoded and takes no memory, so `NoMemory` comes only for a response that is within it.
 pub fn respond(alloc: Global, value: &Value, limits: &Limits) -> Result<Reply, NoMemory>
-    requires shaped { IsShaped (tree value.now) }
+    // Within the limit, the value can be written.
+    requires plain { length (response (tree value.now)) ≤ limits.now.reply → IsPlain (tree value.now) }
     requires limits { AreLimits limits.now }
     ensures value { IfOk result (λ r. reply_bytes r ≡ reply limits.now (tree value.now)) }
     ensures memory { OnErr result (length (response (tree value.now)) ≤ limits.now.reply) }
@@ -172,7 +173,7 @@ pub fn refuse(alloc: Global, why: UpdRefusal, limits: &Limits) -> Result<Reply, 
 }
 
 /// The error with this text, which has no zero byte.
-fn respond_wrong(alloc: Global, text: &[u8], limits: &Limits) -> Result<Reply, NoMemory>
+pub fn respond_wrong(alloc: Global, text: &[u8], limits: &Limits) -> Result<Reply, NoMemory>
     requires no_nul { HasNoNul text.now }
     requires limits { AreLimits limits.now }
     ensures { IfOk result (λ r. reply_bytes r ≡ reply limits.now (wrong text.now)) }

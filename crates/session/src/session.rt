@@ -1,5 +1,5 @@
 //! The state of a session, and serving one from its handshake to its end.
-ghost use Rattle.std.specs.Prelude.{◌≡◌};
+ghost use Rattle.std.specs.Prelude.{◌≡◌, None};
 ghost use Rattle.q_values.specs.Limits.{AreLimits};
 ghost use Rattle.session.specs.Devices.{IsLent};
 ghost use Rattle.session.specs.Run.{world};
@@ -7,13 +7,15 @@ ghost use Rattle.session.specs.Session.{IsSession};
 
 use crate::end::{End, Report};
 use crate::reader::Reader;
+use crate::subscriber::Subscriber;
 use outside_api::{Clock, Gate, Link, Recorder};
 use plant_core::Access;
 use q_values::Limits;
 use std::alloc::Global;
 use std::sync::Wait;
 
-/// The state of one session: the devices that it uses, its limits, what it has read, and how long it still waits.
+/// The state of one session: the devices that it uses, its limits, what it has read, how long it still waits, and what its
+/// client is subscribed to.
 #[derive(Drop)]
 pub struct Session<'a, A, L, C, G, N> {
     /// The session's access to the plant.
@@ -32,6 +34,8 @@ pub struct Session<'a, A, L, C, G, N> {
     pub reader: &'a mut Reader,
     /// How many more reads may time out. The session ends where it gets to 0.
     pub idles_left: u64,
+    /// What the client is subscribed to; none before its first subscription.
+    pub subscriber: Option<Subscriber>,
 }
 
 impl<'a, A: Access, L: Link, C: Clock, G: Gate, N: Recorder> Session<'a, A, L, C, G, N> {
@@ -52,6 +56,7 @@ impl<'a, A: Access, L: Link, C: Clock, G: Gate, N: Recorder> Session<'a, A, L, C
         ensures limits { result.limits.now ≡ limits.now }
         ensures reader { result.reader.now ≡ reader.old }
         ensures idles_left { result.idles_left ≡ limits.now.idle }
+        ensures subscriber { result.subscriber ≡ None }
     {
         Session {
             access,
@@ -62,6 +67,7 @@ impl<'a, A: Access, L: Link, C: Clock, G: Gate, N: Recorder> Session<'a, A, L, C
             limits,
             reader,
             idles_left: limits.idle,
+            subscriber: None,
         }
     }
 }
@@ -70,8 +76,9 @@ impl<'a, A: Access, L: Link, C: Clock, G: Gate, N: Recorder> Session<'a, A, L, C
 ///
 /// The stream is read in large pieces, wherever these divide it. The handshake is answered with one byte, each sync
 /// message with one response, an async message with none. An update is logged, after a roll where it is of the next date.
-/// A text is answered over a snapshot. At a read timeout the open date is ended where the next one has come. Each turn is
-/// noted before its bytes are written.
+/// A text is answered over a snapshot. At a read timeout the open date is ended where the next one has come. After each
+/// message and each read timeout a subscribed client is sent what it chose of the entries that are new. Each turn is noted
+/// before its bytes are written.
 ///
 /// The report says why the session ended; no failure is returned in another way.
 pub fn serve_session<A: Access, L: Link, C: Clock, G: Gate, N: Recorder, R: Wait>(

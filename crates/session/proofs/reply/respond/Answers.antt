@@ -1,10 +1,10 @@
 use Rattle.std.proofs.Common.{arith}
 use Rattle.q_values.specs.Tree.{tree}
-use Rattle.session.proofs.ReplyLemmas.{too_long, within_plain}
+use Rattle.session.proofs.ReplyLemmas.{too_long}
 use Rattle.session.proofs.reply.respond.Goals as goal
 
 pub returns-then-length-limits-clause-value : goal.returns-then-length-limits-clause-value
 returns-then-length-limits-clause-value c = too_long c.args.limits.now (tree c.args.value.now) c.response_length-length.result c.response_length-length.ensures c.if-length-limits.true
 
 pub encode-requires : goal.encode-requires
-encode-requires c = within_plain c.args.limits.now (tree c.args.value.now) c.response_length-length.result c.requires.limits c.requires.shaped c.response_length-length.ensures (omega (arith, c.if-length-limits.false))
+encode-requires c = c.requires.plain (omega (arith, c.response_length-length.ensures, c.if-length-limits.false, c.requires.limits.reply))

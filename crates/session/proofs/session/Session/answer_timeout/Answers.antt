@@ -1,5 +1,5 @@
 use Rattle.std.proofs.Common.{◌≡◌, refl, rules, w64, to_z, of_z}
-use Rattle.session.proofs.ServedLemmas.{does_quiet, does_rolled, does_failed_idle, does_short_idle}
+use Rattle.session.proofs.IdleLemmas.{does_quiet, does_rolled, does_failed_idle, does_short_idle}
 use Rattle.session.proofs.session.Session.answer_timeout.Goals as goal
 
 pub returns-in-Quiet-clause-does : goal.returns-in-Quiet-clause-does

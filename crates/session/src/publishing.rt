@@ -1,0 +1,63 @@
+//! Publications: what a subscriber is told after each message and each read timeout (KX, u.q).
+ghost use Rattle.std.specs.Prelude.{◌≡◌, [], ◌∷◌, length};
+ghost use Rattle.outside_api.specs.Told.{Tells};
+ghost use Rattle.session.specs.Acting.{Performs, Finishes};
+ghost use Rattle.session.specs.Owing.{FitsPlant, told_up_to};
+
+use crate::act::send;
+use crate::end::End;
+use crate::session::Session;
+use crate::subscriber::Owed;
+use outside_api::{Clock, Gate, Link, Recorder};
+use plant_core::Access;
+use q_values::Turn;
+use std::alloc::Global;
+use std::sync::Wait;
+
+impl<A: Access, L: Link, C: Clock, G: Gate, N: Recorder> Session<'_, A, L, C, G, N> {
+    ghost use Rattle.session.specs.Devices.{world_of, state_of, served_of, HearsNothing};
+
+    /// Notes that the subscriber was told of the entries up to the length `to`, and sends it the messages. A write that fails
+    /// ends the session.
+    pub fn tell(&mut self, from: u64, to: u64, messages: &[u8]) -> Option<End>
+        ensures same { HearsNothing self.old self.new }
+        ensures access { self.new.access.now ≡ self.old.access.now }
+        ensures clock { self.new.clock.now ≡ self.old.clock.now }
+        ensures subscriber { self.new.subscriber ≡ told_up_to to self.old.subscriber }
+        ensures noted { Tells (N.noted self.old.recorder.now) (N.noted self.new.recorder.now) (Turn.Told from to ∷ []) }
+        ensures sent { Finishes (L.shown self.old.link.now) (L.shown self.new.link.now) messages.now result }
+    {
+        if let Some(subscriber) = &mut self.subscriber {
+            subscriber.cursor = to;
+        }
+        self.recorder.note(Turn::Told { from, to });
+        send(self.link, messages)
+    }
+
+    /// Publishes what the subscriber is owed, if there is a subscriber. What can't be sent it is owed still.
+    pub fn publish<R: Wait>(&mut self, rt: &R, alloc: Global) -> Option<End>
+        requires same { (A.shown self.old.access.now).frame.limits ≡ self.old.limits.now }
+        requires fits { FitsPlant (A.shown self.old.access.now).frame (length (A.shown self.old.access.now).seen) self.old.subscriber }
+        ensures same { HearsNothing self.old self.new }
+        ensures performs { Performs []
+            (world_of A.shown L.shown C.readings N.noted self.old)
+            (world_of A.shown L.shown C.readings N.noted self.new)
+            (served_of A.shown self.old) (state_of A.shown self.new) result }
+    {
+        if self.subscriber.is_none() {
+            return None;
+        }
+        match self.owed(rt, alloc) {
+            Ok(Owed::Nothing { .. }) => None,
+            Ok(Owed::Messages { from, to, bytes }) => self.tell(from, to, &bytes),
+            Ok(Owed::TooLong { from, to }) => {
+                self.recorder.note(Turn::TooLong { from, to });
+                None
+            }
+            Err(_) => {
+                self.recorder.note(Turn::Short);
+                None
+            }
+        }
+    }
+}
