@@ -7,6 +7,10 @@
     with Client.connect("127.0.0.1", 5010) as plant:
         print(plant.query("exec count i from trade"))
 
+    with Client.connect("127.0.0.1", 5010) as plant:
+        for told in plant.subscribe("trade", ["AAPL", "MSFT"]):
+            print(told)                      # Update("trade", <a table>), or EndOfDay(<a date>)
+
 What is sent and what comes back are plain Python values where these are clear:
 
     bool, int                      boolean, long
@@ -29,11 +33,13 @@ for any kind:
     Table(names, vectors)    named columns of one length
     Keyed(keys, values)      a table of keys, and one of the other columns
 
-`Client.query` and `Client.update` take and give plain values, `Client.sync` and `Client.send` typed ones. An error that the
+`Client.query` and `Client.update` take and give plain values, `Client.sync` and `Client.send` typed ones. What a subscription
+publishes between two answers is kept for `Client.subscribe`'s iterator. An error that the
 plant answers is raised as `Error`. A value that can't be sent is a ValueError, and nothing is sent. Only the standard
 library is used.
 """
 
+import collections
 import datetime
 import socket
 import struct
@@ -194,6 +200,35 @@ class Error(Exception):
 
     def __hash__(self):
         return hash(self.text)
+
+
+@dataclass(frozen=True)
+class Update:
+    """Rows of a table that a subscriber was sent, with the table's own columns."""
+
+    table: str
+    rows: Table
+
+    def __str__(self):
+        return f"{self.table}\n{self.rows}"
+
+
+@dataclass(frozen=True)
+class EndOfDay:
+    """The end of a date, which a subscriber was sent: a datetime.date."""
+
+    date: object
+
+
+def published(value):
+    """What an async message of a plant publishes (KX, u.q)."""
+    items = value.items if isinstance(value, List) else ()
+    head = items[0] if items else None
+    if head == Atom("symbol", b"upd") and len(items) == 3 and isinstance(items[2], Table):
+        return Update(items[1].value.decode(errors="surrogateescape"), items[2])
+    if head == Atom("symbol", b".u.end") and len(items) == 2:
+        return EndOfDay(plain(items[1]))
+    raise BadBytes(f"a message that publishes nothing: {value!r}")
 
 
 class BadBytes(Exception):
@@ -571,6 +606,7 @@ class Client:
     def __init__(self, reads, writes, order=LITTLE, user=b"", capability=3):
         self.reads, self.writes, self.order = reads, writes, order
         self.process, self.status = None, None
+        self._published = collections.deque()
         greeting = user + bytes([capability]) + b"\0"
         self._write(greeting, greeting)
         self.capability = self._take(1, greeting)[0]
@@ -613,10 +649,10 @@ class Client:
     def sync(self, value):
         """Sends a value and waits for its response, a typed value; an error is raised."""
         self._write(message(value, True, self.order), value)
-        header = self._take(8, value)
-        order = LITTLE if header[0] == 1 else BIG
-        (length,) = struct.unpack(f"{order}I", header[4:])
-        answer = decode(self._take(length - 8, value), order)
+        is_async, answer = self._receive(value)
+        while is_async:
+            self._published.append(published(answer))
+            is_async, answer = self._receive(value)
         if isinstance(answer, Error):
             raise answer
         return answer
@@ -636,6 +672,33 @@ class Client:
             self.sync(call)
         else:
             self.send(call)
+
+    def subscribe(self, table="", symbols=""):
+        """Subscribes to the rows of some symbols (a list, or one symbol) of a table, and gives an iterator over what is
+        published from then on: `Update` and `EndOfDay`. No table stands for every table, no symbol for all rows. The former
+        choice for these tables is replaced. The iterator waits for the next publication; it ends where the plant ends the
+        link, and it is the same for all subscriptions of a client."""
+        chosen = Vector("symbol", tuple(symbols)) if isinstance(symbols, (list, tuple)) else Atom("symbol", symbols)
+        self.sync(List((Atom("symbol", ".u.sub"), Atom("symbol", table), chosen)))
+        return self.publications()
+
+    def publications(self):
+        """What is published to the subscriptions of this client, one by one."""
+        while True:
+            while self._published:
+                yield self._published.popleft()
+            try:
+                _, value = self._receive("a subscription")
+            except PlantEnded:
+                return
+            yield published(value)
+
+    def _receive(self, sent):
+        """Whether the next message is async, and its value."""
+        header = self._take(8, sent)
+        order = LITTLE if header[0] == 1 else BIG
+        (length,) = struct.unpack(f"{order}I", header[4:])
+        return header[1] == 0, decode(self._take(length - 8, sent), order)
 
     def _write(self, data, sent):
         try:
