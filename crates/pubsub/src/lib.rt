@@ -20,7 +20,8 @@
 //! `specs/Told.antt` says what a subscription is told, as rows; `specs/Filters.antt` what a request makes of it. Code goes
 //! by columns: `rows` finds the chosen rows of a column of symbols, looking each up in a `symbol_set`, `parts` copies
 //! them, column by column, `telling` makes messages of single updates, and `batches` of many. Where all rows of an update
-//! are chosen its columns are copied whole, and where none is, nothing is.
+//! are chosen its columns are copied whole, and where none is, nothing is. [`empty_table`] is a table of the schema without
+//! rows.
 //!
 //! It knows nothing of sessions, cursors and bytes: the caller has the tail, and sends the messages. [`messages_of`] makes
 //! them of entries from elsewhere, whose updates are of the schema, as [`are_of_schema`] says; it doesn't judge them.
@@ -39,6 +40,7 @@ mod telling;
 
 pub use filter::Filter;
 pub use fitting::are_of_schema;
+pub use parts::empty_table;
 pub use publishing::{TapMessages, messages, messages_of};
 pub use request::{SubRefusal, SubRequest, Wanted};
 pub use subscription::Subscription;
