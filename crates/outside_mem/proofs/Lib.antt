@@ -1,3 +1,4 @@
+pub mod CopyLemmas
 pub mod DiskLemmas
 pub mod FileLemmas
 pub mod PiecesLemmas

@@ -7,3 +7,4 @@ pub mod Pieces
 pub mod Places
 pub mod Ranges
 pub mod Recorder
+pub mod Tap

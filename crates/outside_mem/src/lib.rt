@@ -3,7 +3,7 @@
 //!
 //! [`MemLink`] reads a script of pieces, timeouts and faults, and keeps what it was written. [`MemDisk`] has numbered
 //! files; its calls fail where that is planned, and [`MemDisk::restart`] is the disk as a crash leaves it. Beside them
-//! [`MemClock`], [`SteadyClock`], [`MemRecorder`] and [`NoGate`].
+//! [`MemClock`], [`SteadyClock`], [`MemRecorder`], [`MemTap`] and [`NoGate`].
 //!
 //! ```text
 //! let mut disk = MemDisk::new(alloc);
@@ -14,11 +14,13 @@
 //! ```
 //!
 //! A device keeps no history as data: its past is a ghost that only contracts see. A call that is out of memory is a
-//! fault like others, and is counted apart as `short`. A file of a disk is found by an index, however many there are.
+//! fault like others, and is counted apart as `short`; a tap goes on without it, and keeps no more messages. A file of a
+//! disk is found by an index, however many there are.
 #![tactic(auto)]
 
 mod calling;
 mod clock;
+mod copying;
 mod files;
 mod gate;
 mod history;
@@ -29,6 +31,7 @@ mod mem_file;
 mod recorder;
 mod steady;
 mod taking;
+mod tap;
 mod tape;
 
 pub use calling::{Calling, Leaving, RangeLeft};
@@ -40,3 +43,4 @@ pub use mem_disk::{Callings, MemDisk};
 pub use recorder::MemRecorder;
 pub use steady::SteadyClock;
 pub use taking::Taking;
+pub use tap::{MemTap, Receiving, Receivings};

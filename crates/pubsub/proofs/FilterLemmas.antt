@@ -5,7 +5,7 @@ use Rattle.std.specs.Str.{bytes_eq}
 use Rattle.std.proofs.lemmas.List.{take_more, map-append, length-take-le, length-map}
 use Rattle.std.proofs.lemmas.Option.{get_or_from_slice_get}
 use Rattle.day_rows.specs.declared.schema.Shape.{Shape}
-use Rattle.pubsub.specs.Filters.{nothing_of, is_asked, is_known, replaced, IsSubscription}
+use Rattle.pubsub.specs.Filters.{nothing_of, is_asked, is_known, replaced, table_names}
 use Rattle.pubsub.specs.declared.filter.Filter.{Filter}
 
 -- one more element of a mapped list, which a call read
@@ -55,12 +55,11 @@ length-replaced asked new [] filters size = refl
 length-replaced asked new (t ∷ tables) [] size = absurd (omega (arith, size))
 length-replaced asked new (t ∷ tables) (f ∷ filters) size = ap suc (length-replaced asked new tables filters (omega (arith, size)))
 
-tables_beside : (tables : List (List ℕ)) (filters : List Filter) (schema : List Shape) → IsSubscription tables filters schema → length filters ≡ length tables
-tables_beside tables filters schema is = is.each ∙ sym (length-map schema (λ (s : Shape). s.table)) ∙ sym (ap length is.names)
+pub beside_names : (names : List (List ℕ)) (filters : List Filter) (schema : List Shape) → names ≡ table_names schema → length filters ≡ length schema → length filters ≡ length names
+beside_names names filters schema are each = each ∙ sym (length-map schema (λ (s : Shape). s.table)) ∙ sym (ap length are)
 
--- the filters after a request are those of the same tables
-pub still_each : (asked : List ℕ) (new : Filter) (tables : List (List ℕ)) (filters found : List Filter) (schema : List Shape) → IsSubscription tables filters schema → found ≡ replaced asked new tables filters → IsSubscription tables found schema
-still_each asked new tables filters found schema is e = record {
-  names = is.names;
-  each = ap length e ∙ length-replaced asked new tables filters (tables_beside tables filters schema is) ∙ sym (tables_beside tables filters schema is) ∙ is.each;
-}
+-- there are as many filters after a request
+pub still_each : (asked : List ℕ) (new : Filter) (names : List (List ℕ)) (filters found : List Filter) (schema : List Shape) → names ≡ table_names schema → length filters ≡ length schema → found ≡ replaced asked new names filters → length found ≡ length schema
+still_each asked new names filters found schema are each e =
+    let beside = beside_names names filters schema are each in
+    ap length e ∙ length-replaced asked new names filters beside ∙ sym beside ∙ each

@@ -18,7 +18,8 @@ use Rattle.day_rows.specs.declared.schema.Shape.{Shape}
 use Rattle.pubsub.specs.Filters.{Subscribed}
 use Rattle.pubsub.specs.Parts.{AreBelow, part_lines, IsPassed, HaveSymbols, ArePassed}
 use Rattle.pubsub.specs.Steps.{AreOfTable, IsPassedIn, columns_in}
-use Rattle.pubsub.specs.Told.{Publication, upd, publication, published, passes, grid_of, rows_told, lines_in, IsOfSchema}
+use Rattle.plant_memory.specs.Memory.{IsOfSchema}
+use Rattle.pubsub.specs.Told.{Publication, upd, publication, published, passes, grid_of, rows_told, lines_in}
 use Rattle.pubsub.specs.declared.filter.Filter.{Filter}
 use Rattle.pubsub.specs.declared.filter.Filter.TheVariants as f
 use Rattle.pubsub.specs.declared.parts.Part.{Part}

@@ -13,7 +13,8 @@ use Rattle.day_rows.specs.declared.entry.Entry.TheVariants as e
 use Rattle.day_rows.specs.declared.schema.Shape.{Shape}
 use Rattle.pubsub.specs.Filters.{Subscribed}
 use Rattle.pubsub.specs.Steps.{AreOfTable, told_one, date_after}
-use Rattle.pubsub.specs.Told.{Publication, upd, publication, published, passes, grid_of, rows_told, told_each, IsOfSchema}
+use Rattle.plant_memory.specs.Memory.{IsOfSchema}
+use Rattle.pubsub.specs.Told.{Publication, upd, publication, published, passes, grid_of, rows_told, told_each}
 use Rattle.pubsub.specs.declared.filter.Filter.{Filter}
 use Rattle.pubsub.specs.declared.filter.Filter.TheVariants as f
 

@@ -68,8 +68,3 @@ Refuses request schema r.NoMemory = Unit {0}
 abbrev pub IsNoTable : List ℕ → SubRefusal → Type 0
 IsNoTable asked (r.NoTable name) = name ≡ asked
 IsNoTable asked r.NoMemory = Unit {0}
-
--- the names are those of the schema's tables, and each has a filter
-pub record IsSubscription (tables : List (List ℕ)) (filters : List Filter) (schema : List Shape) : Type 0 where
-  pub names : tables ≡ table_names schema
-  pub each : length filters ≡ length schema

@@ -10,7 +10,6 @@ use Rattle.q_values.specs.declared.atom.Atom.TheVariants as a
 use Rattle.q_values.specs.declared.kind.Kind.{Kind}
 use Rattle.outside_api.specs.declared.tap.TapMessage.{TapMessage}
 use Rattle.outside_api.specs.declared.tap.TapMessage.TheVariants as m
-use Rattle.day_rows.specs.Day.{IsUpdate}
 use Rattle.day_rows.specs.Rows.{absent, lines_of}
 use Rattle.day_rows.specs.declared.entry.Entry.{Entry}
 use Rattle.day_rows.specs.declared.entry.Entry.TheVariants as e
@@ -112,9 +111,3 @@ told_later subscribed date (e.Fault by ∷ entries) = told_later subscribed date
 abbrev pub told : Bool → Subscribed → ℤ → List Entry → List Publication
 told false subscribed date entries = told_each subscribed date entries
 told true subscribed date entries = told_today subscribed entries ++ told_later subscribed date entries
-
--- an update is of one of the schema's tables
-abbrev pub IsOfSchema : List Shape → Entry → Type 0
-IsOfSchema schema (e.Upd by table columns) = IsUpdate (map (λ shape. shape.kinds) schema) (e.Upd by table columns)
-IsOfSchema schema (e.Roll by next) = Unit {0}
-IsOfSchema schema (e.Fault by) = Unit {0}

@@ -5,7 +5,8 @@ ghost use Rattle.pubsub.specs.Parts.{ArePassed};
 ghost use Rattle.std.specs.Bool.{OnTrue, OnFalse};
 ghost use Rattle.day_rows.specs.Chronicle.{KeepsDate};
 ghost use Rattle.pubsub.specs.Steps.{IsPassedIn, IsBatch, IsRoll, BeginsWithin, columns_in};
-ghost use Rattle.pubsub.specs.Told.{publication, rows_told, lines_in, updates_today, batch_told, told, IsOfSchema};
+ghost use Rattle.pubsub.specs.Told.{publication, rows_told, lines_in, updates_today, batch_told, told};
+ghost use Rattle.plant_memory.specs.Memory.{IsOfSchema};
 
 use crate::filter::Filter;
 use crate::parts::{Part, message, passed};

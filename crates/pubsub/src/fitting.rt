@@ -4,7 +4,7 @@ ghost use Rattle.std.specs.List.{AllByRecursion};
 ghost use Rattle.q_values.specs.Table.{rows_of};
 ghost use Rattle.day_rows.specs.Day.{AreColumns};
 ghost use Rattle.pubsub.specs.Steps.{AreOfTable};
-ghost use Rattle.pubsub.specs.Told.{IsOfSchema};
+ghost use Rattle.plant_memory.specs.Memory.{IsOfSchema};
 
 use day_rows::{Entries, Entry, Schema};
 use q_values::{Kind, Vector};

@@ -1,5 +1,5 @@
 //! Parts of updates, and the message of the rows that some parts of a table have together.
-ghost use Rattle.std.specs.Prelude.{◌≡◌, ◌<◌, ◌++◌, Some, length, map, slice_get, IfOk, OnOk};
+ghost use Rattle.std.specs.Prelude.{◌≡◌, ◌<◌, ◌++◌, [], Some, length, map, slice_get, IfOk, OnOk};
 ghost use Rattle.std.specs.List.{AllByRecursion, flat_map};
 ghost use Rattle.day_rows.specs.Day.{AreColumns};
 ghost use Rattle.day_rows.specs.Schema.{IsShape};
@@ -166,6 +166,17 @@ fn copy_names(alloc: Global, names: &Names) -> Result<Names, NoMemory>
     Ok(copied)
 }
 
+// The rows that these parts of updates of a table have, in order, under the table's names of columns.
+fn table_of(alloc: Global, shape: &Shape, parts: &[Part<'_>]) -> Result<TableValue, NoMemory>
+    requires shape { IsShape shape.now }
+    requires parts { AllByRecursion (IsPart shape.now.kinds) parts.now }
+    ensures { IfOk result (λ table. record { names = table.names; columns = table.columns } ≡ grid_of shape.now (flat_map part_lines parts.now)) }
+{
+    let columns = whole_columns(alloc, shape.kinds.as_slice(), parts)?;
+    let names = copy_names(alloc, &shape.names)?;
+    Ok(TableValue { names, columns })
+}
+
 /// The message of the rows that these parts of updates of a table have, in order.
 pub fn message(alloc: Global, shape: &Shape, parts: &[Part<'_>]) -> Result<TapMessage, NoMemory>
     requires shape { IsShape shape.now }
@@ -173,11 +184,15 @@ pub fn message(alloc: Global, shape: &Shape, parts: &[Part<'_>]) -> Result<TapMe
     ensures { IfOk result (λ message. publication message
         ≡ upd shape.now.table (grid_of shape.now (flat_map part_lines parts.now))) }
 {
-    let columns = whole_columns(alloc, shape.kinds.as_slice(), parts)?;
-    let names = copy_names(alloc, &shape.names)?;
+    let rows = table_of(alloc, shape, parts)?;
     let table = Sym::copied(alloc, shape.table.bytes())?;
-    Ok(TapMessage::Rows {
-        table,
-        rows: TableValue { names, columns },
-    })
+    Ok(TapMessage::Rows { table, rows })
+}
+
+/// A table without rows, with the columns of a table of a schema.
+pub fn empty_table(alloc: Global, shape: &Shape) -> Result<TableValue, NoMemory>
+    requires { IsShape shape.now }
+    ensures { IfOk result (λ table. record { names = table.names; columns = table.columns } ≡ grid_of shape.now []) }
+{
+    table_of(alloc, shape, &[])
 }

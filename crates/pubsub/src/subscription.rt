@@ -11,29 +11,67 @@ use q_values::{Names, NoMemory, Sym};
 use std::alloc::Global;
 use std::marker::Model;
 use std::snapshot::Snapshot;
+use std::sync::Arc;
+
+// The tables that a subscription chooses from. Contracts see the schema.
+#[derive(Drop)]
+struct Tables {
+    // their names
+    names: Names,
+    // the schema, which only contracts see
+    schema: Snapshot<Schema>,
+}
+
+impl Model for Tables {
+    ghost use Rattle.std.specs.Prelude.{◌≡◌, List};
+    ghost use Rattle.day_rows.specs.declared.schema.Shape.{Shape};
+    ghost use Rattle.pubsub.specs.Filters.{table_names};
+
+    ghost Value = { List Shape };
+
+    ghost view = { λ t. t.schema.value };
+
+    ghost invariant = { λ t. t.names ≡ table_names t.schema.value };
+}
+
+impl Tables {
+    fn of(alloc: Global, schema: &Schema) -> Result<Tables, NoMemory>
+        ensures { IfOk result (λ tables. tables ≡ schema.now) }
+    {
+        Ok(Tables {
+            names: copy_names(alloc, schema)?,
+            schema: Snapshot::of(schema),
+        })
+    }
+
+    fn names(&self) -> &Names
+        ensures { result.now ≡ table_names self.now }
+    {
+        &self.names
+    }
+}
 
 /// A subscription: which rows of each table of a schema a subscriber is told of. Contracts see the schema and the
 /// filters.
 #[derive(Drop)]
 pub struct Subscription {
-    // the names of the schema's tables
-    tables: Names,
+    // the schema's tables, shared with the subscriptions that were made of this one
+    tables: Arc<Tables>,
     // the filter of each
     filters: Vec<Filter>,
-    // the schema, which only contracts see
-    schema: Snapshot<Schema>,
     // the allocator
     alloc: Global,
 }
 
 impl Model for Subscription {
-    ghost use Rattle.pubsub.specs.Filters.{Subscribed, IsSubscription};
+    ghost use Rattle.std.specs.Prelude.{◌≡◌, length};
+    ghost use Rattle.pubsub.specs.Filters.{Subscribed};
 
     ghost Value = { Subscribed };
 
-    ghost view = { λ s. record { schema = s.schema.value; filters = s.filters.items } };
+    ghost view = { λ s. record { schema = s.tables.value; filters = s.filters.items } };
 
-    ghost invariant = { λ s. IsSubscription s.tables s.filters.items s.schema.value };
+    ghost invariant = { λ s. length s.filters.items ≡ length s.tables.value };
 }
 
 fn copy_names(alloc: Global, schema: &Schema) -> Result<Names, NoMemory>
@@ -113,18 +151,43 @@ fn replaced(
     Ok(found)
 }
 
+fn share(tables: &Arc<Tables>) -> Result<Arc<Tables>, NoMemory>
+    ensures { IfOk result (λ shared. shared.value ≡ tables.now.value) }
+{
+    Ok(tables.clone()?)
+}
+
 impl Subscription {
     /// The subscription to no table of this schema.
     pub fn none(alloc: Global, schema: &Schema) -> Result<Subscription, NoMemory>
         ensures { IfOk result (λ s. s ≡ record { schema = schema.now; filters = nothing_of schema.now }) }
     {
-        let tables = copy_names(alloc, schema)?;
+        let tables = Arc::new(alloc, Tables::of(alloc, schema)?)?;
         let filters = nothing_of(alloc, schema)?;
         Ok(Subscription {
             tables,
             filters,
-            schema: Snapshot::of(schema),
             alloc,
+        })
+    }
+
+    /// The subscription as it is after a request: the filters of the tables that are asked for are replaced. This one stays
+    /// as it is.
+    pub fn after(&self, request: &SubRequest) -> Result<Subscription, SubRefusal>
+        ensures ok { IfOk result (λ s. s ≡ after_request request.now self.now) }
+        ensures known { OnOk result (is_known request.now.tables (table_names self.now.schema) ≡ true) }
+        ensures refused { IfErr result (Refuses request.now self.now.schema) }
+    {
+        let names = self.tables.names();
+        if !is_known(&request.tables, names) {
+            return Err(no_table(self.alloc, &request.tables));
+        }
+        let new = Filter::of(self.alloc, &request.symbols)?;
+        let filters = replaced(self.alloc, &request.tables, &new, names, &self.filters)?;
+        Ok(Subscription {
+            tables: share(&self.tables)?,
+            filters,
+            alloc: self.alloc,
         })
     }
 
@@ -135,18 +198,7 @@ impl Subscription {
         ensures err { OnErr result (self.new ≡ self.old) }
         ensures refused { IfErr result (Refuses request.now self.old.schema) }
     {
-        if !is_known(&request.tables, &self.tables) {
-            return Err(no_table(self.alloc, &request.tables));
-        }
-        let new = Filter::of(self.alloc, &request.symbols)?;
-        let filters = replaced(
-            self.alloc,
-            &request.tables,
-            &new,
-            &self.tables,
-            &self.filters,
-        )?;
-        self.filters = filters;
+        *self = self.after(request)?;
         Ok(())
     }
 

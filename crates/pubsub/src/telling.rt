@@ -6,7 +6,8 @@ ghost use Rattle.day_rows.specs.Rows.{lines_of};
 ghost use Rattle.day_rows.specs.Schema.{IsShape};
 ghost use Rattle.std.specs.Prelude.{filter};
 ghost use Rattle.pubsub.specs.Steps.{AreOfTable, told_one, date_after};
-ghost use Rattle.pubsub.specs.Told.{publication, published, passes, rows_told, end_told, told_each, IsOfSchema};
+ghost use Rattle.pubsub.specs.Told.{publication, published, passes, rows_told, end_told, told_each};
+ghost use Rattle.plant_memory.specs.Memory.{IsOfSchema};
 
 use crate::filter::Filter;
 use crate::parts::{message, passed};

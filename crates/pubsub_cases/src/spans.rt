@@ -3,7 +3,7 @@ ghost use Rattle.std.specs.Prelude.{◌≡◌, IfOk};
 
 use day_rows::{Entries, Entry, Schema};
 use outside_api::TapMessage;
-use pubsub::{SubRefusal, SubRequest, Subscription, TapMessages, Wanted, are_of_schema, messages};
+use pubsub::{SubRefusal, SubRequest, Subscription, TapMessages, Wanted, are_of_schema, messages_of};
 use q_shown::push_value;
 use q_values::{Column, Columns, LongKind, NoMemory, Sym, Symbols, Value, Vector};
 use schema_text::built_in_schema;
@@ -154,7 +154,7 @@ fn tell(
     if !are_of_schema(schema, entries) {
         return Err(Fail::from("entries of another schema"));
     }
-    let found = messages(alloc, DATE, entries, schema, subscription, batch)?;
+    let found = messages_of(alloc, DATE, entries, schema, subscription, batch)?;
     Ok(found)
 }
 

@@ -1,6 +1,6 @@
 use Rattle.std.proofs.Common.{take}
 use Rattle.std.specs.List.{AllByRecursion}
-use Rattle.pubsub.specs.Told.{IsOfSchema}
+use Rattle.plant_memory.specs.Memory.{IsOfSchema}
 use Rattle.pubsub.proofs.fitting.are_of_schema.Given as goal
 
 abbrev pub invariant-loop-entry : goal.invariant-loop-entry

@@ -1,7 +1,7 @@
 use Rattle.std.proofs.Common.{List, subst, sym}
 use Rattle.q_values.specs.Contents.{Contents}
 use Rattle.pubsub.specs.Steps.{AreOfTable}
-use Rattle.pubsub.specs.Told.{IsOfSchema}
+use Rattle.plant_memory.specs.Memory.{IsOfSchema}
 use Rattle.pubsub.proofs.TellLemmas.{of_table}
 use Rattle.pubsub.proofs.telling.tell_one.Goals as goal
 

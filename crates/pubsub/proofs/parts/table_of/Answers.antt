@@ -5,7 +5,7 @@ use Rattle.std.proofs.Common.{List}
 use Rattle.pubsub.specs.Parts.{part_lines}
 use Rattle.pubsub.specs.Told.{columns_from}
 use Rattle.pubsub.proofs.LineLemmas.{rows_table}
-use Rattle.pubsub.proofs.parts.message.Goals as goal
+use Rattle.pubsub.proofs.parts.table_of.Goals as goal
 
 pub invariant_of-result : goal.invariant_of-result
 invariant_of-result c =

@@ -1,0 +1,6 @@
+//! Boxed taps.
+#![tactic(auto)]
+
+mod board;
+
+pub use board::Board;
