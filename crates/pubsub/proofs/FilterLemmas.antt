@@ -55,7 +55,7 @@ length-replaced asked new [] filters size = refl
 length-replaced asked new (t ∷ tables) [] size = absurd (omega (arith, size))
 length-replaced asked new (t ∷ tables) (f ∷ filters) size = ap suc (length-replaced asked new tables filters (omega (arith, size)))
 
-pub beside_names : (names : List (List ℕ)) (filters : List Filter) (schema : List Shape) → names ≡ table_names schema → length filters ≡ length schema → length filters ≡ length names
+beside_names : (names : List (List ℕ)) (filters : List Filter) (schema : List Shape) → names ≡ table_names schema → length filters ≡ length schema → length filters ≡ length names
 beside_names names filters schema are each = each ∙ sym (length-map schema (λ (s : Shape). s.table)) ∙ sym (ap length are)
 
 -- there are as many filters after a request
