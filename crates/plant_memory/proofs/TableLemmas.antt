@@ -1,5 +1,5 @@
 -- Each update of a chronicle is of one of the tables.
-use Rattle.std.proofs.Common.{ℕ, ℤ, zero, suc, List, [], ◌∷◌, ◌++◌, take, drop}
+use Rattle.std.proofs.Common.{ℕ, ℤ, zero, suc, List, [], ◌∷◌, take, drop}
 use Rattle.std.specs.List.{AllByRecursion}
 use Rattle.q_values.specs.declared.kind.Kind.{Kind}
 use Rattle.day_rows.proofs.BlockLemmas.{all-take}

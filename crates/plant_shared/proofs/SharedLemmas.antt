@@ -3,6 +3,7 @@ use Rattle.std.proofs.Common.{◌≡◌, ℕ, ℤ, ◌+◌, Bool, true, false, e
 use Rattle.std.proofs.Common.{refl, sym, ap, ◌∙◌, subst, arith, append-nil, append_assoc, length-append}
 use Rattle.std.specs.Prelude.{unwrap_or, IfOk}
 use Rattle.std.proofs.lemmas.Bool.{false≢true}
+use mathlib.Core.List.{IsPrefix}
 use Rattle.outside_api.specs.Disk.{DiskView}
 use Rattle.q_values.specs.Tree.{Tree, trees}
 use Rattle.q_values.specs.declared.refusal.NoMemory.{NoMemory}
@@ -10,14 +11,14 @@ use Rattle.day_rows.specs.declared.entry.Entry.{Entry}
 use Rattle.day_rows.specs.declared.entry.Entry.TheVariants as e
 use Rattle.plant_memory.specs.Chronicle.{by_of, last_fault_from, last_fault}
 use Rattle.plant_memory.specs.Frame.{Frame}
-use Rattle.plant_memory.specs.Memory.{MemoryView, SnapshotView, next_roll}
+use Rattle.plant_memory.specs.Memory.{MemoryView, SnapshotView, TailView, next_roll}
 use Rattle.plant_memory.specs.declared.refusal.UpdRefusal.{UpdRefusal}
 use Rattle.plant_memory.specs.declared.request.UpdRequest.{UpdRequest}
 use Rattle.plant_memory.proofs.MadeLemmas.{verdict_made}
 use Rattle.plant_lock.specs.Entries.{own, IsExtendedBy}
 use Rattle.plant_lock.specs.Told.{Told}
 use Rattle.plant_lock.proofs.ListLemmas.{own-append, nil_of_length}
-use Rattle.plant_core.specs.Access.{AccessView, Home, SeesMore, Logs, Looks, Fails, Waits, Rolls, FailsRoll, Wants, Asks, Snaps, next_count}
+use Rattle.plant_core.specs.Access.{AccessView, Home, SeesMore, Logs, Looks, Fails, Waits, Rolls, FailsRoll, Wants, Asks, Sees, next_count}
 use Rattle.plant_core.specs.Adds.{roll_place}
 use Rattle.plant_core.specs.Plant.{PlantView, IsSound, shown_by}
 use Rattle.plant_core.specs.Turns.{turn_of, UpdatesPlant, TicksPlant}
@@ -26,11 +27,11 @@ use Rattle.plant_core.specs.declared.access.TickTurn.TheVariants as t
 use Rattle.plant_core.specs.declared.access.UpdTurn.{UpdTurn}
 use Rattle.plant_core.specs.declared.access.UpdTurn.TheVariants as u
 use Rattle.plant_core.proofs.SoloLemmas.{last_fault-append, last_fault-more, last_fault-own, made_logged}
-use Rattle.plant_shared.specs.Steps.{IsLocked, unchanging}
+use Rattle.plant_shared.specs.Steps.{IsLocked, StepsOnce, unchanging}
 use Rattle.plant_shared.specs.Took.{Took, given}
 use Rattle.atomic_table.specs.Seated.{TableId}
 use Rattle.day_rows.specs.declared.schema.Shape.{Shape}
-use Rattle.plant_shared.specs.Shared.{IsPass, IsShared, shown_pass, IsLatest, UpdatesPass, TicksPass, SnapsPass, latest_update, latest_tick}
+use Rattle.plant_shared.specs.Shared.{IsPass, IsShared, shown_pass, IsLatest, UpdatesPass, TicksPass, SnapsPass, TailsPass, latest_update, latest_tick}
 
 drop_whole : {A : Type 0} (xs : List A) → drop (length xs) xs ≡ []
 drop_whole [] = refl
@@ -266,31 +267,41 @@ module _ (frame : Frame) (origin : DiskView) (old : Told Entry) (plant new : Mem
   latest_ticks now t.NoMemory r = latest_same (ap (λ (v : AccessView). v.seen) r.after ∙ alone_saw origin plant old.number r.others r.saw)
 
 -- the pass after nothing was added
-pub snaps_shared : (frame : Frame) (home : Home) (old : Told Entry) (plant : MemoryView) → Took frame old plant → (answer : Result SnapshotView NoMemory)
-    → IfOk answer (λ (s : SnapshotView). s ≡ record { frame = plant.frame; entries = plant.entries })
-    → SnapsPass frame home old (given old plant plant) answer
-snaps_shared frame home old plant took answer is snapshots ticks = go answer is
-  where
-    asks : Asks (shown_pass frame home old snapshots ticks) (shown_pass frame home (given old plant plant) (next_count snapshots) ticks)
-    asks = record {
-      others = took.rest;
-      saw = record { alone = not_alone };
-      after = λ i. record {
-        by = old.number;
-        frame = frame;
-        alone = false;
-        seen = sym took.whole i;
-        mine = mine_kept frame home (home.origin) old plant plant took refl i;
-        snapshots = next_count snapshots;
-        ticks = ticks;
-        home = home;
-      };
-    }
+module _ (frame : Frame) (home : Home) (old : Told Entry) (plant : MemoryView) (took : Took frame old plant) where
+  saw_whole : (snapshots after ticks : ℕ) → shown_pass frame home (given old plant plant) after ticks
+      ≡ record (shown_pass frame home old snapshots ticks) { seen = old.seen ++ took.rest; snapshots = after }
+  saw_whole snapshots after ticks = λ i. record {
+    by = old.number;
+    frame = frame;
+    alone = false;
+    seen = sym took.whole i;
+    mine = mine_kept frame home (home.origin) old plant plant took refl i;
+    snapshots = after;
+    ticks = ticks;
+    home = home;
+  }
 
-    go : (a : Result SnapshotView NoMemory) → IfOk a (λ (s : SnapshotView). s ≡ record { frame = plant.frame; entries = plant.entries })
-        → Snaps (shown_pass frame home old snapshots ticks) (shown_pass frame home (given old plant plant) (next_count snapshots) ticks) a
-    go (Ok s) h = (asks, h ∙ (λ i. record { frame = took.frame_is i; entries = plant.entries }))
-    go (Err why) h = asks
+  asks : (snapshots ticks : ℕ) → Asks (shown_pass frame home old snapshots ticks) (shown_pass frame home (given old plant plant) (next_count snapshots) ticks)
+  asks snapshots ticks = record {
+    others = took.rest;
+    saw = record { alone = not_alone };
+    after = saw_whole snapshots (next_count snapshots) ticks;
+  }
+
+  sees : (snapshots ticks : ℕ) → Sees (shown_pass frame home old snapshots ticks) (shown_pass frame home (given old plant plant) snapshots ticks)
+  sees snapshots ticks = record { others = took.rest; saw = record { alone = not_alone }; after = saw_whole snapshots snapshots ticks }
+
+  pub snaps_shared : (answer : Result SnapshotView NoMemory)
+      → IfOk answer (λ (s : SnapshotView). s ≡ record { frame = plant.frame; entries = plant.entries }) → SnapsPass frame home old (given old plant plant) answer
+  snaps_shared (Ok s) h snapshots ticks = (asks snapshots ticks, h ∙ (λ i. record { frame = took.frame_is i; entries = plant.entries }))
+  snaps_shared (Err why) h snapshots ticks = asks snapshots ticks
+
+  pub tails_shared : (from : ℕ) (answer : Result TailView NoMemory)
+      → IfOk answer (λ (t : TailView). t ≡ record { frame = plant.frame; entries = plant.entries; from = from })
+      → TailsPass frame home old (given old plant plant) from answer
+  tails_shared from (Ok t) h snapshots ticks =
+      (sees snapshots ticks, h ∙ (λ i. record { frame = took.frame_is i; entries = plant.entries; from = from }))
+  tails_shared from (Err why) h snapshots ticks = sees snapshots ticks
 
 -- a pass that has made nothing has made no fault
 pub latest_fresh : (pass : Told Entry) → own by_of pass.number pass.seen ≡ pass.mine → pass.mine ≡ [] → IsLatest pass 0
@@ -350,3 +361,46 @@ pub frame_kept : {D : Type 0} (new was taken first lock : PlantView D) → new.m
     → unchanging taken ≡ unchanging first → lock ≡ first → unchanging new ≡ unchanging lock
 frame_kept new was taken first lock frame origin same kept is =
     (λ i. record { frame = frame i; origin = origin i }) ∙ (ap unchanging same ∙ (kept ∙ sym (ap unchanging is)))
+
+-- what the pass is after the plant was looked at under the lock and given back as it was
+pub record Looked {D : Type 0} (shown : D → DiskView) (lock : TableId) (made : PlantView D) (old : Told Entry) (found : PlantView D) (result : Told Entry) : Type 1 where
+  pub took : Took made.memory.frame old found.memory
+  pub is : result ≡ given old found.memory found.memory
+  pub pass : IsPass lock result
+  pub number : result.number ≡ old.number
+  pub latest : (latest : ℕ) → IsLatest old latest → IsLatest result latest
+  pub step : (P : PlantView D → PlantView D → Type 0) → P found found → StepsOnce shown (unchanging made) old.seen result.seen P
+
+pub looked : {D : Type 0} (shown : D → DiskView) (lock : TableId) (made found lent : PlantView D) (old taken result : Told Entry) → IsPass lock old
+    → taken ≡ record old { seen = found.memory.entries } → IsPrefix old.seen found.memory.entries → unchanging found ≡ unchanging made
+    → own by_of old.number found.memory.entries ≡ old.mine → lent ≡ found → IsSound (shown_by shown lent)
+    → result ≡ record taken { seen = lent.memory.entries; mine = taken.mine ++ drop (length taken.seen) lent.memory.entries }
+    → own by_of result.number result.seen ≡ result.mine → Looked shown lock made old found result
+looked {D} shown lock made found lent old taken result is_pass taken_is begins frame own_all same sound given_is own_is =
+    let took : Took made.memory.frame old found.memory = record {
+      rest = begins.0;
+      whole = begins.1;
+      frame_is = ap (λ u. u.frame) frame;
+      own_all = own_all;
+      own_seen = is_pass.own_is;
+    } in
+    let is : result ≡ given old found.memory found.memory =
+    is_given old taken result found.memory lent.memory taken_is given_is ∙ (λ i. given old found.memory ((same i).memory)) in
+    let there = is_found shown made found lent frame same sound in
+    record {
+      took = took;
+      is = is;
+      pass = stays_pass lock old result found.memory found.memory is is_pass own_is;
+      number = ap (λ (t : Told Entry). t.number) is;
+      latest = λ latest h. subst (λ (q : Told Entry). IsLatest q latest) (sym is)
+          (latest_same made.memory.frame (shown made.origin) old found.memory found.memory took latest h refl);
+      step = λ P made_is. record {
+        before = found;
+        after = found;
+        found = there;
+        left = there;
+        begins = begins;
+        whole = ap (λ (t : Told Entry). t.seen) is;
+        made = made_is;
+      };
+    }

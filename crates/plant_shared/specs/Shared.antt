@@ -7,11 +7,11 @@ use Rattle.day_rows.specs.declared.entry.Entry.{Entry}
 use Rattle.day_rows.specs.declared.schema.Shape.{Shape}
 use Rattle.plant_memory.specs.Chronicle.{by_of, last_fault}
 use Rattle.plant_memory.specs.Frame.{Frame}
-use Rattle.plant_memory.specs.Memory.{SnapshotView}
+use Rattle.plant_memory.specs.Memory.{SnapshotView, TailView}
 use Rattle.plant_memory.specs.declared.request.UpdRequest.{UpdRequest}
 use Rattle.plant_lock.specs.Entries.{own}
 use Rattle.plant_lock.specs.Told.{Told}
-use Rattle.plant_core.specs.Access.{AccessView, Home, Updates, Ticks, Snaps, next_count}
+use Rattle.plant_core.specs.Access.{AccessView, Home, Updates, Ticks, Snaps, Tails, next_count}
 use Rattle.plant_core.specs.declared.access.TickTurn.{TickTurn}
 use Rattle.plant_core.specs.declared.access.TickTurn.TheVariants as t
 use Rattle.plant_core.specs.declared.access.UpdTurn.{UpdTurn}
@@ -122,3 +122,8 @@ TicksPass frame home old new now turn =
 abbrev pub SnapsPass : Frame → Home → Told Entry → Told Entry → Result SnapshotView NoMemory → Type 0
 SnapsPass frame home old new answer =
     (snapshots ticks : ℕ) → Snaps (shown_pass frame home old snapshots ticks) (shown_pass frame home new (next_count snapshots) ticks) answer
+
+-- what a tail from this index on makes of a pass, whatever its access counts
+abbrev pub TailsPass : Frame → Home → Told Entry → Told Entry → ℕ → Result TailView NoMemory → Type 0
+TailsPass frame home old new from answer =
+    (snapshots ticks : ℕ) → Tails (shown_pass frame home old snapshots ticks) (shown_pass frame home new snapshots ticks) from answer

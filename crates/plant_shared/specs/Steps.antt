@@ -4,7 +4,7 @@ use mathlib.Core.List.{IsPrefix}
 use Rattle.outside_api.specs.Disk.{DiskView}
 use Rattle.q_values.specs.declared.refusal.NoMemory.{NoMemory}
 use Rattle.day_rows.specs.declared.entry.Entry.{Entry}
-use Rattle.plant_memory.specs.Memory.{SnapshotView}
+use Rattle.plant_memory.specs.Memory.{SnapshotView, TailView}
 use Rattle.plant_memory.specs.declared.request.UpdRequest.{UpdRequest}
 use Rattle.plant_core.specs.Plant.{PlantView, IsSound, shown_by}
 use Rattle.plant_core.specs.Turns.{Unchanging, UpdatesPlant, TicksPlant}
@@ -51,3 +51,9 @@ abbrev pub SnapsOnce : {D : Type 0} → (D → DiskView) → Unchanging D → Li
 SnapsOnce shown lock old new answer =
     StepsOnce shown lock old new
     (λ before after. (after ≡ before) × IfOk answer (λ s. s ≡ record { frame = before.memory.frame; entries = before.memory.entries }))
+
+-- the step changes nothing, and a tail, if there is one, is of the plant, from this index on
+abbrev pub TailsOnce : {D : Type 0} → (D → DiskView) → Unchanging D → List Entry → List Entry → ℕ → Result TailView NoMemory → Type 0
+TailsOnce shown lock old new from answer =
+    StepsOnce shown lock old new
+    (λ before after. (after ≡ before) × IfOk answer (λ t. t ≡ record { frame = before.memory.frame; entries = before.memory.entries; from = from }))

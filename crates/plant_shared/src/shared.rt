@@ -2,17 +2,17 @@
 ghost use Rattle.std.specs.Prelude.{◌≡◌, ◌+◌, ◌<◌, ◌^◌, []};
 ghost use Rattle.plant_lock.specs.Entries.{own};
 ghost use Rattle.plant_memory.specs.Chronicle.{by_of};
-ghost use Rattle.plant_core.specs.Access.{Updates, Ticks, Snaps, next_count};
+ghost use Rattle.plant_core.specs.Access.{Updates, Ticks, Snaps, Tails, next_count};
 ghost use Rattle.plant_shared.specs.Shared.{shared_of, shown_shared};
-ghost use Rattle.plant_shared.specs.Steps.{lock_of, UpdatesOnce, TicksOnce, SnapsOnce};
+ghost use Rattle.plant_shared.specs.Steps.{lock_of, UpdatesOnce, TicksOnce, SnapsOnce, TailsOnce};
 
 use crate::turns::{
-    Lock, PlantPass, latest_after_tick, latest_after_update, snapshot, tick, update,
+    Lock, PlantPass, latest_after_tick, latest_after_update, snapshot, tail, tick, update,
 };
 use day_rows::Schema;
 use outside_api::Disk;
 use plant_core::{Access, TickTurn, UpdTurn};
-use plant_memory::{Snapshot, UpdRequest};
+use plant_memory::{Snapshot, Tail, UpdRequest};
 use q_values::NoMemory;
 use std::alloc::Global;
 use std::marker::Model;
@@ -144,6 +144,19 @@ impl<'a, D: Disk> Access for Shared<'a, D> {
             unreachable!()
         };
         let (pass, answer) = snapshot(rt, self.lock, pass, alloc);
+        self.pass = Some(pass);
+        answer
+    }
+
+    fn tail<R: Wait>(&mut self, rt: &R, alloc: Global, from: u64) -> Result<Tail, NoMemory>
+        ensures answer { Tails (shown_shared D.shown self.old) (shown_shared D.shown self.new) from result }
+        ensures step { TailsOnce D.shown (lock_of self.old) self.old.seen self.new.seen from result }
+        ensures lock { self.new.lock ≡ self.old.lock }
+    {
+        let Some(pass) = self.pass.take() else {
+            unreachable!()
+        };
+        let (pass, answer) = tail(rt, self.lock, pass, alloc, from);
         self.pass = Some(pass);
         answer
     }

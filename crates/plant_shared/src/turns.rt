@@ -1,16 +1,16 @@
 //! One call under the lock: take it, make one step of the plant, and give it back.
-ghost use Rattle.std.specs.Prelude.{◌≡◌, ◌<◌, ◌+◌, ◌^◌, ℕ, IfOk};
+ghost use Rattle.std.specs.Prelude.{◌≡◌, ◌<◌, ◌≤◌, ◌+◌, ◌^◌, ℕ, length, IfOk};
 ghost use Rattle.plant_lock.specs.Entries.{IsExtendedBy};
 ghost use Rattle.plant_memory.specs.Chronicle.{by_of};
 ghost use Rattle.plant_core.specs.Plant.{IsSound, shown_by};
 ghost use Rattle.plant_core.specs.Turns.{UpdatesPlant, TicksPlant};
-ghost use Rattle.plant_shared.specs.Shared.{locked, IsPass, IsLatest, UpdatesPass, TicksPass, SnapsPass, latest_update, latest_tick};
-ghost use Rattle.plant_shared.specs.Steps.{unchanging, UpdatesOnce, TicksOnce, SnapsOnce};
+ghost use Rattle.plant_shared.specs.Shared.{locked, IsPass, IsLatest, UpdatesPass, TicksPass, SnapsPass, TailsPass, latest_update, latest_tick};
+ghost use Rattle.plant_shared.specs.Steps.{unchanging, UpdatesOnce, TicksOnce, SnapsOnce, TailsOnce};
 
 use outside_api::Disk;
 use plant_core::{Plant, TickTurn, UpdTurn};
 use plant_lock::{PassOf, PlantLock};
-use plant_memory::{Snapshot, UpdRequest};
+use plant_memory::{Snapshot, Tail, UpdRequest};
 use q_values::NoMemory;
 use std::alloc::Global;
 use std::sync::Wait;
@@ -75,6 +75,16 @@ fn shown<D: Disk>(plant: &Plant<D>, alloc: Global) -> Result<Snapshot, NoMemory>
     plant.snapshot(alloc)
 }
 
+// The chronicle of a plant, which is sound, from the index `from` on.
+fn shown_from<D: Disk>(plant: &Plant<D>, alloc: Global, from: u64) -> Result<Tail, NoMemory>
+    requires { from ≤ length plant.now.memory.entries }
+    ensures answer { IfOk result (λ t. t ≡ record { frame = plant.now.memory.frame; entries = plant.now.memory.entries; from = from }) }
+    ensures sound { IsSound (shown_by D.shown plant.now) }
+{
+    learn_sound(plant);
+    plant.tail(alloc, from)
+}
+
 /// Takes the lock, and logs the update or refuses it.
 pub(crate) fn update<D: Disk, R: Wait>(
     rt: &R,
@@ -134,6 +144,28 @@ pub(crate) fn snapshot<D: Disk, R: Wait>(
 {
     let mut held = lock.take(rt, pass);
     let answer = shown(held.state(), alloc);
+    (held.give(), answer)
+}
+
+/// Takes the lock, and makes a tail from the index `from` on, up to which the pass has seen the chronicle. It shares the
+/// dates that have ended.
+pub(crate) fn tail<D: Disk, R: Wait>(
+    rt: &R,
+    lock: &Lock<D>,
+    pass: PlantPass<D>,
+    alloc: Global,
+    from: u64,
+) -> (PlantPass<D>, Result<Tail, NoMemory>)
+    requires pass { IsPass lock.now.id pass }
+    requires seen { from ≤ length pass.seen }
+    ensures pass { IsPass lock.now.id result.0 }
+    ensures number { result.0.number ≡ pass.number }
+    ensures answer { TailsPass lock.now.made.memory.frame (locked (D.shown lock.now.made.origin) lock.now.id) pass result.0 from result.1 }
+    ensures step { TailsOnce D.shown (unchanging lock.now.made) pass.seen result.0.seen from result.1 }
+    ensures latest { (latest : ℕ) → IsLatest pass latest → IsLatest result.0 latest }
+{
+    let mut held = lock.take(rt, pass);
+    let answer = shown_from(held.state(), alloc, from);
     (held.give(), answer)
 }
 
