@@ -2,8 +2,8 @@
 use Rattle.std.specs.Prelude.{◌≡◌, ℕ, List, All, Any}
 use Rattle.pubsub.specs.Told.{Publication}
 use Rattle.publications.specs.Notice.{Fits, sent_for}
-use Rattle.publications.specs.declared.sending.Publications.{Publications}
-use Rattle.publications.specs.declared.sending.Publications.TheVariants as p
+use Rattle.publications.specs.declared.outcome.Publications.{Publications}
+use Rattle.publications.specs.declared.outcome.Publications.TheVariants as p
 
 -- the messages of these publications, each of which fits, or that one doesn't
 abbrev pub Publishes : List Publication → Publications → Type 0

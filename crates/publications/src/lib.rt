@@ -23,7 +23,9 @@
 
 mod answer;
 mod notice;
+mod outcome;
 mod sending;
 
 pub use answer::subscription_answer;
-pub use sending::{Publications, publications};
+pub use outcome::Publications;
+pub use sending::publications;

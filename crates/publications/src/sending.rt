@@ -10,20 +10,12 @@ ghost use Rattle.publications.specs.Notice.{notice};
 ghost use Rattle.publications.specs.Sending.{Publishes};
 
 use crate::notice::{notice_length, put_notice, values_of};
+use crate::outcome::Publications;
 use day_rows::Schema;
 use plant_memory::Tail;
 use pubsub::{Subscription, messages};
 use q_values::{NoMemory, Value, Values};
 use std::alloc::Global;
-
-/// What a subscriber is sent.
-#[derive(Drop)]
-pub enum Publications {
-    /// The bytes of all messages, in order.
-    Messages(Vec<u8>),
-    /// Nothing: a message would be longer than its header can say, 4,294,967,295 bytes.
-    TooLong,
-}
 
 // The number of bytes of the message with a value, if its header can say it.
 fn fitting_length(value: &Value) -> Option<usize>
