@@ -43,4 +43,4 @@ pub use locked_folder::{FolderRefusal, LockedFolder};
 pub use port::{OpenPort, PortRefusal};
 pub use reading::{ReadRefusal, read_file, read_whole};
 pub use retry::{got_of, read_waiting, write_waiting};
-pub use socket::{SocketLink, set_options};
+pub use socket::{ReadTimeout, SocketLink, set_options};
