@@ -1,5 +1,5 @@
 //! The access of a session to a plant under a lock.
-ghost use Rattle.std.specs.Prelude.{◌≡◌, ◌+◌, ◌<◌, ◌^◌, []};
+ghost use Rattle.std.specs.Prelude.{◌≡◌, ◌+◌, ◌<◌, ◌≤◌, ◌^◌, length, []};
 ghost use Rattle.plant_lock.specs.Entries.{own};
 ghost use Rattle.plant_memory.specs.Chronicle.{by_of};
 ghost use Rattle.plant_core.specs.Access.{Updates, Ticks, Snaps, Tails, next_count};
@@ -149,6 +149,7 @@ impl<'a, D: Disk> Access for Shared<'a, D> {
     }
 
     fn tail<R: Wait>(&mut self, rt: &R, alloc: Global, from: u64) -> Result<Tail, NoMemory>
+        requires { from ≤ length self.old.seen }
         ensures answer { Tails (shown_shared D.shown self.old) (shown_shared D.shown self.new) from result }
         ensures step { TailsOnce D.shown (lock_of self.old) self.old.seen self.new.seen from result }
         ensures lock { self.new.lock ≡ self.old.lock }

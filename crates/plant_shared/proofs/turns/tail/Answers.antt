@@ -9,8 +9,8 @@ use Rattle.plant_shared.proofs.SharedLemmas.{looked, tails_shared}
 use Rattle.plant_shared.proofs.turns.tail.Goals as goal
 
 -- what the pass had seen begins the plant's chronicle
-pub shown_from-requires : goal.shown_from-requires
-shown_from-requires g c =
+pub shown_from-answer-requires : goal.shown_from-answer-requires
+shown_from-answer-requires g c =
     let history = c.take-held.ensures.history in
     omega (arith, c.requires.seen, length-append c.args.pass.seen history.0, ap length history.1, ap (λ p. length p.memory.entries) c.state.ensures.state)
 

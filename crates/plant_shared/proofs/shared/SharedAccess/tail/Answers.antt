@@ -2,10 +2,10 @@ use Rattle.std.proofs.Common.{◌≡◌, Some, rules, refl, sym, ◌∙◌}
 use Rattle.plant_shared.proofs.SharedLemmas.{kept_is}
 use Rattle.plant_shared.proofs.shared.SharedAccess.tail.Goals as goal
 
-pub tail-requires-seen : goal.tail-requires-seen
-tail-requires-seen g c =
+pub tail-pass-requires-clause-seen : goal.tail-pass-requires-clause-seen
+tail-pass-requires-clause-seen g c =
     let here : c.self.inside.pass ≡ Some c.in-Some.pass = search rules in
-    rw here at (rw (← c.self.view_is) c.requires)
+    rw (← c.self.view_is, here) at c.requires
 
 pub invariant_of-self : goal.invariant_of-self
 invariant_of-self g c =
