@@ -1,5 +1,5 @@
 -- What a subscriber is sent.
-use Rattle.std.specs.Prelude.{◌≡◌, ℕ, List, All, Any}
+use Rattle.std.specs.Prelude.{◌≡◌, List, All, Any}
 use Rattle.pubsub.specs.Told.{Publication}
 use Rattle.publications.specs.Notice.{Fits, sent_for}
 use Rattle.publications.specs.declared.outcome.Publications.{Publications}

@@ -7,6 +7,7 @@ ghost use Rattle.q_values.specs.Tree.{tree, trees};
 ghost use Rattle.pubsub.specs.Filters.{is_known, table_names};
 ghost use Rattle.publications.specs.Answer.{pair_tree, subscription_tree};
 
+use crate::schema::learn_schema;
 use day_rows::{Schema, Shape};
 use pubsub::empty_table;
 use q_values::{Atom, NoMemory, Sym, Value, Values};
@@ -44,16 +45,13 @@ fn table_named<'a>(schema: &'a Schema, name: &[u8]) -> Option<&'a Shape>
 /// The answer to a subscription: for a table of the schema the list of its name and the table without rows, with its own
 /// columns and without `date`; for the null symbol the list of these pairs for all tables, in the schema's order. The only
 /// error is that it is out of memory.
-pub fn subscription_answer(
-    alloc: Global,
-    schema: &Schema,
-    tables: &Sym,
-) -> Result<Value, NoMemory>
+pub fn subscription_answer(alloc: Global, schema: &Schema, tables: &Sym) -> Result<Value, NoMemory>
     requires known { is_known tables.now (table_names schema.now) ≡ true }
     ensures value { IfOk result (λ v. tree v ≡ subscription_tree schema.now tables.now) }
     // Its parts are in shape, and its counts are small: it can be written.
     ensures plain { IfOk result (λ v. IsPlain (tree v)) }
 {
+    learn_schema(schema);
     if tables.bytes().is_empty() {
         return Ok(Value::List(pairs_of(alloc, schema)?));
     }

@@ -24,6 +24,7 @@
 mod answer;
 mod notice;
 mod outcome;
+mod schema;
 mod sending;
 
 pub use answer::subscription_answer;

@@ -3,7 +3,6 @@ ghost use Rattle.std.specs.Prelude.{◌≡◌, ◌≤◌, ◌<◌, length, map, 
 ghost use Rattle.std.specs.List.{flat_map, AllByRecursion};
 ghost use Rattle.q_values.specs.Tree.{tree, trees};
 ghost use Rattle.day_rows.specs.Chronicle.{date_of};
-ghost use Rattle.day_rows.specs.Schema.{IsSchema};
 ghost use Rattle.ipc_codec.specs.Written.{IsPlain};
 ghost use Rattle.pubsub.specs.Told.{told};
 ghost use Rattle.publications.specs.Notice.{notice};
@@ -11,7 +10,7 @@ ghost use Rattle.publications.specs.Sending.{Publishes};
 
 use crate::notice::{notice_length, put_notice, values_of};
 use crate::outcome::Publications;
-use day_rows::Schema;
+use crate::schema::learn_schema;
 use plant_memory::Tail;
 use pubsub::{Subscription, messages};
 use q_values::{NoMemory, Value, Values};
@@ -50,13 +49,6 @@ fn joined(alloc: Global, values: &Values, room: usize) -> Result<Vec<u8>, NoMemo
         put_notice(&mut bytes, values.at(i))?;
     }
     Ok(bytes)
-}
-
-// Whoever calls it knows that the tables are such as a plant may have.
-fn learn_schema(schema: &Schema)
-    ensures { IsSchema schema.now }
-{
-    let _first = schema.get(0);
 }
 
 /// The bytes that a subscriber is sent for the entries of a tail: the messages that [`messages`] makes, each as an async
