@@ -104,7 +104,7 @@ content-more frame by seen more x y sync (built t) deed (inr h) = inr h
 
 publishes-more : (frame : Frame) (seen more : List Entry) (x y : Option Subscriber) (deed : Deed) → Publishes frame seen x y deed → Publishes frame (seen ++ more) x y deed
 publishes-more frame seen more None y deed h = absurd h
-publishes-more frame seen more (Some s) y deed (inl h) = inl (record { count = h.count; front = h.front; is_front = front-more h.count h.front seen more h.is_front; more = h.more; after_it = h.after_it; sendable = h.sendable; noted = h.noted; sent = h.sent; still = h.still })
+publishes-more frame seen more (Some s) y deed (inl h) = inl (record { count = h.count; front = h.front; is_front = front-more h.count h.front seen more h.is_front; more = h.more; after_it = h.after_it; fit = h.fit; noted = h.noted; sent = h.sent; still = h.still })
 publishes-more frame seen more (Some s) y deed (inr h) = inr (h.0, kept h.1)
   where
     kept : IsTooMuch frame seen s [] deed ⊎ IsShortOfTelling deed → IsTooMuch frame (seen ++ more) s [] deed ⊎ IsShortOfTelling deed

@@ -1,6 +1,7 @@
 -- What a subscriber is told.
-use Rattle.std.proofs.Common.{◌≡◌, ◌<◌, ◌≤◌, ◌+◌, ℕ, ℤ, zero, suc, Bool, false, List, [], ◌∷◌, ◌++◌, length, refl, sym, ap, subst, ◌∙◌, arith, inl, inr, Option, Some, None, ltb}
+use Rattle.std.proofs.Common.{◌≡◌, ◌<◌, ◌≤◌, ◌+◌, ℕ, ℤ, Bool, false, List, [], ◌∷◌, ◌++◌, length, refl, sym, ap, subst, ◌∙◌, arith, inl, inr, Option, Some, None}
 use Rattle.std.specs.Prelude.{nat_lt}
+use Rattle.std.proofs.lemmas.Bool.{le-ltb}
 use Rattle.std.proofs.lemmas.List.{append-nil, length-append}
 use Rattle.day_rows.specs.declared.entry.Entry.{Entry}
 use Rattle.outside_api.specs.Link.{LinkView}
@@ -40,8 +41,7 @@ pub reports_all : (a b : AccessView) (l : Sees a b) (to : ℕ) → to ≡ length
 reports_all a b l to is = ap length (sym (sees_seen a b l)) ∙ sym is
 
 no_less : (n : ℕ) → nat_lt n n ≡ false
-no_less zero = refl
-no_less (suc n) = no_less n
+no_less n = le-ltb n n (omega arith)
 
 -- a list with nothing more at its end
 none_more : (xs ys : List Entry) → length (xs ++ ys) ≤ length xs → ys ≡ []

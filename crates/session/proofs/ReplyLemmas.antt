@@ -7,6 +7,7 @@ use Rattle.ipc_codec.specs.Lengths.{saturated}
 use Rattle.gateway.specs.Shaped.{IsShaped}
 use Rattle.gateway.proofs.ShapedLemmas.{shaped_plain}
 use Rattle.ipc_codec.specs.Written.{IsPlain, written}
+use Rattle.q_values.specs.Bytes.{HasNoNul}
 use Rattle.q_values.specs.Limits.{AreLimits}
 use Rattle.q_values.specs.Tree.{Tree, identity, wrong}
 use Rattle.q_values.specs.declared.limits.Limits.{Limits}
@@ -69,3 +70,7 @@ too_long limits t n e long =
 -- a value in shape whose response is within the limit can be written
 pub within_plain : (limits : Limits) (t : Tree) → AreLimits limits → IsShaped t → length (response t) ≤ limits.reply → IsPlain t
 within_plain limits t are shaped within = shaped_plain t shaped (omega (arith, within, are.reply, length-append (1 ∷ 2 ∷ 0 ∷ 0 ∷ to_le_bytes w32 (8 + length (written t))) (written t)))
+
+-- an error whose text has no zero byte
+pub wrong_shaped : (text : List ℕ) → HasNoNul text → IsShaped (wrong text)
+wrong_shaped text clean = record { nested = omega arith; parts = clean }

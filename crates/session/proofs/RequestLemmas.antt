@@ -5,7 +5,7 @@ use Rattle.std.specs.Str.{bytes_eq}
 use Rattle.std.specs.List.{filter_map}
 use Rattle.q_values.specs.Column.{contents}
 use Rattle.q_values.specs.Contents.{Contents}
-use Rattle.q_values.specs.Tree.{Tree, atom, items_of, list_of, list, tree, trees, value_step, pair_step, values_step}
+use Rattle.q_values.specs.Tree.{Tree, atom, items_of, list_of, list, wrong, tree, trees, value_step, pair_step, values_step}
 use Rattle.q_values.specs.declared.atom.Atom.TheVariants as a
 use Rattle.q_values.specs.declared.column.Column.{Column}
 use Rattle.q_values.specs.declared.column.Column.TheVariants as c
@@ -14,13 +14,14 @@ use Rattle.q_values.specs.declared.kind.ByteKind.TheVariants as b
 use Rattle.q_values.specs.declared.value.Value.{fold-roll-Value}
 use Rattle.q_values.specs.declared.value.Value.TheOpen.{Value-F}
 use Rattle.q_values.specs.declared.value.Value.{Value}
-use Rattle.q_values.specs.declared.value.Value.TheVariants.{rolls-List, rolls-Atom}
+use Rattle.q_values.specs.declared.value.Value.TheVariants.{rolls-List, rolls-Atom, rolls-Wrong}
 use Rattle.q_values.specs.declared.atom.Atom.{Atom}
 use Rattle.std.proofs.lemmas.List.{map_push, take-map}
 use Rattle.day_rows.proofs.DayLemmas.{take_more_mapped}
 use Rattle.q_values.specs.declared.value.Value.TheVariants as v
 use Rattle.q_values.specs.declared.value.Values.{Values}
-use Rattle.session.specs.Request.{character_of, characters_of, parts_request, vector_request, mistyped, text, other}
+use Rattle.pubsub.specs.declared.request.Wanted.TheVariants as w
+use Rattle.session.specs.Request.{character_of, characters_of, name_of, parts_request, subscription_of, vector_request, wanted_among, wanted_of, mistyped, text, other}
 
 pub characters : (bytes : List ℕ) → filter_map character_of (map (λ x. a.Character x) bytes) ≡ bytes
 characters [] = refl
@@ -64,16 +65,41 @@ mistyped_symbols (x ∷ y ∷ []) first n at e = absurd cc
 mistyped_symbols (x ∷ y ∷ z ∷ []) first n at e = let same : x ≡ first = cc in rw (same, e) refl
 mistyped_symbols (x ∷ y ∷ z ∷ w ∷ ss) first n at e = absurd (omega arith)
 
-pub other_symbols : (ss : List (List ℕ)) (first : List ℕ) → slice_get ss 0 ≡ Some first → bytes_eq first (codes ".u.upd") ≡ false → parts_request (symbol_values ss) ≡ other
-other_symbols [] first at e = absurd cc
-other_symbols (x ∷ []) first at e = refl
-other_symbols (x ∷ y ∷ []) first at e = refl
-other_symbols (x ∷ y ∷ z ∷ []) first at e = let same : x ≡ first = cc in rw (same, e) refl
-other_symbols (x ∷ y ∷ z ∷ w ∷ ss) first at e = refl
+pub other_symbols : (ss : List (List ℕ)) (first : List ℕ) → slice_get ss 0 ≡ Some first → bytes_eq first (codes ".u.upd") ≡ false → bytes_eq first (codes ".u.sub") ≡ false → parts_request (symbol_values ss) ≡ other
+other_symbols [] first at e f = absurd cc
+other_symbols (x ∷ []) first at e f = refl
+other_symbols (x ∷ y ∷ []) first at e f = refl
+other_symbols (x ∷ y ∷ z ∷ []) first at e f = let same : x ≡ first = cc in rw (same, e, f) refl
+other_symbols (x ∷ y ∷ z ∷ w ∷ ss) first at e f = refl
+
+pub sub_symbols : (ss : List (List ℕ)) (first tables symbol : List ℕ) → length ss ≡ 3 → slice_get ss 0 ≡ Some first → slice_get ss 1 ≡ Some tables → slice_get ss 2 ≡ Some symbol
+    → bytes_eq first (codes ".u.upd") ≡ false → bytes_eq first (codes ".u.sub") ≡ true
+    → parts_request (symbol_values ss) ≡ subscription_of (Some tables) (Some (wanted_of symbol))
+sub_symbols [] first tables symbol n at one two e f = absurd cc
+sub_symbols (x ∷ []) first tables symbol n at one two e f = absurd cc
+sub_symbols (x ∷ y ∷ []) first tables symbol n at one two e f = absurd cc
+sub_symbols (x ∷ y ∷ z ∷ []) first tables symbol n at one two e f =
+    let same : x ≡ first = cc in
+    let second : y ≡ tables = cc in
+    let third : z ≡ symbol = cc in
+    rw (same, e, f, second, third) refl
+sub_symbols (x ∷ y ∷ z ∷ w ∷ ss) first tables symbol n at one two e f = absurd (omega arith)
+
+pub names : (symbols : List (List ℕ)) → filter_map name_of (map (λ s. a.Symbol s) symbols) ≡ symbols
+names [] = refl
+names (s ∷ symbols) = ap (λ l. s ∷ l) (names symbols)
+
+-- the rows that a column of symbols asks for
+pub symbols_wanted : (column : Column) (symbols copied : List (List ℕ)) (v : Contents) → contents column ≡ v → column ≡ c.Symbols symbols → copied ≡ symbols → Some (w.Symbols copied) ≡ wanted_among v.kind v.atoms
+symbols_wanted column symbols copied v is_contents is_symbols same = rw (← is_contents, is_symbols, same) (ap (λ l. Some (w.Symbols l)) (sym (names symbols)))
 
 -- the tree of an atom
 pub tree-atom : (x : Atom) → tree (v.Atom x) ≡ atom x
 tree-atom x = ap tree (sym (rolls-Atom x)) ∙ fold-roll-Value Tree (Tree × Tree) (List Tree) value_step pair_step values_step (Value-F.Atom x)
+
+-- the tree of an error
+pub tree-wrong : (x : List ℕ) → tree (v.Wrong x) ≡ wrong x
+tree-wrong x = ap tree (sym (rolls-Wrong x)) ∙ fold-roll-Value Tree (Tree × Tree) (List Tree) value_step pair_step values_step (Value-F.Wrong x)
 
 -- one atom more
 pub atoms_step : (items : List Value) (x : Atom) (atoms : List Atom) (i : ℕ) → map tree items ≡ map atom (take i atoms) → slice_get atoms i ≡ Some x → map tree (items ++ v.Atom x ∷ []) ≡ map atom (take (i + 1) atoms)

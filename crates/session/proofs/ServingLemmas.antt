@@ -29,18 +29,18 @@ use Rattle.session.proofs.ServedLemmas.{does_nothing, tells_unserved, unserved_d
 use Rattle.session.proofs.ToldLemmas.{told-nil}
 
 -- the plant's frame stays
-pub advanced-frame : (a b : AccessView) (turns : List Turn) (made : List Entry) (asked ticked : ℕ) → Advances a b turns made asked ticked → b.frame ≡ a.frame
-advanced-frame a b turns made asked ticked h = ap (λ (v : AccessView). v.frame) h.after
+pub advanced-frame : (a b : AccessView) (turns : List Turn) (made : List Entry) (i j : ℕ) → Advances a b turns made i j → b.frame ≡ a.frame
+advanced-frame a b turns made i j h = ap (λ (v : AccessView). v.frame) h.after
 
 -- a subscriber that stays, while the access goes on
-pub fits-advanced : (a b : AccessView) (turns : List Turn) (made : List Entry) (asked ticked : ℕ) (x y : Option Subscriber) → Advances a b turns made asked ticked → y ≡ x → FitsPlant a.frame (length a.seen) x → FitsPlant b.frame (length b.seen) y
-fits-advanced a b turns made asked ticked x y h same fits =
-    subst (λ (f : Frame). FitsPlant f (length b.seen) y) (sym (advanced-frame a b turns made asked ticked h)) (fits-more a.frame (length a.seen) (length b.seen) x y (known-rises (length a.seen) (length b.seen) turns h.lengths) same fits)
+pub fits-advanced : (a b : AccessView) (turns : List Turn) (made : List Entry) (i j : ℕ) (x y : Option Subscriber) → Advances a b turns made i j → y ≡ x → FitsPlant a.frame (length a.seen) x → FitsPlant b.frame (length b.seen) y
+fits-advanced a b turns made i j x y h same fits =
+    subst (λ (f : Frame). FitsPlant f (length b.seen) y) (sym (advanced-frame a b turns made i j h)) (fits-more a.frame (length a.seen) (length b.seen) x y (known-rises (length a.seen) (length b.seen) turns h.lengths) same fits)
 
 pub performed-frame : (heard : List Event) (a b : World) (x y : State) (end : Option End) → Performs heard a b x y end → b.access.frame ≡ a.access.frame
 performed-frame heard a b x y end p = ap (λ (v : AccessView). v.frame) p.works.access.after
 
-performed-fits : (heard : List Event) (a b : World) (x y : State) → Performs heard a b x y None → FitsPlant a.access.frame x.known x.subscriber → FitsPlant b.access.frame y.known y.subscriber
+pub performed-fits : (heard : List Event) (a b : World) (x y : State) → Performs heard a b x y None → FitsPlant a.access.frame x.known x.subscriber → FitsPlant b.access.frame y.known y.subscriber
 performed-fits heard a b x y p fits =
     let kept : FitsPlant a.access.frame p.after.known p.after.subscriber = fits-chain a.access.frame a.access.by b.access.seen x p.after p.steps fits p.works.served in
     subst (λ (f : Frame). FitsPlant f y.known y.subscriber) (sym (performed-frame heard a b x y None p)) (subst (λ (v : State). FitsPlant a.access.frame v.known v.subscriber) (p.goes_on refl) kept)

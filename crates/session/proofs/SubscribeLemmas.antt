@@ -20,7 +20,7 @@ use Rattle.q_values.specs.declared.turn.Turn.TheVariants as t
 use Rattle.session.specs.Acting.{Finishes, Performs, ServesHeard}
 use Rattle.session.specs.Answering.{Does, ServesValue, AnswersUnknown, turns_by, sent_by, deed_of}
 use Rattle.session.specs.Devices.{OnlyAsks, KeepsSubscriber, world_of, state_of, served_of}
-use Rattle.session.specs.Owing.{FitsPlant, OwesTooMuch, IsTextOf, IsSubscriptionTo}
+use Rattle.session.specs.Owing.{FitsPlant, OwesMessages, OwesTooMuch, told_up_to, IsTextOf, IsSubscriptionTo}
 use Rattle.session.specs.Reply.{reply, replied, response}
 use Rattle.session.specs.Request.{Request, subscribe, text, request_of, subscription_in}
 use Rattle.session.specs.Run.{Advances}
@@ -32,9 +32,10 @@ use Rattle.session.specs.declared.answer.Answer.{Answer}
 use Rattle.session.specs.declared.end.End.{End}
 use Rattle.session.specs.declared.session.Session.{Session}
 use Rattle.session.specs.declared.subscriber.Subscriber.{Subscriber}
-use Rattle.session.proofs.PerformLemmas.{performs-one, content_performs, value_performs}
-use Rattle.session.proofs.PublishLemmas.{sees_after, whole_turn, reports_all}
+use Rattle.session.proofs.PerformLemmas.{performs-one, performs-append, content_performs}
+use Rattle.session.proofs.PublishLemmas.{sees_after, whole_turn, reports_all, publishes_told}
 use Rattle.session.proofs.ServedLemmas.{Idles, advances_idle, does_nothing, tells_declined, tells_short}
+use Rattle.session.proofs.ServingLemmas.{performed-frame, performed-fits}
 use Rattle.session.proofs.ToldLemmas.{told-nil}
 
 -- what is done with a subscription is done with the message, be it a call or a text
@@ -195,3 +196,39 @@ subscribed_performs access link clock notes s m z limits sync value request subs
     (refl, refl)
     (subst (λ r. Finishes (link r) (link z.link.now) bytes end) unsent sent)
     refl
+
+sees-none : (a : AccessView) → Sees a a
+sees-none a = record { others = []; saw = record { alone = λ _. refl }; after = ap (λ s. record a { seen = s }) (sym (append-nil a.seen)) }
+
+-- what the former subscription was owed was told, and then the new one holds
+pub told_subscribed : {A L C G N : Type 0} (access : A → AccessView) (link : L → LinkView) (clock : C → Option (List ℤ)) (notes : N → Option (List Turn)) (s m w z : Session A L C G N)
+    (limits : Limits) (sync : Bool) (value : Tree) (request : SubRequest) (subscription : Subscribed) (bytes messages : List ℕ) (from to : ℕ) (end : Option End)
+    → IsSubscriptionTo (request_of value) request → (access s.access.now).frame.limits ≡ limits
+    → FitsPlant (access s.access.now).frame (length (access s.access.now).seen) s.subscriber
+    → OnlyAsks s m → m.clock.now ≡ s.clock.now → Sees (access s.access.now) (access m.access.now)
+    → OwesMessages (access s.access.now).frame s.subscriber (access m.access.now).seen from to messages
+    → w.access.now ≡ m.access.now → w.clock.now ≡ m.clock.now → w.subscriber ≡ told_up_to to m.subscriber
+    → Tells (notes m.recorder.now) (notes w.recorder.now) (t.Told from to ∷ [])
+    → Finishes (link m.link.now) (link w.link.now) messages None
+    → is_known request.tables (table_names (access s.access.now).frame.schema) ≡ true
+    → subscription ≡ after_request request (chosen_by (access s.access.now).frame s.subscriber)
+    → bytes ≡ replied sync (reply limits (subscription_tree (access s.access.now).frame.schema request.tables))
+    → z.access.now ≡ w.access.now → z.clock.now ≡ w.clock.now → z.subscriber ≡ Some (record { subscription = subscription; cursor = to })
+    → Tells (notes w.recorder.now) (notes z.recorder.now) (t.Subscribed to ∷ [])
+    → Finishes (link w.link.now) (link z.link.now) bytes end
+    → ServesHeard (asked (record { sync = sync; content = built value })) (world_of access link clock notes s) (world_of access link clock notes z) (state_of access s) (served_of access z) end
+told_subscribed access link clock notes s m w z limits sync value request subscription bytes messages from to end is same fits asks unread l owes reached unheard moved told sent known chosen answered own still holds noted replied_to =
+    let a = access s.access.now in
+    let p : Performs [] (world_of access link clock notes s) (world_of access link clock notes w) (state_of access s) (state_of access w) None =
+        publishes_told access link clock notes s m w (state_of access s) from to messages None asks unread l owes reached unheard moved told sent refl refl in
+    let frame_is : (access w.access.now).frame ≡ a.frame = performed-frame [] _ _ _ _ None p in
+    let holder : w.subscriber ≡ Some (record owes.of { cursor = to }) = moved ∙ ap (told_up_to to) (asks.unheard.subscriber ∙ owes.is) in
+    let one : chosen_by (access w.access.now).frame w.subscriber ≡ chosen_by a.frame s.subscriber = rw (holder, owes.is) refl in
+    let paid : IsPaid w.subscriber to = rw holder refl in
+    let to_is : to ≡ length (access w.access.now).seen = owes.to_is ∙ ap (λ v. length (access v).seen) (sym reached) in
+    inl (performs-append _ (world_of access link clock notes w) _ _ (state_of access w) _ [] (asked (record { sync = sync; content = built value }) ∷ []) end p
+    (subscribed_performs access link clock notes w w z limits sync value request subscription bytes to end is (ap (λ (f : Frame). f.limits) frame_is ∙ same) (performed-fits [] _ _ _ _ p fits) refl refl refl (sees-none (access w.access.now)) to_is paid
+    (subst (λ (f : Frame). is_known request.tables (table_names f.schema) ≡ true) (sym frame_is) known)
+    (chosen ∙ ap (after_request request) (sym one))
+    (answered ∙ ap (λ (f : Frame). replied sync (reply limits (subscription_tree f.schema request.tables))) (sym frame_is))
+    own still holds noted replied_to))

@@ -71,6 +71,17 @@ impl<A: Access, L: Link, C: Clock, G: Gate, N: Recorder> Session<'_, A, L, C, G,
         finish(self.link, self.recorder, answer)
     }
 
+    /// Notes a turn for which nothing is sent.
+    pub fn note(&mut self, turn: Turn)
+        ensures same { KeepsSubscriber self.old self.new }
+        ensures access { self.new.access.now ≡ self.old.access.now }
+        ensures link { self.new.link.now ≡ self.old.link.now }
+        ensures clock { self.new.clock.now ≡ self.old.clock.now }
+        ensures noted { Tells (N.noted self.old.recorder.now) (N.noted self.new.recorder.now) (turn ∷ []) }
+    {
+        self.recorder.note(turn);
+    }
+
     /// Serves a read timeout of the link, for which nothing is sent.
     pub fn serve_timeout<R: Wait>(&mut self, rt: &R, alloc: Global)
         ensures same { KeepsSubscriber self.old self.new }

@@ -1,8 +1,9 @@
 //! Publications: what a subscriber is told after each message and each read timeout (KX, u.q).
-ghost use Rattle.std.specs.Prelude.{◌≡◌, [], ◌∷◌, length};
+ghost use Rattle.std.specs.Prelude.{◌≡◌, [], ◌∷◌, Some, length};
 ghost use Rattle.outside_api.specs.Told.{Tells};
 ghost use Rattle.session.specs.Acting.{Performs, Finishes};
 ghost use Rattle.session.specs.Owing.{FitsPlant, told_up_to};
+ghost use Rattle.session.specs.declared.subscriber.Subscriber.{Subscriber};
 
 use crate::act::send;
 use crate::end::End;
@@ -44,18 +45,32 @@ impl<A: Access, L: Link, C: Clock, G: Gate, N: Recorder> Session<'_, A, L, C, G,
             (world_of A.shown L.shown C.readings N.noted self.new)
             (served_of A.shown self.old) (state_of A.shown self.new) result }
     {
-        if self.subscriber.is_none() {
-            return None;
+        match &self.subscriber {
+            Some(_) => self.publish_owed(rt, alloc),
+            None => None,
         }
+    }
+
+    /// Publishes what the subscriber is owed. There is one.
+    fn publish_owed<R: Wait>(&mut self, rt: &R, alloc: Global) -> Option<End>
+        requires same { (A.shown self.old.access.now).frame.limits ≡ self.old.limits.now }
+        requires some { (of : Subscriber) × (self.old.subscriber ≡ Some of) }
+        requires fits { FitsPlant (A.shown self.old.access.now).frame (length (A.shown self.old.access.now).seen) self.old.subscriber }
+        ensures same { HearsNothing self.old self.new }
+        ensures performs { Performs []
+            (world_of A.shown L.shown C.readings N.noted self.old)
+            (world_of A.shown L.shown C.readings N.noted self.new)
+            (served_of A.shown self.old) (state_of A.shown self.new) result }
+    {
         match self.owed(rt, alloc) {
             Ok(Owed::Nothing { .. }) => None,
             Ok(Owed::Messages { from, to, bytes }) => self.tell(from, to, &bytes),
             Ok(Owed::TooLong { from, to }) => {
-                self.recorder.note(Turn::TooLong { from, to });
+                self.note(Turn::TooLong { from, to });
                 None
             }
             Err(_) => {
-                self.recorder.note(Turn::Short);
+                self.note(Turn::Short);
                 None
             }
         }

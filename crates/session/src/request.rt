@@ -1,5 +1,5 @@
 //! Reading what a message asks for (KX, tick.q: `.u.upd`; u.q: `.u.sub`).
-ghost use Rattle.std.specs.Prelude.{◌≡◌, [], ◌∷◌, IfOk, map, option_map, Option, Some};
+ghost use Rattle.std.specs.Prelude.{◌≡◌, [], ◌∷◌, if◌then◌else◌, IfOk, map, option_map, Option, Some};
 ghost use Rattle.q_values.specs.Bytes.{HasNoNul};
 ghost use Rattle.q_values.specs.Tree.{tree, trees, atom};
 ghost use Rattle.session.specs.Asked.{Asks, AreCharacters, AreParts};

@@ -1,5 +1,5 @@
 //! What the client of a session is subscribed to, and what it is owed.
-ghost use Rattle.std.specs.Prelude.{◌≡◌, IfOk, Some, length};
+ghost use Rattle.std.specs.Prelude.{◌≡◌, ◌≤◌, IfOk, Some, length};
 ghost use Rattle.plant_core.specs.Access.{Sees};
 ghost use Rattle.session.specs.Owing.{Owes, FitsPlant, cursor_of};
 
@@ -42,10 +42,11 @@ fn owed_of(
 ) -> Result<Owed, NoMemory>
     requires own { subscription.now.schema ≡ tail.now.frame.schema }
     requires batch { batch ≡ tail.now.frame.limits.batch }
+    requires within { tail.now.from ≤ length tail.now.entries }
     ensures { IfOk result (Owes tail.now.frame (Some (record { subscription = subscription.now; cursor = tail.now.from })) tail.now.entries) }
 {
     let (from, to) = tail.span();
-    if from >= to {
+    if from == to {
         return Ok(Owed::Nothing { to });
     }
     match publications(alloc, tail, subscription, batch)? {

@@ -7,7 +7,7 @@ pub returns-in-Ok : goal.returns-in-Ok
 returns-in-Ok g c =
     let made = c.new-session.ensures in
     let whole = whole_session c.args.limits.now _ (world_of g.A.Access.shown g.L.Link.shown g.C.Clock.readings g.N.Recorder.noted c.serve_all-end.new.self) c.serve_all-end.result
-    (rw (made.access.value, made.link.value, made.clock.value, made.recorder.value, made.limits, made.reader, made.idles_left, c.in-Ok.ensures) at c.serve_all-end.ensures.converses) in
+    (rw (made.access.value, made.link.value, made.clock.value, made.recorder.value, made.limits, made.reader, made.idles_left, made.subscriber, c.in-Ok.ensures) at c.serve_all-end.ensures.converses) in
     search rules
 
 pub returns-in-Err : goal.returns-in-Err

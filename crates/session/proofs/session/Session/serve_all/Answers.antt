@@ -27,4 +27,5 @@ returns-in-Some-serve_next-clause-converses g c = goes_to_end c.args.self.now.li
 pub loop-preserved : goal.loop-preserved
 loop-preserved g c =
     let served = c.in-None-serve_next.ensures in
-    (tt, tt, devices-devices _ _ _ c.loop.invariant.2 served.same, goes_on c.args.self.now.limits.now 0 _ _ _ _ _ _ _ _ _ _ _ _ c.loop.invariant.3 (λ q at. rw c.loop.invariant.2.limits at (served.goes q at)))
+    let more = goes_on c.args.self.now.limits.now 0 _ _ _ _ _ _ _ _ _ _ _ _ c.loop.invariant.3 (λ q at. rw c.loop.invariant.2.limits at (served.goes q at)) in
+    (tt, tt, devices-devices _ _ _ c.loop.invariant.2 served.same, more.0, more.1)
