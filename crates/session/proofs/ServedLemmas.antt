@@ -27,7 +27,7 @@ use Rattle.session.specs.Replies as replies
 use Rattle.session.specs.Reply.{response, reply, replied, refusal_text}
 use Rattle.session.specs.Request.{Request, update, mistyped, text, other}
 use Rattle.session.specs.Run.{Advances, advanced}
-use Rattle.session.specs.Served.{Deed, IsUnserved, entry_turns}
+use Rattle.session.specs.Served.{Deed, IsDeclined, IsUnserved, entry_turns}
 use Rattle.session.specs.State.{State}
 use Rattle.session.specs.declared.answer.Answer.{Answer}
 use Rattle.session.specs.declared.reply.Reply.{Reply}
@@ -249,10 +249,13 @@ pub does_unserved : (a : AccessView) (k : Option (List ℤ)) (limits : Limits) (
 does_unserved a k limits sync answer same roll turn answered =
     does_nothing a k (ServesValue a.frame a.by a.seen sync other) answer (unserved_turn sync) roll turn (tells_unserved _ sync) (inl (unserved_deed a.frame limits sync answer same roll turn answered))
 
--- an update whose parts are of wrong kinds
+-- an update or a subscription whose parts are of wrong kinds
+pub declined_deed : (frame : Frame) (limits : Limits) (sync : Bool) (answer : Answer) → frame.limits ≡ limits → answer.roll ≡ None → answer.turn ≡ t.Declined → sent_by answer.reply ≡ replied sync (reply limits (wrong (codes "type"))) → IsDeclined frame sync (codes "type") (deed_of answer [] [] 0 0)
+declined_deed frame limits sync answer same roll turn answered = record { noted = rw (roll, turn) refl; answered = rw same answered; still = record { unread = refl; unmade = refl; unasked = (refl, refl) } }
+
 pub does_mistyped : (a : AccessView) (k : Option (List ℤ)) (limits : Limits) (sync : Bool) (answer : Answer) → a.frame.limits ≡ limits → answer.roll ≡ None → answer.turn ≡ t.Declined → sent_by answer.reply ≡ replied sync (reply limits (wrong (codes "type"))) → Does (ServesValue a.frame a.by a.seen sync mistyped) k k a a answer
 does_mistyped a k limits sync answer same roll turn answered =
-    does_nothing a k (ServesValue a.frame a.by a.seen sync mistyped) answer t.Declined roll turn (tells_declined _) (inl (record { noted = rw (roll, turn) refl; answered = rw same answered; still = record { unread = refl; unmade = refl; unasked = (refl, refl) } }))
+    does_nothing a k (ServesValue a.frame a.by a.seen sync mistyped) answer t.Declined roll turn (tells_declined _) (inl (declined_deed a.frame limits sync answer same roll turn answered))
 
 -- the session was out of memory before it asked for anything
 pub does_short : (a : AccessView) (k : Option (List ℤ)) (sync : Bool) (request : Request) (answer : Answer) → answer.roll ≡ None → answer.turn ≡ t.Short → sent_by answer.reply ≡ replied sync (response (wrong (codes "wsfull"))) → Does (ServesValue a.frame a.by a.seen sync request) k k a a answer

@@ -2,22 +2,26 @@
 use Rattle.std.proofs.Common.{◌≡◌, ◌<◌, ◌≤◌, ℕ, ℤ, Bool, true, false, List, [], ◌∷◌, ◌++◌, length, refl, sym, ap, subst, ◌∙◌, inl, inr, Option, Some, None, codes}
 use Rattle.std.proofs.lemmas.List.{append-nil}
 use Rattle.day_rows.specs.declared.entry.Entry.{Entry}
-use Rattle.ipc_frame.specs.Stream.{unbuilt}
+use Rattle.ipc_frame.specs.Stream.{built, unbuilt}
 use Rattle.outside_api.specs.Link.{LinkView}
 use Rattle.outside_api.specs.Told.{told, Tells}
 use Rattle.plant_core.specs.Access.{AccessView}
 use Rattle.plant_memory.specs.Frame.{Frame}
-use Rattle.q_values.specs.Tree.{wrong}
+use Rattle.q_values.specs.Tree.{Tree, wrong}
 use Rattle.q_values.specs.declared.limits.Limits.{Limits}
 use Rattle.q_values.specs.declared.turn.Turn.{Turn}
+use Rattle.q_values.specs.declared.turn.Turn.TheVariants as t
+use Rattle.qsql_request.specs.Forms.{SubForm}
 use Rattle.session.specs.Acting.{Finishes, IdlesBy, Performs, ServesHeard, TimesOut}
 use Rattle.session.specs.Answering.{turns_by, sent_by}
 use Rattle.session.specs.Devices.{OnlyAsks, KeepsSubscriber, world_of, state_of, served_of}
-use Rattle.session.specs.Owing.{FitsPlant}
+use Rattle.session.specs.Owing.{FitsPlant, IsTextOf}
 use Rattle.session.specs.Reply.{reply, replied}
+use Rattle.session.specs.Request.{request_of, subscription_in}
 use Rattle.session.specs.Run.{World, Advances}
-use Rattle.session.specs.Served.{Event, asked, idled, IsUnserved}
+use Rattle.session.specs.Served.{Deed, Event, asked, idled, IsDeclined, IsUnserved}
 use Rattle.session.specs.State.{State}
+use Rattle.session.specs.Steps.{ServesContent}
 use Rattle.session.specs.declared.answer.Answer.{Answer}
 use Rattle.session.specs.declared.end.End.{End}
 use Rattle.session.specs.declared.end.End.TheVariants as e
@@ -25,7 +29,7 @@ use Rattle.session.specs.declared.session.Session.{Session}
 use Rattle.session.specs.declared.subscriber.Subscriber.{Subscriber}
 use Rattle.session.proofs.ChainLemmas.{fits-more, fits-chain, known-rises}
 use Rattle.session.proofs.PerformLemmas.{performs-one, performs-append, content_performs}
-use Rattle.session.proofs.ServedLemmas.{does_nothing, tells_unserved, unserved_deed, unserved_turn}
+use Rattle.session.proofs.ServedLemmas.{declined_deed, does_nothing, tells_declined, tells_unserved, unserved_deed, unserved_turn}
 use Rattle.session.proofs.ToldLemmas.{told-nil}
 
 -- the plant's frame stays
@@ -67,6 +71,25 @@ unbuilt_performs access link clock notes s z limits sync at answer end none same
     content_performs access link clock notes s s z (asked (record { sync = sync; content = unbuilt at })) (IsUnserved a.frame sync) answer end none keeps own still
     (does_nothing a (clock s.clock.now) (IsUnserved a.frame sync) answer (unserved_turn sync) roll turn (tells_unserved _ sync) (unserved_deed a.frame limits sync answer same roll turn answered))
     noted sent (λ deed done. (keeps.subscriber, done)) refl (refl, refl)
+
+-- a text that subscribes to no single table is declined
+formless_serves : (frame : Frame) (by : ℕ) (seen : List Entry) (x y : Option Subscriber) (sync : Bool) (value : Tree) (form : SubForm) (deed : Deed)
+    → IsTextOf (request_of value) form → subscription_in form ≡ None → y ≡ x → IsDeclined frame sync (codes "type") deed → ServesContent frame by seen x y sync (built value) deed
+formless_serves frame by seen x y sync value form deed is unnamed same done = inl (rw is.1 (inr (form, is.2, rw unnamed (same, done))))
+
+pub formless_performs : {A L C G N : Type 0} (access : A → AccessView) (link : L → LinkView) (clock : C → Option (List ℤ)) (notes : N → Option (List Turn)) (s z : Session A L C G N)
+    (limits : Limits) (sync : Bool) (value : Tree) (form : SubForm) (answer : Answer) (end : Option End)
+    → OnlyAsks s s → (access s.access.now).frame.limits ≡ limits → IsTextOf (request_of value) form → subscription_in form ≡ None
+    → answer.roll ≡ None → answer.turn ≡ t.Declined → sent_by answer.reply ≡ replied sync (reply limits (wrong (codes "type")))
+    → KeepsSubscriber s z → z.access.now ≡ s.access.now → z.clock.now ≡ s.clock.now
+    → Tells (notes s.recorder.now) (notes z.recorder.now) (turns_by answer.roll answer.turn)
+    → Finishes (link s.link.now) (link z.link.now) (sent_by answer.reply) end
+    → ServesHeard (asked (record { sync = sync; content = built value })) (world_of access link clock notes s) (world_of access link clock notes z) (state_of access s) (served_of access z) end
+formless_performs access link clock notes s z limits sync value form answer end none same is unnamed roll turn answered keeps own still noted sent =
+    let a = access s.access.now in
+    content_performs access link clock notes s s z (asked (record { sync = sync; content = built value })) (IsDeclined a.frame sync (codes "type")) answer end none keeps own still
+    (does_nothing a (clock s.clock.now) (IsDeclined a.frame sync (codes "type")) answer t.Declined roll turn (tells_declined _) (declined_deed a.frame limits sync answer same roll turn answered))
+    noted sent (λ deed done. formless_serves a.frame a.by a.seen s.subscriber z.subscriber sync value form deed is unnamed keeps.subscriber done) refl (refl, refl)
 
 -- a read timeout was served
 pub idle_performs : {A L C G N : Type 0} (access : A → AccessView) (link : L → LinkView) (clock : C → Option (List ℤ)) (notes : N → Option (List Turn)) (s m : Session A L C G N)
