@@ -16,7 +16,8 @@ use Rattle.q_values.specs.declared.value.Value.TheOpen.{Value-F}
 use Rattle.q_values.specs.declared.value.Value.{Value}
 use Rattle.q_values.specs.declared.value.Value.TheVariants.{rolls-List, rolls-Atom, rolls-Wrong}
 use Rattle.q_values.specs.declared.atom.Atom.{Atom}
-use Rattle.std.proofs.lemmas.List.{map_push, take-map}
+use Rattle.std.proofs.lemmas.List.{map_push, take-map, take_more}
+use Rattle.std.proofs.lemmas.Option.{slice_get_within, get_or_from_slice_get}
 use Rattle.day_rows.proofs.DayLemmas.{take_more_mapped}
 use Rattle.q_values.specs.declared.value.Value.TheVariants as v
 use Rattle.q_values.specs.declared.value.Values.{Values}
@@ -110,3 +111,10 @@ atoms_step items x atoms i so_far at =
 -- a column of characters is a text
 pub text_is : (kind : ByteKind) (bytes : Vec ℕ Global) (column : Column) (found : List ℕ) (v : Contents) → contents column ≡ v → column ≡ c.Bytes kind bytes → kind ≡ b.Character → found ≡ bytes.items → vector_request v.kind v.atoms ≡ text found
 text_is kind bytes column found v is_contents is_bytes is_characters same = rw (← is_contents, is_bytes, is_characters, same) (ap text (characters bytes.items))
+
+-- one name more
+pub name_taken : (names symbols pushed : List (List ℕ)) (i : ℕ) (name bytes : List ℕ) → symbols ≡ take i names → slice_get names i ≡ Some name → bytes ≡ name
+    → pushed ≡ symbols ++ bytes ∷ [] → pushed ≡ take (i + 1) names
+name_taken names symbols pushed i name bytes so_far at same is =
+    is ∙ ap (λ l. l ++ bytes ∷ []) so_far ∙ ap (λ b. take i names ++ b ∷ []) (same ∙ sym (get_or_from_slice_get names i name name at))
+    ∙ sym (take_more names i name (slice_get_within names i name at))
