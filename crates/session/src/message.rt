@@ -69,13 +69,15 @@ impl<A: Access, L: Link, C: Clock, G: Gate, N: Recorder> Session<'_, A, L, C, G,
             (world_of A.shown L.shown C.readings N.noted self.new)
             (state_of A.shown self.old) (served_of A.shown self.new) result }
     {
-        match Question::of(alloc, bytes) {
-            Ok(Question::Asks(Request::Sub(form))) => self.serve_form(rt, alloc, sync, &form),
-            Ok(question) => {
+        let Ok(question) = Question::of(alloc, bytes) else {
+            return self.finish(&short(sync));
+        };
+        match &question {
+            Question::Asks(Request::Sub(form)) => self.serve_form(rt, alloc, sync, form),
+            _ => {
                 let answer = self.answer_text(rt, alloc, sync, &question);
                 self.finish(&answer)
             }
-            Err(_) => self.finish(&short(sync)),
         }
     }
 
