@@ -17,9 +17,9 @@
 //!
 //! A function that starts a thread over the lock takes it as a [`PlantGuard`].
 //!
-//! While the lock is held an update is judged and its log record encoded and written; a snapshot shares the dates that have
-//! ended, so it costs the open date's loose rows and the number of dates. Nothing is answered to a client then, and no
-//! snapshot is dropped. Which of two sessions comes first isn't said, unless one was told of the other's entry.
+//! While the lock is held an update is judged and its log record encoded and written; a snapshot or a tail shares the dates
+//! that have ended, so it costs the open date's loose rows and the number of dates. Nothing is answered to a client then, and
+//! no snapshot or tail is dropped. Which of two sessions comes first isn't said, unless one was told of the other's entry.
 #![tactic(auto)]
 
 mod guard;
