@@ -44,8 +44,8 @@ fn update_and_end_of_date(rt: HostRuntime) {
     for batch in [false, true] {
         let all = sent(&rt, alloc, &tail, None, batch);
         assert!(rt; all.len() == 138);
-        assert!(rt; &all[..111] == ONE_TRADE.as_slice());
-        assert!(rt; &all[111..] == END.as_slice());
+        assert!(rt; all.starts_with(&ONE_TRADE));
+        assert!(rt; all.ends_with(&END));
     }
 }
 
