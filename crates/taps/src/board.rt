@@ -1,15 +1,13 @@
 //! Boards.
-ghost use Rattle.std.specs.Prelude.{◌≡◌, ◌≢◌, ◌<◌, ◌+◌, ◌==◌, ◌++◌, [], ◌∷◌, length, All, IfOk, IfErr, OnOk, OnErr, IfSome, IfNone};
+ghost use Rattle.std.specs.Prelude.{◌≡◌, ◌≢◌, ◌<◌, ◌+◌, ◌==◌, ◌++◌, [], ◌∷◌, length, All, AllPairs, IfOk, IfErr, OnOk, OnErr, IfSome, IfNone};
 ghost use Rattle.taps.specs.Board.{SeatView, living, Driven, TakenOff};
 ghost use Rattle.taps.specs.declared.board.PutFailure.TheVariants as f;
 
 use crate::seat::Seat;
-use outside_api::{Tap, TapMessage};
+use outside_api::Tap;
+use pubsub::TapMessages;
 use q_values::{NoMemory, Sequence};
 use std::alloc::Global;
-
-/// Messages, in order.
-pub type TapMessages = Sequence<TapMessage>;
 
 /// Numbers of taps, in order.
 pub type Ids = Sequence<u32>;
@@ -29,6 +27,7 @@ pub struct Board {
     /// The number of the next tap.
     pub next: u32,
     pub ghost given: { All (λ seat. seat.number < next) seats.items },
+    pub ghost ascend: { AllPairs (λ a b. a.number < b.number) seats.items },
 }
 
 impl Board {
