@@ -144,7 +144,7 @@ fn is_kept(message: &TapMessage, price: i64) -> bool {
         Column::Longs(_, items) => items.as_slice() == [price, price].as_slice(),
         _ => false,
     };
-    table.bytes() == b"trade" && is_price
+    table.bytes() == b"trade".as_slice() && is_price
 }
 
 // It takes the first message, the third and the fourth, and has room for two.

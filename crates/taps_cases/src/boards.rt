@@ -15,11 +15,11 @@ fn failing_tap_dropped(rt: HostRuntime) {
     let seconds = Arc::new(alloc, AtomicU64::new(0)).expect(&rt, "memory");
     let first: Box<dyn Tap + Send + Drop> = Box::new(
         alloc,
-        watched(&rt, alloc, 3, None, &firsts),
+        tap_with_room(&rt, alloc, 3, None, &firsts),
     ).expect(&rt, "memory");
     let second: Box<dyn Tap + Send + Drop> = Box::new(
         alloc,
-        watched(&rt, alloc, 3, Some(1), &seconds),
+        tap_with_room(&rt, alloc, 3, Some(1), &seconds),
     ).expect(&rt, "memory");
     let mut board = Board::new(alloc);
     assert!(rt; matches!(board.put_on(first), Ok(0)));
@@ -42,12 +42,13 @@ fn one_thousand_messages(rt: HostRuntime) {
     let seconds = Arc::new(alloc, AtomicU64::new(0)).expect(&rt, "memory");
     let first: Box<dyn Tap + Send + Drop> = Box::new(
         alloc,
-        watched(&rt, alloc, 10, None, &firsts),
+        tap_with_room(&rt, alloc, 10, None, &firsts),
     ).expect(&rt, "memory");
     let second: Box<dyn Tap + Send + Drop> = Box::new(
         alloc,
-        watched(&rt, alloc, 3_000, Some(1_999), &seconds),
-    ).expect(&rt, "memory");
+        tap_with_room(&rt, alloc, 3_000, Some(1_999), &seconds),
+    )
+    .expect(&rt, "memory");
     let mut board = Board::new(alloc);
     assert!(rt; matches!(board.put_on(first), Ok(0)));
     assert!(rt; matches!(board.put_on(second), Ok(1)));
