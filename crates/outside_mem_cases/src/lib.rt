@@ -7,6 +7,7 @@
 //! ```text
 //! a link       a script of pieces, timeouts and faults; writes that fail
 //! a recorder   one with room, and one that is full
+//! a tap        one that fails as planned and is full at the end, and one without room
 //! a clock      the last reading repeated, and a clock that always reads one time
 //! an outside   the lines printed, and what was handed back
 //! a disk       10,000 files, each found by its number, before a crash and after it

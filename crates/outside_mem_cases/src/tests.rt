@@ -1,9 +1,10 @@
 //! Each device used through its trait.
-use outside_api::{Clock, Got, Link, LinkFault, Recorder};
+use outside_api::{Clock, Got, Link, LinkFault, Recorder, Tap, TapMessage};
 use outside_mem::{
-    MemClock, MemLink, MemRecorder, Moments, Piece, Pieces, SteadyClock, Taking, Takings,
+    MemClock, MemLink, MemRecorder, MemTap, Moments, Piece, Pieces, Receiving, Receivings,
+    SteadyClock, Taking, Takings,
 };
-use q_values::{NoMemory, Text, Turn};
+use q_values::{Column, Columns, LongKind, Names, NoMemory, Sym, TableValue, Text, Turn, Vector};
 use std::alloc::Global;
 use std::test::Fail;
 
@@ -110,5 +111,61 @@ fn last_reading_is_repeated(rt: HostRuntime) -> Result<(), Fail> {
     moments.push(-7)?;
     assert_eq!(rt; moments_of(&mut MemClock::new(moments)), [5, -7, -7]);
     assert_eq!(rt; moments_of(&mut SteadyClock::new(9)), [9, 9, 9]);
+    Ok(())
+}
+
+fn rows(alloc: Global, price: i64) -> Result<TapMessage, NoMemory> {
+    let mut names = Names::new(alloc);
+    names.push(Sym::copied(alloc, b"price")?)?;
+    let mut columns = Columns::new(alloc);
+    let prices = vec![in alloc; price; 2]?;
+    columns.push(Vector::from_column(Column::Longs(LongKind::Long, prices)))?;
+    let table = Sym::copied(alloc, b"trade")?;
+    let rows = TableValue { names, columns };
+    Ok(TapMessage::Rows { table, rows })
+}
+
+fn tap(alloc: Global) -> Result<MemTap, NoMemory> {
+    let mut receivings = Receivings::new(alloc);
+    receivings.push(Receiving::Succeeds)?;
+    receivings.push(Receiving::Fails)?;
+    MemTap::with_room(alloc, 2, receivings)
+}
+
+// Whether a message is of `trade`, with two rows of this price.
+fn is_kept(message: &TapMessage, price: i64) -> bool {
+    let TapMessage::Rows { table, rows } = message else {
+        return false;
+    };
+    let Some(column) = rows.columns.get(0) else {
+        return false;
+    };
+    let is_price = match column.column() {
+        Column::Longs(_, items) => items.as_slice() == [price, price].as_slice(),
+        _ => false,
+    };
+    table.bytes() == b"trade".as_slice() && is_price
+}
+
+// It takes the first message, the third and the fourth, and has room for two.
+#[test]
+fn tap_with_room_for_two(rt: HostRuntime) -> Result<(), Fail> {
+    let alloc = rt.alloc();
+    let mut tap = tap(alloc)?;
+    let taken = [
+        tap.take(&rows(alloc, 1)?).is_ok(),
+        tap.take(&rows(alloc, 2)?).is_ok(),
+        tap.take(&rows(alloc, 3)?).is_ok(),
+    ];
+    assert_eq!(rt; taken, [true, false, true]);
+    assert!(rt; tap.faults() == 1 && !tap.is_full());
+    assert!(rt; tap.take(&TapMessage::End { date: 8_767 }).is_ok());
+    assert!(rt; tap.is_full());
+    let kept = tap.kept();
+    assert_eq!(rt; kept.len(), 2);
+    assert!(rt; is_kept(&kept[0], 1) && is_kept(&kept[1], 3));
+    let mut other = MemTap::without_room(alloc);
+    assert!(rt; other.take(&rows(alloc, 1)?).is_ok());
+    assert!(rt; other.is_full());
     Ok(())
 }
