@@ -4,8 +4,8 @@ use plant_run::run;
 use std::alloc::Global;
 use std::io::{ErrorKind, Read, Write};
 use std::net::{TcpListener, TcpStream};
+use std::process::Abort;
 use std::sync::Wait;
-use std::test::Fail;
 use std::thread::Threads;
 use std::time::Duration;
 use std::{io, thread};
@@ -37,21 +37,29 @@ pub fn free_port(rt: &HostRuntime) -> io::Result<u16> {
 }
 
 /// Runs the program as `serve` of this many sessions on the port, over a plant in memory; gives its exit status.
-pub fn serve<R: Threads + Wait + Sync>(
+pub fn serve<R: Abort + Threads + Wait + Sync>(
     rt: &R,
     alloc: Global,
     port: u16,
     sessions: u32,
     outside: &mut PlannedOutside,
-) -> Result<u8, Fail> {
+) -> u8 {
     let mut words = Vec::new(alloc);
     for word in ["serve", "--port"] {
-        words.push(String::from_str(alloc, word)?)?;
+        words
+            .push(String::from_str(alloc, word).expect(rt, "failed"))
+            .expect(rt, "failed");
     }
-    words.push(format!(in alloc; "{port}")?)?;
-    words.push(String::from_str(alloc, "--sessions")?)?;
-    words.push(format!(in alloc; "{sessions}")?)?;
-    Ok(run(rt, alloc, &words, outside))
+    words
+        .push(format!(in alloc; "{port}").expect(rt, "failed"))
+        .expect(rt, "failed");
+    words
+        .push(String::from_str(alloc, "--sessions").expect(rt, "failed"))
+        .expect(rt, "failed");
+    words
+        .push(format!(in alloc; "{sessions}").expect(rt, "failed"))
+        .expect(rt, "failed");
+    run(rt, alloc, &words, outside)
 }
 
 /// A connection to the port, as soon as something listens on it.

@@ -7,7 +7,6 @@ use crate::planned::PlannedOutside;
 use std::alloc::Global;
 use std::io::{Read, Write};
 use std::net::Shutdown;
-use std::test::Fail;
 use std::{io, thread};
 
 /// One client asks, another's update is answered, and both ask.
@@ -22,14 +21,19 @@ fn asks_and_asks(rt: &HostRuntime, alloc: Global, port: u16) -> io::Result<[u64;
 }
 
 #[test]
-fn told_before_asked(rt: HostRuntime) -> Result<(), Fail> {
-    let (theirs, alloc, port) = (rt.clone()?, rt.alloc(), free_port(&rt)?);
-    let clients = thread::spawn(&rt, move || asks_and_asks(&theirs, alloc, port))?;
+fn told_before_asked(rt: HostRuntime) {
+    let (theirs, alloc, port) = (
+        rt.clone().expect(&rt, "failed"),
+        rt.alloc(),
+        free_port(&rt).expect(&rt, "failed"),
+    );
+    let clients = thread::spawn(&rt, move || asks_and_asks(&theirs, alloc, port)).expect(
+        &rt, "failed",
+    );
     let mut outside = PlannedOutside::new(&rt);
-    assert_eq!(rt; serve(&rt, alloc, port, 2, &mut outside)?, 0);
-    assert_eq!(rt; clients.join(&rt)?, [0, 1, 1]);
+    assert_eq!(rt; serve(&rt, alloc, port, 2, &mut outside), 0);
+    assert_eq!(rt; clients.join(&rt).expect(&rt, "failed"), [0, 1, 1]);
     assert_eq!(rt; outside.errors(), b"".as_slice());
-    Ok(())
 }
 
 /// Sends the handshake, an update and a question byte by byte, and then says that it sends no more.
@@ -52,19 +56,23 @@ fn byte_by_byte(rt: &HostRuntime, alloc: Global, port: u16) -> io::Result<(usize
 
 // Where a client ends its side, the plant closes the connection within a moment, also while nobody else connects.
 #[test]
-fn single_bytes_and_a_half_closed_connection(rt: HostRuntime) -> Result<(), Fail> {
-    let (theirs, alloc, port) = (rt.clone()?, rt.alloc(), free_port(&rt)?);
+fn single_bytes_and_a_half_closed_connection(rt: HostRuntime) {
+    let (theirs, alloc, port) = (
+        rt.clone().expect(&rt, "failed"),
+        rt.alloc(),
+        free_port(&rt).expect(&rt, "failed"),
+    );
     let clients = thread::spawn(&rt, move || {
-        let mut talks = byte_by_byte(&theirs, alloc, port)?;
+        let mut talks = byte_by_byte(&theirs, alloc, port).expect(&rt, "failed");
         // The server waits for a second connection meanwhile.
-        let mut last = greeted(&theirs, port)?;
-        talks.1 = count(alloc, &mut last)?;
+        let mut last = greeted(&theirs, port).expect(&rt, "failed");
+        talks.1 = count(alloc, &mut last).expect(&rt, "failed");
         io::Result::Ok(talks)
-    })?;
+    })
+    .expect(&rt, "failed");
     let mut outside = PlannedOutside::new(&rt);
-    assert_eq!(rt; serve(&rt, alloc, port, 2, &mut outside)?, 0);
-    assert_eq!(rt; clients.join(&rt)?, (10, 1, true));
-    Ok(())
+    assert_eq!(rt; serve(&rt, alloc, port, 2, &mut outside), 0);
+    assert_eq!(rt; clients.join(&rt).expect(&rt, "failed"), (10, 1, true));
 }
 
 /// The text `exec count i from trade`, big-endian.
@@ -88,11 +96,14 @@ fn pipelined(rt: &HostRuntime, alloc: Global, port: u16) -> io::Result<(u64, boo
 }
 
 #[test]
-fn a_thousand_updates_in_one_write(rt: HostRuntime) -> Result<(), Fail> {
-    let (theirs, alloc, port) = (rt.clone()?, rt.alloc(), free_port(&rt)?);
-    let clients = thread::spawn(&rt, move || pipelined(&theirs, alloc, port))?;
+fn a_thousand_updates_in_one_write(rt: HostRuntime) {
+    let (theirs, alloc, port) = (
+        rt.clone().expect(&rt, "failed"),
+        rt.alloc(),
+        free_port(&rt).expect(&rt, "failed"),
+    );
+    let clients = thread::spawn(&rt, move || pipelined(&theirs, alloc, port)).expect(&rt, "failed");
     let mut outside = PlannedOutside::new(&rt);
-    assert_eq!(rt; serve(&rt, alloc, port, 1, &mut outside)?, 0);
-    assert_eq!(rt; clients.join(&rt)?, (1_000, true));
-    Ok(())
+    assert_eq!(rt; serve(&rt, alloc, port, 1, &mut outside), 0);
+    assert_eq!(rt; clients.join(&rt).expect(&rt, "failed"), (1_000, true));
 }

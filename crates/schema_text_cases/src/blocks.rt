@@ -3,21 +3,21 @@ ghost use Rattle.std.specs.Prelude.{◌≡◌};
 
 use crate::days::log;
 use day_rows::{Entry, OpenDay};
-use q_values::{Column, Columns, LongKind, NoMemory, Symbols, Vector};
+use q_values::{Column, Columns, LongKind, Symbols, Vector};
 use schema_text::{BUILT_IN, read_schema};
 use std::alloc::Global;
-use std::test::Fail;
+use std::process::Abort;
 
-fn longs(alloc: Global, kind: LongKind, first: i64, n: i64) -> Result<Vector, NoMemory> {
+fn longs(rt: &impl Abort, alloc: Global, kind: LongKind, first: i64, n: i64) -> Vector {
     let mut items = Vec::new(alloc);
     for i in 0..n {
-        items.push(first.wrapping_add(i))?;
+        items.push(first.wrapping_add(i)).expect(rt, "memory");
     }
-    Ok(Vector::from_column(Column::Longs(kind, items)))
+    Vector::from_column(Column::Longs(kind, items))
 }
 
 // `n` symbols, in turn `b` and `a`.
-fn names(alloc: Global, first: i64, n: i64) -> Result<Vector, NoMemory> {
+fn names(rt: &impl Abort, alloc: Global, first: i64, n: i64) -> Vector {
     let mut symbols = Symbols::new(alloc);
     for i in 0..n {
         let name: &[u8] = if first.wrapping_add(i) % 2 == 0 {
@@ -25,46 +25,54 @@ fn names(alloc: Global, first: i64, n: i64) -> Result<Vector, NoMemory> {
         } else {
             b"a"
         };
-        symbols.push(name)?;
+        symbols.push(name).expect(rt, "memory");
     }
-    Ok(Vector::from_column(Column::Symbols(symbols)))
+    Vector::from_column(Column::Symbols(symbols))
 }
 
 // An update of `trade` with `n` rows, whose prices count from `first` on.
-fn trades(alloc: Global, first: i64, n: i64) -> Result<Entry, NoMemory> {
+fn trades(rt: &impl Abort, alloc: Global, first: i64, n: i64) -> Entry {
     let mut columns = Columns::new(alloc);
-    columns.push(longs(alloc, LongKind::Timespan, first, n)?)?;
-    columns.push(names(alloc, first, n)?)?;
-    columns.push(longs(alloc, LongKind::Long, first, n)?)?;
-    columns.push(longs(alloc, LongKind::Long, 7, n)?)?;
-    Ok(Entry::Upd {
+    columns
+        .push(longs(rt, alloc, LongKind::Timespan, first, n))
+        .expect(rt, "memory");
+    columns
+        .push(names(rt, alloc, first, n))
+        .expect(rt, "memory");
+    columns
+        .push(longs(rt, alloc, LongKind::Long, first, n))
+        .expect(rt, "memory");
+    columns
+        .push(longs(rt, alloc, LongKind::Long, 7, n))
+        .expect(rt, "memory");
+    Entry::Upd {
         by: 1,
         table: 1,
         columns,
-    })
+    }
 }
 
 // A day of the built-in schema.
-fn begin(alloc: Global) -> Result<OpenDay, Fail> {
+fn begin(rt: &impl Abort, alloc: Global) -> OpenDay {
     let schema = match read_schema(alloc, BUILT_IN) {
         Ok(schema) => schema,
-        Err(_) => return Err(Fail::from("the built-in schema")),
+        Err(_) => panic!(rt; "the built-in schema"),
     };
-    Ok(OpenDay::new(alloc, &schema, 8767)?)
+    OpenDay::new(alloc, &schema, 8767).expect(rt, "memory")
 }
 
 // A day with this many updates of one row, and then one update of each of the larger sizes.
-fn filled(alloc: Global, singles: i64, larger: &[i64]) -> Result<OpenDay, Fail> {
-    let mut day = begin(alloc)?;
+fn filled(rt: &impl Abort, alloc: Global, singles: i64, larger: &[i64]) -> OpenDay {
+    let mut day = begin(rt, alloc);
     for i in 0..singles {
-        log(alloc, &mut day, trades(alloc, i, 1)?)?;
+        log(rt, alloc, &mut day, trades(rt, alloc, i, 1));
     }
     let mut first = singles;
     for n in larger {
-        log(alloc, &mut day, trades(alloc, first, *n)?)?;
+        log(rt, alloc, &mut day, trades(rt, alloc, first, *n));
         first = first.wrapping_add(*n);
     }
-    Ok(day)
+    day
 }
 
 // Whether the prices of the updates count from 0, and how many they are.
@@ -93,79 +101,83 @@ fn prices_from(entry: &Entry, first: i64) -> Option<i64> {
     Some(next)
 }
 
-#[test]
-fn rows_below_block(rt: HostRuntime) -> Result<(), Fail> {
-    let alloc = rt.alloc();
-    let day = filled(alloc, 1023, &[])?;
-    assert_eq!(rt; day.blocks(), 0);
-    assert_eq!(rt; day.loose_rows(), 1023);
-    Ok(())
+// The sealed blocks of a day with these updates, and its rows that are in none.
+fn sealed(rt: &impl Abort, alloc: Global, singles: i64, larger: &[i64]) -> (usize, usize) {
+    let day = filled(rt, alloc, singles, larger);
+    (day.blocks(), day.loose_rows())
 }
 
 #[test]
-fn block_seals(rt: HostRuntime) -> Result<(), Fail> {
-    let alloc = rt.alloc();
-    let day = filled(alloc, 1024, &[])?;
-    assert_eq!(rt; day.blocks(), 1);
-    assert_eq!(rt; day.loose_rows(), 0);
-    Ok(())
+fn rows_below_block(rt: HostRuntime) {
+    assert_eq!(rt; sealed(&rt, rt.alloc(), 1023, &[]), (0, 1023));
 }
 
 #[test]
-fn large_update_seals(rt: HostRuntime) -> Result<(), Fail> {
-    let alloc = rt.alloc();
-    let day = filled(alloc, 1024, &[5000])?;
-    assert_eq!(rt; day.blocks(), 2);
-    assert_eq!(rt; day.loose_rows(), 0);
-    Ok(())
+fn block_seals(rt: HostRuntime) {
+    assert_eq!(rt; sealed(&rt, rt.alloc(), 1024, &[]), (1, 0));
 }
 
 #[test]
-fn empty_update_keeps_blocks(rt: HostRuntime) -> Result<(), Fail> {
-    let alloc = rt.alloc();
-    let day = filled(alloc, 1024, &[5000, 0])?;
-    assert_eq!(rt; day.blocks(), 2);
-    assert_eq!(rt; day.loose_rows(), 0);
-    let kept = day.updates(alloc)?;
-    assert_eq!(rt; kept.len(), 1026);
-    assert!(rt; prices(kept.as_slice()) == Some(6024));
-    Ok(())
+fn large_update_seals(rt: HostRuntime) {
+    assert_eq!(rt; sealed(&rt, rt.alloc(), 1024, &[5000]), (2, 0));
+}
+
+// The updates of a day, and how many prices they have, if these count from 0.
+fn kept(rt: &impl Abort, alloc: Global, day: &OpenDay) -> (usize, Option<i64>) {
+    let entries = day.updates(alloc).expect(rt, "memory");
+    (entries.len(), prices(entries.as_slice()))
 }
 
 #[test]
-fn many_rows_are_given_back(rt: HostRuntime) -> Result<(), Fail> {
+fn empty_update_keeps_blocks(rt: HostRuntime) {
     let alloc = rt.alloc();
-    let day = filled(alloc, 5000, &[100000, 3, 20000])?;
-    let copied = day.copy(alloc)?;
-    assert!(rt; prices(day.updates(alloc)?.as_slice()) == Some(125003));
-    assert!(rt; prices(copied.updates(alloc)?.as_slice()) == Some(125003));
-    let order = copied.close_order(alloc)?;
-    let ended = copied.close(order);
-    assert!(rt; prices(ended.updates(alloc)?.as_slice()) == Some(125003));
-    Ok(())
+    assert_eq!(rt; sealed(&rt, alloc, 1024, &[5000, 0]), (2, 0));
+    let day = filled(&rt, alloc, 1024, &[5000, 0]);
+    assert_eq!(rt; kept(&rt, alloc, &day), (1026, Some(6024)));
+}
+
+// The same of a day that ends.
+fn kept_at_the_end(rt: &impl Abort, alloc: Global, day: OpenDay) -> (usize, Option<i64>) {
+    let order = day.close_order(alloc).expect(rt, "memory");
+    let ended = day.close(order);
+    let entries = ended.updates(alloc).expect(rt, "memory");
+    (entries.len(), prices(entries.as_slice()))
+}
+
+#[test]
+fn many_rows_are_given_back(rt: HostRuntime) {
+    let alloc = rt.alloc();
+    let day = filled(&rt, alloc, 5000, &[100000, 3, 20000]);
+    let copied = day.copy(alloc).expect(&rt, "memory");
+    let wanted = (5003, Some(125003));
+    let found = [
+        kept(&rt, alloc, &day),
+        kept(&rt, alloc, &copied),
+        kept_at_the_end(&rt, alloc, copied),
+    ];
+    assert_eq!(rt; found, [wanted; 3]);
 }
 
 // A full block in each update.
 const FULL: [i64; 300] = [1024; 300];
 
 // Whether a copy of a day with this many blocks has the same updates, and stays as it is while the day goes on.
-fn copy_stands(alloc: Global, count: usize) -> Result<bool, Fail> {
+fn copy_stands(rt: &impl Abort, alloc: Global, count: usize) -> bool {
     let full = &FULL[..count.min(FULL.len())];
     let rows = 1024 * full.len() as i64;
-    let mut day = filled(alloc, 0, full)?;
-    let copied = day.copy(alloc)?;
-    log(alloc, &mut day, trades(alloc, rows, 5)?)?;
+    let mut day = filled(rt, alloc, 0, full);
+    let copied = day.copy(alloc).expect(rt, "memory");
+    log(rt, alloc, &mut day, trades(rt, alloc, rows, 5));
     let counted = copied.blocks() == count && copied.loose_rows() == 0 && day.loose_rows() == 5;
-    let before = prices(copied.updates(alloc)?.as_slice()) == Some(rows);
-    let after = prices(day.updates(alloc)?.as_slice()) == Some(rows + 5);
-    Ok(counted && before && after)
+    let before = kept(rt, alloc, &copied).1 == Some(rows);
+    let after = kept(rt, alloc, &day).1 == Some(rows + 5);
+    counted && before && after
 }
 
 #[test]
-fn copies_of_many_blocks_stand(rt: HostRuntime) -> Result<(), Fail> {
+fn copies_of_many_blocks_stand(rt: HostRuntime) {
     let alloc = rt.alloc();
     for count in [1usize, 127, 128, 129, 256, 300] {
-        assert!(rt; copy_stands(alloc, count)?);
+        assert!(rt; copy_stands(&rt, alloc, count));
     }
-    Ok(())
 }
