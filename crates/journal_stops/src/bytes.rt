@@ -15,7 +15,7 @@ fn disk_of(alloc: Global, bytes: &[u8]) -> Option<MemDisk> {
 }
 
 // Whether a load of these bytes is refused with these two numbers.
-fn is_corrupt(rt: &impl Abort, alloc: Global, file: &[u8], records: u64, bytes: u64) -> bool {
+fn is_corrupt(alloc: Global, file: &[u8], records: u64, bytes: u64) -> bool {
     let Some(mut disk) = disk_of(alloc, file) else {
         return false;
     };
@@ -86,20 +86,12 @@ fn records_end_at_a_closed_gate(rt: HostRuntime) {
 #[test]
 fn corrupt_journals(rt: HostRuntime) {
     let alloc = rt.alloc();
-    assert!(rt; is_corrupt(&rt, alloc, b"", 0, 0));
-    assert!(rt; is_corrupt(&rt, alloc, b"qtplant1", 0, 0));
-    assert!(rt; is_corrupt(&rt, alloc, b"qtplant2\0", 0, 0));
-    assert!(rt; is_corrupt(&rt, alloc, b"qtplant1\xa5", 0, 8));
-    assert!(rt; is_corrupt(&rt, alloc, b"qtplant1\xa5\x01\0\0", 0, 8));
-    assert!(rt; is_corrupt(&rt, alloc, b"qtplant1\xa5\x01\0\0\0x", 0, 8));
-    assert!(rt; is_corrupt(&rt, alloc, b"qtplant1\xa5\x00\0\0\0\0\0", 0, 8));
-    assert!(rt;
-        is_corrupt(
-            &rt,
-            alloc,
-            b"qtplant1\xa5\x01\0\0\0x\xa5\0\0\0\x80\0",
-            1,
-            14
-        )
-    );
+    assert!(rt; is_corrupt(alloc, b"", 0, 0));
+    assert!(rt; is_corrupt(alloc, b"qtplant1", 0, 0));
+    assert!(rt; is_corrupt(alloc, b"qtplant2\0", 0, 0));
+    assert!(rt; is_corrupt(alloc, b"qtplant1\xa5", 0, 8));
+    assert!(rt; is_corrupt(alloc, b"qtplant1\xa5\x01\0\0", 0, 8));
+    assert!(rt; is_corrupt(alloc, b"qtplant1\xa5\x01\0\0\0x", 0, 8));
+    assert!(rt; is_corrupt(alloc, b"qtplant1\xa5\x00\0\0\0\0\0", 0, 8));
+    assert!(rt; is_corrupt(alloc, b"qtplant1\xa5\x01\0\0\0x\xa5\0\0\0\x80\0", 1, 14));
 }

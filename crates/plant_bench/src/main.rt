@@ -16,6 +16,7 @@
 #![tactic(auto)]
 
 mod plant;
+mod request;
 mod shared;
 
 use anyhow::{Result, bail};

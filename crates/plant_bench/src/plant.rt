@@ -17,11 +17,10 @@
 
 mod memory;
 mod records;
-mod request;
 
 use crate::plant::memory::keep_timed;
 use crate::plant::records::make_timed;
-use crate::plant::request::trades;
+use crate::request::{DATE, NOW, trades};
 use anyhow::{Result, bail};
 use mem_plant::new_plant;
 use outside_mem::MemDisk;
@@ -34,12 +33,6 @@ use std::env::Args;
 use std::rt::Clock;
 use std::sync::Wait;
 use std::time::Instant;
-
-/// The date of the plant: 2024.01.02, in days since 2000.01.01.
-const DATE: i32 = 8_767;
-
-/// 2024.01.02D09:30, in nanoseconds since 2000.01.01.
-const NOW: i64 = 757_503_000_000_000_000;
 
 /// The file of the log.
 const FILE: u64 = 1_008_767;
@@ -143,6 +136,7 @@ fn time_all<R: Clock + Print + Wait>(rt: &R, alloc: Global, count: u32, rows: u3
     Ok(())
 }
 
+/// Times the records, the updates and the loads. The arguments are UPDATES and ROWS; without them it does nothing.
 pub fn run<R: Clock + Print + Wait + AllocGlobal>(rt: &R, mut arguments: Args) -> Result<()> {
     let (Some(count), Some(rows)) = (arguments.next(), arguments.next()) else {
         return Ok(());

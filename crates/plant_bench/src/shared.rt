@@ -22,7 +22,6 @@
 mod feeding;
 mod plants;
 mod reading;
-mod request;
 
 use crate::shared::feeding::{feed_as, feed_by_four, feed_by_two, feed_solo};
 use crate::shared::plants::{opened, with_day};
@@ -137,6 +136,7 @@ fn report<R: Clock + Print + Threads + Wait + Sync>(
     Ok(())
 }
 
+/// Times the updates alone, by threads, and beside readers. The arguments are UPDATES and ROWS; without them it does nothing.
 pub fn run<R: Clock + Print + Threads + Wait + Sync + AllocGlobal>(
     rt: &R,
     mut arguments: Args,

@@ -14,7 +14,7 @@ use std::process::Abort;
 pub(crate) const DATE: i32 = 8_767;
 
 /// The index of `trade` in the schema.
-const TRADE: u32 = 1;
+pub(crate) const TRADE: u32 = 1;
 
 /// `0D09:30`, in nanoseconds.
 pub(crate) const HALF_PAST_NINE: i64 = 34_200_000_000_000;
@@ -99,7 +99,7 @@ fn log(rt: &impl Abort, alloc: Global, memory: &mut Memory, update: Prepared)
     let _place = memory.commit(update);
 }
 
-// The refusal of an update, or none where it was logged.
+/// The refusal of an update of the pass 1, or none where it was logged.
 pub(crate) fn refusal_of(
     rt: &impl Abort,
     alloc: Global,
@@ -107,7 +107,19 @@ pub(crate) fn refusal_of(
     request: &UpdRequest,
     now: i64,
 ) -> Option<UpdRefusal> {
-    match memory.prepare(alloc, 1, request, now) {
+    refusal_by(rt, alloc, memory, 1, request, now)
+}
+
+/// The same of an update of another pass.
+pub(crate) fn refusal_by(
+    rt: &impl Abort,
+    alloc: Global,
+    memory: &mut Memory,
+    by: u32,
+    request: &UpdRequest,
+    now: i64,
+) -> Option<UpdRefusal> {
+    match memory.prepare(alloc, u64::from(by), request, now) {
         Ok(update) => {
             log(rt, alloc, memory, update);
             None

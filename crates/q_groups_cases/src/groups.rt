@@ -91,7 +91,7 @@ fn no_items(rt: HostRuntime) {
     assert_groups(&rt, rt.alloc(), Items::Symbols(&[]), wanted);
 }
 
-fn assert_parts(rt: &impl Abort, alloc: Global, parts: [&[&[u8]]; 2], rows: u32, wanted: Wanted) {
+fn assert_parts(rt: &impl Abort, alloc: Global, parts: [&[&[u8]]; 2], rows: usize, wanted: Wanted) {
     let first = symbols_of(rt, alloc, parts[0]);
     let second = symbols_of(rt, alloc, parts[1]);
     let groups = Groups::of_symbols(alloc, &[&first, &second], rows).expect(rt, "memory");

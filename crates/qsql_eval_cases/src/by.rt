@@ -68,7 +68,8 @@ const SELECTS: [(&[u8], &[u8]); 30] = [
     ),
     (
         b"select by date,time,sym,price from trade",
-        b"date=d[8767 8767 8767 8768 8768] time=n[34200000000000 34260000000000 34320000000000 34200000000000 34260000000000] sym=s[b a b c a] price=j[10 20 11 30 21]|size=j[100 5 7 1 9]",
+        b"date=d[8767 8767 8767 8768 8768] time=n[34200000000000 34260000000000 34320000000000 34200000000000 34260000000000] \
+          sym=s[b a b c a] price=j[10 20 11 30 21]|size=j[100 5 7 1 9]",
     ),
     (
         b"select last price by sym from trade where size>1000",

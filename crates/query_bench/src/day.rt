@@ -35,6 +35,7 @@ use anyhow::{Result, bail};
 use std::env::Args;
 use std::rt::{Clock, Files};
 
+/// Times a date or measures its memory. The arguments are a step, ROWS and SIZE; without a step it does nothing.
 pub fn run<R: Clock + Files + Print + AllocGlobal>(rt: &R, mut arguments: Args) -> Result<()> {
     let Some(step) = arguments.next() else {
         return Ok(());

@@ -25,6 +25,7 @@ use anyhow::Result;
 use std::env::Args;
 use std::rt::Clock;
 
+/// Times each query. The argument is ROWS; without it this does nothing.
 pub fn run<R: Clock + Print + AllocGlobal>(rt: &R, mut arguments: Args) -> Result<()> {
     if let Some(count) = arguments.next() {
         let count = count.as_str().parse::<u32>()?;

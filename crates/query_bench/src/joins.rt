@@ -19,6 +19,7 @@ use anyhow::Result;
 use std::env::Args;
 use std::rt::Clock;
 
+/// Times the join. The arguments are TRADES and QUOTES; without them it does nothing.
 pub fn run<R: Clock + Print + AllocGlobal>(rt: &R, mut arguments: Args) -> Result<()> {
     if let (Some(trades), Some(quotes)) = (arguments.next(), arguments.next()) {
         let trades = trades.as_str().parse::<u32>()?;

@@ -1,10 +1,9 @@
 //! Days of many rows: when blocks are sealed, and that what a day gives back is what was logged.
 ghost use Rattle.std.specs.Prelude.{◌≡◌};
 
-use crate::days::log;
+use crate::days::{begun, ended, log};
 use day_rows::{Entry, OpenDay};
 use q_values::{Column, Columns, LongKind, Symbols, Vector};
-use schema_text::{BUILT_IN, read_schema};
 use std::alloc::Global;
 use std::process::Abort;
 
@@ -30,8 +29,21 @@ fn names(rt: &impl Abort, alloc: Global, first: i64, n: i64) -> Vector {
     Vector::from_column(Column::Symbols(symbols))
 }
 
-// An update of `trade` with `n` rows, whose prices count from `first` on.
-fn trades(rt: &impl Abort, alloc: Global, first: i64, n: i64) -> Entry {
+/// The index of `quote` in the schema, and the number of its columns.
+pub(crate) const QUOTE: (u32, usize) = (0, 6);
+
+/// The same of `trade`.
+pub(crate) const TRADE: (u32, usize) = (1, 4);
+
+/// An update of a table by a pass, with `n` rows, the numbers of which count from `first` on in each column.
+pub(crate) fn update(
+    rt: &impl Abort,
+    alloc: Global,
+    by: u64,
+    of: (u32, usize),
+    first: i64,
+    n: i64,
+) -> Entry {
     let mut columns = Columns::new(alloc);
     columns
         .push(longs(rt, alloc, LongKind::Timespan, first, n))
@@ -39,37 +51,32 @@ fn trades(rt: &impl Abort, alloc: Global, first: i64, n: i64) -> Entry {
     columns
         .push(names(rt, alloc, first, n))
         .expect(rt, "memory");
-    columns
-        .push(longs(rt, alloc, LongKind::Long, first, n))
-        .expect(rt, "memory");
-    columns
-        .push(longs(rt, alloc, LongKind::Long, 7, n))
-        .expect(rt, "memory");
+    for _ in 2..of.1 {
+        columns
+            .push(longs(rt, alloc, LongKind::Long, first, n))
+            .expect(rt, "memory");
+    }
     Entry::Upd {
-        by: 1,
-        table: 1,
+        by,
+        table: of.0,
         columns,
     }
 }
 
-// A day of the built-in schema.
-fn begin(rt: &impl Abort, alloc: Global) -> OpenDay {
-    let schema = match read_schema(alloc, BUILT_IN) {
-        Ok(schema) => schema,
-        Err(_) => panic!(rt; "the built-in schema"),
-    };
-    OpenDay::new(alloc, &schema, 8767).expect(rt, "memory")
+// Adds an update of `trade` to the day.
+fn log_trades(rt: &impl Abort, alloc: Global, day: &mut OpenDay, first: i64, n: i64) {
+    log(rt, alloc, day, update(rt, alloc, 1, TRADE, first, n));
 }
 
 // A day with this many updates of one row, and then one update of each of the larger sizes.
 fn filled(rt: &impl Abort, alloc: Global, singles: i64, larger: &[i64]) -> OpenDay {
-    let mut day = begin(rt, alloc);
+    let mut day = begun(rt, alloc);
     for i in 0..singles {
-        log(rt, alloc, &mut day, trades(rt, alloc, i, 1));
+        log_trades(rt, alloc, &mut day, i, 1);
     }
     let mut first = singles;
     for n in larger {
-        log(rt, alloc, &mut day, trades(rt, alloc, first, *n));
+        log_trades(rt, alloc, &mut day, first, *n);
         first = first.wrapping_add(*n);
     }
     day
@@ -138,9 +145,7 @@ fn empty_update_keeps_blocks(rt: HostRuntime) {
 
 // The same of a day that ends.
 fn kept_at_the_end(rt: &impl Abort, alloc: Global, day: OpenDay) -> (usize, Option<i64>) {
-    let order = day.close_order(alloc).expect(rt, "memory");
-    let ended = day.close(order);
-    let entries = ended.updates(alloc).expect(rt, "memory");
+    let entries = ended(rt, alloc, day).updates(alloc).expect(rt, "memory");
     (entries.len(), prices(entries.as_slice()))
 }
 
@@ -167,7 +172,7 @@ fn copy_stands(rt: &impl Abort, alloc: Global, count: usize) -> bool {
     let rows = 1024 * full.len() as i64;
     let mut day = filled(rt, alloc, 0, full);
     let copied = day.copy(alloc).expect(rt, "memory");
-    log(rt, alloc, &mut day, trades(rt, alloc, rows, 5));
+    log_trades(rt, alloc, &mut day, rows, 5);
     let counted = copied.blocks() == count && copied.loose_rows() == 0 && day.loose_rows() == 5;
     let before = kept(rt, alloc, &copied).1 == Some(rows);
     let after = kept(rt, alloc, &day).1 == Some(rows + 5);

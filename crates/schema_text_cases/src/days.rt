@@ -58,8 +58,8 @@ pub fn log(rt: &impl Abort, alloc: Global, day: &mut OpenDay, entry: Entry) -> b
     true
 }
 
-// A day of the built-in schema.
-fn begun(rt: &impl Abort, alloc: Global) -> OpenDay
+/// A day of the built-in schema.
+pub(crate) fn begun(rt: &impl Abort, alloc: Global) -> OpenDay
     ensures { length result.day.kinds ≡ 2 }
 {
     match read_schema(alloc, BUILT_IN) {
@@ -81,8 +81,8 @@ fn logs_three(rt: &impl Abort, alloc: Global, day: &mut OpenDay) -> bool
         && !log(rt, alloc, day, Entry::Fault { by: 1 })
 }
 
-// The end of a day.
-fn ended(rt: &impl Abort, alloc: Global, day: OpenDay) -> ClosedDay
+/// The end of a day.
+pub(crate) fn ended(rt: &impl Abort, alloc: Global, day: OpenDay) -> ClosedDay
     ensures { result.kinds ≡ day.day.kinds }
 {
     let order = day.close_order(alloc).expect(rt, "memory");

@@ -7,7 +7,7 @@ use mem_plant::new_plant;
 use outside_api::{Gate, Got, Link, LinkFault, Point, Recorder};
 use outside_mem::{MemClock, MemDisk, MemLink, MemRecorder};
 use plant_core::{Access, Plant, Solo, TickTurn, UpdTurn};
-use plant_memory::{Snapshot, UpdRequest};
+use plant_memory::{Snapshot, Tail, UpdRequest};
 use q_values::{Limits, NoMemory, Turn};
 use schema_text::{BUILT_IN, read_schema};
 use session::serve_session;
@@ -37,6 +37,8 @@ pub enum Call {
     Note,
     /// Bytes are written.
     Write,
+    /// The access is asked for a tail.
+    Tail,
 }
 
 impl Call {
@@ -50,6 +52,7 @@ impl Call {
             Call::PauseElsewhere => 6,
             Call::Note => 7,
             Call::Write => 8,
+            Call::Tail => 9,
         }
     }
 }
@@ -70,16 +73,44 @@ struct Calls {
 }
 
 impl Calls {
-    fn shared(&self) -> Result<Calls, NoMemory> {
-        Ok(Calls {
-            made: Arc::clone(&self.made)?,
-        })
+    fn none(rt: &impl Abort, alloc: Global) -> Calls {
+        Calls {
+            made: Arc::new(alloc, AtomicU64::new(0)).expect(rt, "memory"),
+        }
+    }
+
+    fn shared(&self, rt: &impl Abort) -> Calls {
+        Calls {
+            made: Arc::clone(&self.made).expect(rt, "memory"),
+        }
     }
 
     fn add(&self, call: Call) {
         let made = self.made.load(SeqCst);
         let next = made.wrapping_mul(16).wrapping_add(call.number());
         self.made.store(next, SeqCst);
+    }
+
+    // Devices that add their calls.
+
+    fn gate(&self, rt: &impl Abort) -> WatchedGate {
+        WatchedGate {
+            calls: self.shared(rt),
+        }
+    }
+
+    fn link(&self, rt: &impl Abort, link: MemLink) -> WatchedLink {
+        WatchedLink {
+            calls: self.shared(rt),
+            link,
+        }
+    }
+
+    fn recorder(&self, rt: &impl Abort, alloc: Global) -> WatchedRecorder {
+        WatchedRecorder {
+            calls: self.shared(rt),
+            recorder: MemRecorder::with_room(alloc, 64).expect(rt, "memory"),
+        }
     }
 }
 
@@ -169,6 +200,11 @@ impl Access for WatchedAccess {
         self.solo.snapshot(rt, alloc)
     }
 
+    fn tail<R: Wait>(&mut self, rt: &R, alloc: Global, from: u64) -> Result<Tail, NoMemory> {
+        self.calls.add(Call::Tail);
+        self.solo.tail(rt, alloc, from)
+    }
+
     fn last_fault(&self) -> u64 {
         self.solo.last_fault()
     }
@@ -189,25 +225,14 @@ fn watch<R: Abort + Wait>(
     if plant.next_by() != 1 {
         return None;
     }
-    let calls = Calls {
-        made: Arc::new(alloc, AtomicU64::new(0)).expect(rt, "memory"),
-    };
-    let recorder = MemRecorder::with_room(alloc, 64).expect(rt, "memory");
+    let calls = Calls::none(rt, alloc);
     let mut access = WatchedAccess {
-        calls: calls.shared().expect(rt, "memory"),
+        calls: calls.shared(rt),
         solo: Solo::new(plant),
     };
-    let mut link = WatchedLink {
-        calls: calls.shared().expect(rt, "memory"),
-        link,
-    };
-    let mut gate = WatchedGate {
-        calls: calls.shared().expect(rt, "memory"),
-    };
-    let mut turns = WatchedRecorder {
-        calls: calls.shared().expect(rt, "memory"),
-        recorder,
-    };
+    let mut link = calls.link(rt, link);
+    let mut gate = calls.gate(rt);
+    let mut turns = calls.recorder(rt, alloc);
     let _report = serve_session(
         rt,
         alloc,

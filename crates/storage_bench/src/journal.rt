@@ -76,6 +76,7 @@ fn timed<R: Clock + Print>(rt: &R, alloc: Global, count: u64) -> io::Result<()> 
     println!(rt; "load {found}: {micros} us")
 }
 
+/// Times the appends and the load. The argument is the number of records; without it this asks for one.
 pub fn run<R: Clock + Print + AllocGlobal>(rt: &R, mut arguments: Args) -> io::Result<()> {
     let Some(word) = arguments.next() else {
         return println!(rt; "give a number of records");

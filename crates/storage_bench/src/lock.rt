@@ -46,6 +46,7 @@ fn report<R: Clock + Print + Threads + Wait + Sync>(
     Ok(())
 }
 
+/// Times one thread, and then four. The argument is COUNT; without it this does nothing.
 pub fn run<R: Clock + Print + Threads + Wait + Sync + AllocGlobal>(
     rt: &R,
     mut arguments: Args,

@@ -144,6 +144,7 @@ fn log_and_read<R: Clock + Print>(
     }
 }
 
+/// Times a log and its replay. The arguments are UPDATES, ROWS and what else to do; without the first two it does nothing.
 pub fn run<R: Clock + Print + AllocGlobal>(rt: &R, mut arguments: Args) -> Result<()> {
     let (Some(count), Some(rows)) = (arguments.next(), arguments.next()) else {
         return Ok(());

@@ -34,6 +34,7 @@ use anyhow::{Result, bail};
 use std::env::Args;
 use std::rt::Clock;
 
+/// Times each call over the objects, or makes a list once. Without arguments it does nothing.
 pub fn run<R: Clock + Print + AllocGlobal>(rt: &R, mut arguments: Args) -> Result<()> {
     if let Some(first) = arguments.next() {
         let first = first.as_str();

@@ -31,6 +31,7 @@ fn reported<R: Clock + Print + AllocGlobal>(rt: &R, alloc: Global, length: usize
     timed::report(rt, "signs", &made::signs(alloc, length)?)
 }
 
+/// Times the texts. The argument is their length in bytes; without it this does nothing.
 pub fn run<R: Clock + Print + AllocGlobal>(rt: &R, mut arguments: Args) -> Result<()> {
     if let Some(word) = arguments.next() {
         let length = word.as_str().parse::<usize>()?;

@@ -33,6 +33,7 @@ use anyhow::Result;
 use std::env::Args;
 use std::rt::Clock;
 
+/// Times each verb over the columns. The arguments are LONGS, SYMBOLS and ROWS; what is not given is not timed.
 pub fn run<R: Clock + Print + AllocGlobal>(rt: &R, mut arguments: Args) -> Result<()> {
     if let Some(count) = arguments.next() {
         let count = count.as_str().parse::<u32>()?;

@@ -1,6 +1,6 @@
 //! The updates in memory alone, without a disk.
 
-use crate::plant::{DATE, NOW};
+use crate::request::{DATE, NOW};
 use anyhow::{Result, bail};
 use plant_memory::{Memory, UpdRequest};
 use q_values::Limits;

@@ -1,7 +1,7 @@
 //! The log's records of the updates, made and not written.
 ghost use Rattle.tick_log.specs.Chunk.{IsLoggable};
 
-use crate::plant::request::trades_entry;
+use crate::request::trades_entry;
 use anyhow::{Result, bail};
 use day_rows::{Entry, Schema};
 use schema_text::built_in_schema;

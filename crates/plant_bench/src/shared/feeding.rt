@@ -2,8 +2,8 @@
 ghost use Rattle.std.specs.Prelude.{◌≡◌, []};
 ghost use Rattle.plant_shared.specs.Shared.{IsPass};
 
+use crate::request::{NOW, trades};
 use crate::shared::plants::{branch, plant};
-use crate::shared::request::trades;
 use day_rows::Schema;
 use outside_api::Disk;
 use plant_core::{Access, Solo, UpdTurn};
@@ -12,9 +12,6 @@ use plant_shared::{Lock, PlantGuard, PlantPass, Shared};
 use std::alloc::Global;
 use std::sync::{Arc, Wait};
 use std::thread::{Threads, join};
-
-/// 2024.01.02D09:30, in nanoseconds since 2000.01.01.
-pub(crate) const NOW: i64 = 757_503_000_000_000_000;
 
 /// Logs an update this many times, and says whether each was logged.
 pub(crate) fn logs_all<D: Disk, R: Wait>(

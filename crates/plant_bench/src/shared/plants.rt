@@ -2,8 +2,8 @@
 ghost use Rattle.std.specs.Prelude.{◌≡◌, IfOk, IfSome, []};
 ghost use Rattle.plant_shared.specs.Shared.{IsPass};
 
+use crate::request::{DATE, trades};
 use crate::shared::feeding::logs_all;
-use crate::shared::request::trades;
 use day_rows::Schema;
 use mem_plant::new_plant;
 use outside_api::Disk;
@@ -15,9 +15,6 @@ use q_values::{Limits, NoMemory};
 use schema_text::built_in_schema;
 use std::alloc::Global;
 use std::sync::{Arc, Wait};
-
-// The date of the plant: 2024.01.02, in days since 2000.01.01.
-const DATE: i32 = 8_767;
 
 // The rows of each update of a day that is logged before the clock runs.
 const ROWS: u32 = 1_000;

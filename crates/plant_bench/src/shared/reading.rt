@@ -2,9 +2,9 @@
 ghost use Rattle.std.specs.Prelude.{◌≡◌, []};
 ghost use Rattle.plant_shared.specs.Shared.{IsPass};
 
-use crate::shared::feeding::{NOW, feed_as};
+use crate::request::{NOW, trades};
+use crate::shared::feeding::feed_as;
 use crate::shared::plants::branch;
-use crate::shared::request::trades;
 use day_rows::Schema;
 use outside_api::Disk;
 use plant_core::{Access, UpdTurn};
