@@ -38,7 +38,9 @@ fn has_all(disk: &MemDisk) -> bool {
 fn keeps_many(rt: &impl Abort, alloc: Global) -> bool {
     let mut disk = MemDisk::new(alloc);
     let filled = fill(&mut disk);
-    let restarted = disk.restart(alloc, Leaving::Torn(0xff)).expect(rt, "memory");
+    let restarted = disk
+        .restart(alloc, Leaving::Torn(0xff))
+        .expect(rt, "memory");
     filled && has_all(&disk) && has_all(&restarted) && restarted.bytes_of(10_007).is_empty()
 }
 

@@ -62,6 +62,29 @@ pub fn serve<R: Abort + Threads + Wait + Sync>(
     run(rt, alloc, &words, outside)
 }
 
+/// What clients on a thread find of a plant in memory that serves this many sessions meanwhile, without a fault.
+pub fn served<T, F, R: Abort + Threads + Wait + Sync>(
+    threads: &R,
+    rt: &HostRuntime,
+    sessions: u32,
+    clients: F,
+) -> T
+where
+    T: Send + Drop + 'static,
+    F: FnOnce(&HostRuntime, Global, u16) -> io::Result<T> + Send + Drop + 'static,
+    requires { F.IsAlwaysCallable clients }
+{
+    let (theirs, alloc) = (rt.clone().expect(threads, "failed"), rt.alloc());
+    let port = free_port(rt).expect(threads, "failed");
+    let found = thread::spawn(threads, move || clients(&theirs, alloc, port)).expect(
+        threads, "failed",
+    );
+    let mut outside = PlannedOutside::new(rt);
+    assert_eq!(threads; serve(threads, alloc, port, sessions, &mut outside), 0);
+    assert_eq!(threads; outside.errors(), b"".as_slice());
+    found.join(threads).expect(threads, "failed")
+}
+
 /// A connection to the port, as soon as something listens on it.
 pub fn connected(rt: &HostRuntime, port: u16) -> io::Result<TcpStream> {
     for _ in 0..10_000u32 {

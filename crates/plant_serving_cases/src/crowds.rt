@@ -1,6 +1,5 @@
 //! Many clients at once, and many one after the other.
-use crate::client::{count, free_port, greeted, serve, update};
-use crate::planned::PlannedOutside;
+use crate::client::{count, greeted, served, update};
 use std::alloc::Global;
 use std::thread::{JoinHandle, Threads};
 use std::{io, thread};
@@ -42,17 +41,11 @@ fn crowd<R: Threads>(
 
 #[test]
 fn fifty_clients_at_once(rt: HostRuntime) {
-    let (theirs, alloc, port) = (
-        rt.clone().expect(&rt, "failed"),
-        rt.alloc(),
-        free_port(&rt).expect(&rt, "failed"),
+    let threads = rt.clone().expect(&rt, "failed");
+    let clients = move |rt: &HostRuntime, alloc: Global, port: u16| crowd(
+        &threads, rt, alloc, port,
     );
-    let clients = thread::spawn(&rt, move || crowd(&theirs, &theirs, alloc, port)).expect(
-        &rt, "failed",
-    );
-    let mut outside = PlannedOutside::new(&rt);
-    assert_eq!(rt; serve(&rt, alloc, port, 51, &mut outside), 0);
-    let (least, last) = clients.join(&rt).expect(&rt, "failed");
+    let (least, last) = served(&rt, &rt, 51, clients);
     assert!(rt; least >= u64::from(UPDATES), "{least} rows");
     assert_eq!(rt; last, 1_000);
 }
@@ -71,13 +64,5 @@ fn queue(rt: &HostRuntime, alloc: Global, port: u16) -> io::Result<u64> {
 // Each session ends, is joined, and its connection is closed, before the last is accepted.
 #[test]
 fn three_hundred_clients_one_after_the_other(rt: HostRuntime) {
-    let (theirs, alloc, port) = (
-        rt.clone().expect(&rt, "failed"),
-        rt.alloc(),
-        free_port(&rt).expect(&rt, "failed"),
-    );
-    let clients = thread::spawn(&rt, move || queue(&theirs, alloc, port)).expect(&rt, "failed");
-    let mut outside = PlannedOutside::new(&rt);
-    assert_eq!(rt; serve(&rt, alloc, port, 300, &mut outside), 0);
-    assert_eq!(rt; clients.join(&rt).expect(&rt, "failed"), 300);
+    assert_eq!(rt; served(&rt, &rt, 300, queue), 300);
 }

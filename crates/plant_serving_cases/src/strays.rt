@@ -1,8 +1,7 @@
 //! Clients that vanish, send half a message or rubbish, send nothing, or never read.
 use crate::client::{
-    GREETING, SELECT, UPDATE, connected, count, free_port, greeted, hangs_up, serve, update,
+    GREETING, SELECT, UPDATE, connected, count, greeted, hangs_up, served, update,
 };
-use crate::planned::PlannedOutside;
 use std::alloc::Global;
 use std::io::{ErrorKind, Write};
 use std::net::TcpStream;
@@ -36,15 +35,7 @@ fn vanishing(rt: &HostRuntime, alloc: Global, port: u16) -> io::Result<u64> {
 
 #[test]
 fn clients_that_vanish_end_their_own_sessions_alone(rt: HostRuntime) {
-    let (theirs, alloc, port) = (
-        rt.clone().expect(&rt, "failed"),
-        rt.alloc(),
-        free_port(&rt).expect(&rt, "failed"),
-    );
-    let clients = thread::spawn(&rt, move || vanishing(&theirs, alloc, port)).expect(&rt, "failed");
-    let mut outside = PlannedOutside::new(&rt);
-    assert_eq!(rt; serve(&rt, alloc, port, 5, &mut outside), 0);
-    let rows = clients.join(&rt).expect(&rt, "failed");
+    let rows = served(&rt, &rt, 5, vanishing);
     assert!(rt; rows >= 10 && rows <= 110, "{rows} rows");
 }
 
@@ -77,15 +68,7 @@ fn rubbish(rt: &HostRuntime, alloc: Global, port: u16) -> io::Result<(u32, u64)>
 
 #[test]
 fn rubbish_is_hung_up(rt: HostRuntime) {
-    let (theirs, alloc, port) = (
-        rt.clone().expect(&rt, "failed"),
-        rt.alloc(),
-        free_port(&rt).expect(&rt, "failed"),
-    );
-    let clients = thread::spawn(&rt, move || rubbish(&theirs, alloc, port)).expect(&rt, "failed");
-    let mut outside = PlannedOutside::new(&rt);
-    assert_eq!(rt; serve(&rt, alloc, port, 6, &mut outside), 0);
-    assert_eq!(rt; clients.join(&rt).expect(&rt, "failed"), (5, 4));
+    assert_eq!(rt; served(&rt, &rt, 6, rubbish), (5, 4));
 }
 
 /// Sends questions until no more can be sent for a while, since the answers aren't read.
@@ -121,15 +104,7 @@ fn deaf(rt: &HostRuntime, alloc: Global, port: u16) -> io::Result<(bool, u64)> {
 
 #[test]
 fn a_client_that_never_reads_holds_up_nobody_else(rt: HostRuntime) {
-    let (theirs, alloc, port) = (
-        rt.clone().expect(&rt, "failed"),
-        rt.alloc(),
-        free_port(&rt).expect(&rt, "failed"),
-    );
-    let clients = thread::spawn(&rt, move || deaf(&theirs, alloc, port)).expect(&rt, "failed");
-    let mut outside = PlannedOutside::new(&rt);
-    assert_eq!(rt; serve(&rt, alloc, port, 2, &mut outside), 0);
-    assert_eq!(rt; clients.join(&rt).expect(&rt, "failed"), (true, 3_000));
+    assert_eq!(rt; served(&rt, &rt, 2, deaf), (true, 3_000));
 }
 
 /// A client that sends nothing at all for a while, beside one that is answered.
@@ -146,13 +121,5 @@ fn silent(rt: &HostRuntime, alloc: Global, port: u16) -> io::Result<u64> {
 
 #[test]
 fn a_silent_client_is_waited_for(rt: HostRuntime) {
-    let (theirs, alloc, port) = (
-        rt.clone().expect(&rt, "failed"),
-        rt.alloc(),
-        free_port(&rt).expect(&rt, "failed"),
-    );
-    let clients = thread::spawn(&rt, move || silent(&theirs, alloc, port)).expect(&rt, "failed");
-    let mut outside = PlannedOutside::new(&rt);
-    assert_eq!(rt; serve(&rt, alloc, port, 2, &mut outside), 0);
-    assert_eq!(rt; clients.join(&rt).expect(&rt, "failed"), 2);
+    assert_eq!(rt; served(&rt, &rt, 2, silent), 2);
 }

@@ -1,13 +1,11 @@
 //! Clients that talk as they should.
 use crate::client::{
-    COUNT, GREETING, UPDATE, asked, connected, count, free_port, greeted, hangs_up, response,
-    serve, update,
+    COUNT, GREETING, UPDATE, asked, connected, count, greeted, hangs_up, response, served, update,
 };
-use crate::planned::PlannedOutside;
 use std::alloc::Global;
+use std::io;
 use std::io::{Read, Write};
 use std::net::Shutdown;
-use std::{io, thread};
 
 /// One client asks, another's update is answered, and both ask.
 fn asks_and_asks(rt: &HostRuntime, alloc: Global, port: u16) -> io::Result<[u64; 3]> {
@@ -22,18 +20,7 @@ fn asks_and_asks(rt: &HostRuntime, alloc: Global, port: u16) -> io::Result<[u64;
 
 #[test]
 fn told_before_asked(rt: HostRuntime) {
-    let (theirs, alloc, port) = (
-        rt.clone().expect(&rt, "failed"),
-        rt.alloc(),
-        free_port(&rt).expect(&rt, "failed"),
-    );
-    let clients = thread::spawn(&rt, move || asks_and_asks(&theirs, alloc, port)).expect(
-        &rt, "failed",
-    );
-    let mut outside = PlannedOutside::new(&rt);
-    assert_eq!(rt; serve(&rt, alloc, port, 2, &mut outside), 0);
-    assert_eq!(rt; clients.join(&rt).expect(&rt, "failed"), [0, 1, 1]);
-    assert_eq!(rt; outside.errors(), b"".as_slice());
+    assert_eq!(rt; served(&rt, &rt, 2, asks_and_asks), [0, 1, 1]);
 }
 
 /// Sends the handshake, an update and a question byte by byte, and then says that it sends no more.
@@ -54,25 +41,25 @@ fn byte_by_byte(rt: &HostRuntime, alloc: Global, port: u16) -> io::Result<(usize
     Ok((done, rows, ended))
 }
 
+/// The same, and then another client, whose count of rows is the one that is given.
+fn byte_by_byte_and_another(
+    rt: &HostRuntime,
+    alloc: Global,
+    port: u16,
+) -> io::Result<(usize, u64, bool)> {
+    let (done, _rows, ended) = byte_by_byte(rt, alloc, port)?;
+    // The server waits for a second connection meanwhile.
+    let mut last = greeted(rt, port)?;
+    Ok((done, count(alloc, &mut last)?, ended))
+}
+
 // Where a client ends its side, the plant closes the connection within a moment, also while nobody else connects.
 #[test]
 fn single_bytes_and_a_half_closed_connection(rt: HostRuntime) {
-    let (theirs, alloc, port) = (
-        rt.clone().expect(&rt, "failed"),
-        rt.alloc(),
-        free_port(&rt).expect(&rt, "failed"),
+    assert_eq!(rt;
+        served(&rt, &rt, 2, byte_by_byte_and_another),
+        (10, 1, true)
     );
-    let clients = thread::spawn(&rt, move || {
-        let mut talks = byte_by_byte(&theirs, alloc, port).expect(&rt, "failed");
-        // The server waits for a second connection meanwhile.
-        let mut last = greeted(&theirs, port).expect(&rt, "failed");
-        talks.1 = count(alloc, &mut last).expect(&rt, "failed");
-        io::Result::Ok(talks)
-    })
-    .expect(&rt, "failed");
-    let mut outside = PlannedOutside::new(&rt);
-    assert_eq!(rt; serve(&rt, alloc, port, 2, &mut outside), 0);
-    assert_eq!(rt; clients.join(&rt).expect(&rt, "failed"), (10, 1, true));
 }
 
 /// The text `exec count i from trade`, big-endian.
@@ -97,13 +84,5 @@ fn pipelined(rt: &HostRuntime, alloc: Global, port: u16) -> io::Result<(u64, boo
 
 #[test]
 fn a_thousand_updates_in_one_write(rt: HostRuntime) {
-    let (theirs, alloc, port) = (
-        rt.clone().expect(&rt, "failed"),
-        rt.alloc(),
-        free_port(&rt).expect(&rt, "failed"),
-    );
-    let clients = thread::spawn(&rt, move || pipelined(&theirs, alloc, port)).expect(&rt, "failed");
-    let mut outside = PlannedOutside::new(&rt);
-    assert_eq!(rt; serve(&rt, alloc, port, 1, &mut outside), 0);
-    assert_eq!(rt; clients.join(&rt).expect(&rt, "failed"), (1_000, true));
+    assert_eq!(rt; served(&rt, &rt, 1, pipelined), (1_000, true));
 }
