@@ -24,9 +24,9 @@
 //! offset just past the literal. An infinity or a null is given as the number that stores it.
 //!
 //! ```text
-//! reads(alloc, b"1 0N -0Wh", 5, &[1, -32768, -32767], 9)     three shorts, in nine bytes
-//! is_bad(alloc, b"2023.02.29", 0)                            no such date
-//! binds(alloc, b"a -1")                                      the `-` belongs to the number
+//! (b"1 0N -0Wh", 5, &[1, -32768, -32767], 9)     three shorts, in nine bytes
+//! is_bad(alloc, b"2023.02.29", 0)                no such date
+//! binds(alloc, b"a -1")                          the `-` belongs to the number
 //! ```
 //!
 //! What no contract can say is left to them: that a call succeeds where memory is ample. The laws of literals need no

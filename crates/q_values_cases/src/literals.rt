@@ -5,6 +5,7 @@ ghost use Rattle.std.specs.Prelude.{◌≡◌};
 use q_text::{LiteralRefusal, read_literal};
 use q_values::{Atom, Column, Element, Symbols, Value, Vector};
 use std::alloc::Global;
+use std::process::Abort;
 
 fn is_number(atom: &Atom, number: i64) -> bool {
     match atom.element() {
@@ -153,47 +154,64 @@ fn nulls_and_infinities(rt: HostRuntime) {
     }
 }
 
+// A text that begins with a literal, its type number, its numbers, and the offset after it.
+type Row<'a> = (&'a [u8], i64, &'a [i64], usize);
+
+const RUNS: [Row; 24] = [
+    (b"0b", -1, &[0], 2),
+    (b"0101b", 1, &[0, 1, 0, 1], 5),
+    (b"0b 1b", 1, &[0, 1], 5),
+    (b"01b 1b", 1, &[0, 1], 3),
+    (b"0x", 4, &[], 2),
+    (b"0xfF", -4, &[255], 4),
+    (b"0x0Aa0", 4, &[10, 160], 6),
+    (b"0x01 0x02", 4, &[1, 2], 9),
+    (b"1 2  3", 7, &[1, 2, 3], 6),
+    (b"1 -2", 7, &[1, -2], 4),
+    (b"1 - 2", -7, &[1], 1),
+    (b"1-2", -7, &[1], 1),
+    (b"3 0N\t3\n1 ", 7, &[3, i64::MIN, 3, 1], 8),
+    (b"1 0N -0Wh", 5, &[1, -32768, -32767], 9),
+    (b"2 3i,4", 6, &[2, 3], 4),
+    (b"1 2h 3", -7, &[1], 1),
+    (b"1 x", -7, &[1], 1),
+    (b"1 2.5", -7, &[1], 1),
+    (b"0Nd 0Wd", 14, &[-2147483648, 2147483647], 7),
+    (b"0Nd 0Wt", -14, &[-2147483648], 3),
+    (b"2024.01.02 0Nd", -14, &[8767], 10),
+    (b"2000.01.01 2000.01.02", 14, &[0, 1], 21),
+    (b"09:30 10:00:00", -17, &[570], 5),
+    (b"0D 1D01", 16, &[0, 90000000000000], 7),
+];
+
+fn assert_rows(rt: &impl Abort, alloc: Global, rows: &[Row]) {
+    for (text, type_, numbers, end) in rows {
+        assert!(rt; reads(alloc, text, *type_, numbers, *end));
+    }
+}
+
 #[test]
 fn rows_and_runs(rt: HostRuntime) {
-    let alloc = rt.alloc();
-    assert!(rt; reads(alloc, b"0b", -1, &[0], 2));
-    assert!(rt; reads(alloc, b"0101b", 1, &[0, 1, 0, 1], 5));
-    assert!(rt; reads(alloc, b"0b 1b", 1, &[0, 1], 5));
-    assert!(rt; reads(alloc, b"01b 1b", 1, &[0, 1], 3));
-    assert!(rt; reads(alloc, b"0x", 4, &[], 2));
-    assert!(rt; reads(alloc, b"0xfF", -4, &[255], 4));
-    assert!(rt; reads(alloc, b"0x0Aa0", 4, &[10, 160], 6));
-    assert!(rt; reads(alloc, b"0x01 0x02", 4, &[1, 2], 9));
-    assert!(rt; reads(alloc, b"1 2  3", 7, &[1, 2, 3], 6));
-    assert!(rt; reads(alloc, b"1 -2", 7, &[1, -2], 4));
-    assert!(rt; reads(alloc, b"1 - 2", -7, &[1], 1));
-    assert!(rt; reads(alloc, b"1-2", -7, &[1], 1));
-    assert!(rt; reads(alloc, b"3 0N\t3\n1 ", 7, &[3, i64::MIN, 3, 1], 8));
-    assert!(rt; reads(alloc, b"1 0N -0Wh", 5, &[1, -32768, -32767], 9));
-    assert!(rt; reads(alloc, b"2 3i,4", 6, &[2, 3], 4));
-    assert!(rt; reads(alloc, b"1 2h 3", -7, &[1], 1));
-    assert!(rt; reads(alloc, b"1 x", -7, &[1], 1));
-    assert!(rt; reads(alloc, b"1 2.5", -7, &[1], 1));
-    assert!(rt; reads(alloc, b"0Nd 0Wd", 14, &[-2147483648, 2147483647], 7));
-    assert!(rt; reads(alloc, b"0Nd 0Wt", -14, &[-2147483648], 3));
-    assert!(rt; reads(alloc, b"2024.01.02 0Nd", -14, &[8767], 10));
-    assert!(rt; reads(alloc, b"2000.01.01 2000.01.02", 14, &[0, 1], 21));
-    assert!(rt; reads(alloc, b"09:30 10:00:00", -17, &[570], 5));
-    assert!(rt; reads(alloc, b"0D 1D01", 16, &[0, 90000000000000], 7));
+    assert_rows(&rt, rt.alloc(), &RUNS);
 }
+
+const TEXTS: [Row; 4] = [
+    (b"\"\"", 10, &[], 2),
+    (b"\"a\"", -10, &[97], 3),
+    (b"\"ab\" \"c\"", 10, &[97, 98], 4),
+    (b"\"\\\"\\\\\\n\\t\"", 10, &[34, 92, 10, 9], 10),
+];
 
 #[test]
 fn texts(rt: HostRuntime) {
     let alloc = rt.alloc();
-    assert!(rt; reads(alloc, b"\"\"", 10, &[], 2));
-    assert!(rt; reads(alloc, b"\"a\"", -10, &[97], 3));
-    assert!(rt; reads(alloc, b"\"ab\" \"c\"", 10, &[97, 98], 4));
-    assert!(rt; reads(alloc, b"\"\\\"\\\\\\n\\t\"", 10, &[34, 92, 10, 9], 10));
-    assert!(rt; is_bad(alloc, b"\"a", 0));
-    assert!(rt; is_bad(alloc, b"\"\\r\"", 0));
-    assert!(rt; is_bad(alloc, b"\"a\\\"", 0));
+    assert_rows(&rt, alloc, &TEXTS);
+    for text in [b"\"a".as_slice(), b"\"\\r\"", b"\"a\\\""] {
+        assert!(rt; is_bad(alloc, text, 0));
+    }
 }
 
+// Whether the value is an atom with this name.
 fn is_name(value: &Value, name: &[u8]) -> bool {
     match value {
         Value::Atom(Atom::Symbol(found)) => found.bytes() == name,
@@ -206,6 +224,7 @@ fn are_names(found: &Symbols, names: &[&[u8]]) -> bool {
         && (0..found.len()).all(|i| i < names.len() && found.at(i) == names[i])
 }
 
+// Whether the value is a vector of these names.
 fn is_names(value: &Value, names: &[&[u8]]) -> bool {
     match value {
         Value::Vector(vector) => match vector.column() {
@@ -216,18 +235,26 @@ fn is_names(value: &Value, names: &[&[u8]]) -> bool {
     }
 }
 
+fn reads_name(alloc: Global, text: &[u8], name: &[u8], end: usize) -> bool {
+    match read_literal(alloc, text, 0) {
+        Ok((value, past)) => past == end && is_name(&value, name),
+        Err(_) => false,
+    }
+}
+
+fn reads_names(alloc: Global, text: &[u8], at: usize, names: &[&[u8]], end: usize) -> bool {
+    match read_literal(alloc, text, at) {
+        Ok((value, past)) => past == end && is_names(&value, names),
+        Err(_) => false,
+    }
+}
+
 #[test]
 fn symbols(rt: HostRuntime) {
     let alloc = rt.alloc();
-    let (value, end) = read_literal(alloc, b"`a.b_c:9 x", 0).expect(&rt, "memory");
-    assert!(rt; is_name(&value, b"a.b_c:9"));
-    assert_eq!(rt; end, 8);
-    let (value, end) = read_literal(alloc, b"`", 0).expect(&rt, "memory");
-    assert!(rt; is_name(&value, b""));
-    assert_eq!(rt; end, 1);
-    let (value, end) = read_literal(alloc, b"x`a``b `c", 1).expect(&rt, "memory");
-    assert!(rt; is_names(&value, &[b"a".as_slice(), b"", b"b"]));
-    assert_eq!(rt; end, 6);
+    assert!(rt; reads_name(alloc, b"`a.b_c:9 x", b"a.b_c:9", 8));
+    assert!(rt; reads_name(alloc, b"`", b"", 1));
+    assert!(rt; reads_names(alloc, b"x`a``b `c", 1, &[b"a", b"", b"b"], 6));
 }
 
 const NO_LITERALS: [&[u8]; 37] = [
