@@ -9,8 +9,9 @@ use date_logs::{DateLogs, format};
 use day_rows::{Entry, Schema};
 use outside_mem::MemDisk;
 use partition_set::Manifest;
-use q_values::{Column, Columns, LongKind, NoMemory, Sequence, Symbols, Vector};
+use q_values::{Column, Columns, LongKind, Sequence, Symbols, Vector};
 use std::alloc::Global;
+use std::process::Abort;
 use tick_log::{chunk_of, is_loggable};
 
 /// 2024.01.02, the first date.
@@ -25,115 +26,124 @@ pub const SECOND: i32 = 8768;
 // The index of `trade` in the built-in schema.
 const TRADE: u32 = 1;
 
-fn longs(alloc: Global, kind: LongKind, item: i64, rows: usize) -> Result<Vector, NoMemory> {
-    let items = vec![in alloc; item; rows]?;
-    Ok(Vector::from_column(Column::Longs(kind, items)))
+fn longs(rt: &impl Abort, alloc: Global, kind: LongKind, item: i64, rows: usize) -> Vector {
+    let items = vec![in alloc; item; rows].expect(rt, "memory");
+    Vector::from_column(Column::Longs(kind, items))
 }
 
-fn symbols(alloc: Global, rows: usize) -> Result<Vector, NoMemory> {
+fn symbols(rt: &impl Abort, alloc: Global, rows: usize) -> Vector {
     let mut items = Symbols::new(alloc);
     for _ in 0..rows {
-        items.push(b"KX")?;
+        items.push(b"KX").expect(rt, "memory");
     }
-    Ok(Vector::from_column(Column::Symbols(items)))
+    Vector::from_column(Column::Symbols(items))
 }
 
 // This many rows of `trade`, each `(0D09:30;`KX;10050;200)`.
-fn trades(alloc: Global, by: u64, rows: usize) -> Result<Entry, NoMemory> {
+fn trades(rt: &impl Abort, alloc: Global, by: u64, rows: usize) -> Entry {
     let mut columns = Columns::new(alloc);
-    columns.push(longs(alloc, LongKind::Timespan, 34_200_000_000_000, rows)?)?;
-    columns.push(symbols(alloc, rows)?)?;
-    columns.push(longs(alloc, LongKind::Long, 10_050, rows)?)?;
-    columns.push(longs(alloc, LongKind::Long, 200, rows)?)?;
-    Ok(Entry::Upd {
+    columns
+        .push(longs(rt, alloc, LongKind::Timespan, 34_200_000_000_000, rows))
+        .expect(rt, "memory");
+    columns.push(symbols(rt, alloc, rows)).expect(rt, "memory");
+    columns
+        .push(longs(rt, alloc, LongKind::Long, 10_050, rows))
+        .expect(rt, "memory");
+    columns
+        .push(longs(rt, alloc, LongKind::Long, 200, rows))
+        .expect(rt, "memory");
+    Entry::Upd {
         by,
         table: TRADE,
         columns,
-    })
+    }
 }
 
 /// Adds an update of this pass to the open date; whether that succeeded.
 pub fn add(
+    rt: &impl Abort,
     alloc: Global,
     disk: &mut MemDisk,
     logs: &mut DateLogs,
     schema: &Schema,
     by: u64,
     rows: usize,
-) -> Result<bool, NoMemory>
+) -> bool
     requires { IsReady (shown_by disk.old) logs.old }
     ensures { IsReady (shown_by disk.new) logs.new }
 {
-    let entry = trades(alloc, by, rows)?;
+    let entry = trades(rt, alloc, by, rows);
     if !is_loggable(schema, &entry) {
-        return Ok(false);
+        return false;
     }
-    let chunk = chunk_of(alloc, schema, &entry)?;
+    let chunk = chunk_of(alloc, schema, &entry).expect(rt, "memory");
     if chunk.is_empty() {
-        return Ok(false);
+        return false;
     }
-    Ok(logs.append(disk, &chunk).is_ok())
+    logs.append(disk, &chunk).is_ok()
 }
 
 // A disk with the schema's tables, and the logs of its first date.
-fn started(alloc: Global, schema: &Schema) -> Result<Option<(MemDisk, DateLogs)>, NoMemory>
-    ensures { IfOk result (λ o. IfSome o (λ x. IsReady (shown_by x.0) x.1)) }
+fn started(rt: &impl Abort, alloc: Global, schema: &Schema) -> Option<(MemDisk, DateLogs)>
+    ensures { IfSome result (λ x. IsReady (shown_by x.0) x.1) }
 {
     let mut disk = MemDisk::new(alloc);
     if format(alloc, &mut disk, schema).is_err() {
-        return Ok(None);
+        return None;
     }
     let Ok(mut manifest) = Manifest::load(alloc, &mut disk) else {
-        return Ok(None);
+        return None;
     };
-    manifest.reserve()?;
+    manifest.reserve().expect(rt, "memory");
     if !manifest.may_open(0, FIRST) {
-        return Ok(None);
+        return None;
     }
     match DateLogs::begin(manifest, &mut disk, 0, FIRST) {
-        Ok(logs) => Ok(Some((disk, logs))),
-        Err(_fault) => Ok(None),
+        Ok(logs) => Some((disk, logs)),
+        Err(_fault) => None,
     }
 }
 
 /// A disk with the schema's tables and one date, which has this many updates of the pass 3, each of as many rows.
 pub fn one_date(
+    rt: &impl Abort,
     alloc: Global,
     schema: &Schema,
     updates: usize,
     rows: usize,
-) -> Result<Option<(MemDisk, DateLogs)>, NoMemory>
-    ensures { IfOk result (λ o. IfSome o (λ x. IsReady (shown_by x.0) x.1)) }
+) -> Option<(MemDisk, DateLogs)>
+    ensures { IfSome result (λ x. IsReady (shown_by x.0) x.1) }
 {
-    let Some((mut disk, mut logs)) = started(alloc, schema)? else {
-        return Ok(None);
+    let Some((mut disk, mut logs)) = started(rt, alloc, schema) else {
+        return None;
     };
     for _ in 0..updates {
-        if !add(alloc, &mut disk, &mut logs, schema, 3, rows)? {
-            return Ok(None);
+        if !add(rt, alloc, &mut disk, &mut logs, schema, 3, rows) {
+            return None;
         }
     }
-    Ok(Some((disk, logs)))
+    Some((disk, logs))
 }
 
 /// The same disk after the pass 7 has opened a second date, with one row of the pass 5.
 pub fn two_dates(
+    rt: &impl Abort,
     alloc: Global,
     schema: &Schema,
     updates: usize,
     rows: usize,
-) -> Result<Option<MemDisk>, NoMemory> {
-    let Some((mut disk, mut logs)) = one_date(alloc, schema, updates, rows)? else {
-        return Ok(None);
+) -> Option<MemDisk> {
+    let Some((mut disk, mut logs)) = one_date(rt, alloc, schema, updates, rows) else {
+        return None;
     };
-    logs.reserve()?;
+    logs.reserve().expect(rt, "memory");
     if !logs.may_open(7, SECOND) || logs.roll(&mut disk, 7, SECOND).is_err() {
-        return Ok(None);
+        return None;
     }
-    if !add(alloc, &mut disk, &mut logs, schema, 5, 1)? {
-        return Ok(None);
+    if !add(rt, alloc, &mut disk, &mut logs, schema, 5, 1) {
+        return None;
     }
-    Ok(Some(disk))
+    Some(disk)
 }
 
 /// What was loaded of a date: the pass that opened it, the date, the rows of `trade` in its day, and its counts.

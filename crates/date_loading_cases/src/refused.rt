@@ -4,31 +4,37 @@ use crate::plant::{FIRST, FIRST_LOG, SECOND, load, one_date, two_dates};
 use date_loading::{LoadRefusal, Loading};
 use outside_api::Disk;
 use outside_mem::MemDisk;
-use q_values::NoMemory;
 use schema_text::{built_in_schema, read_schema};
 use std::alloc::Global;
-use std::test::Fail;
+use std::process::Abort;
 
 // Why a plant of the built-in tables isn't opened with the schema of this text: the table's name, and how many columns
 // it has among the kept tables and among the given ones.
 fn difference(
+    rt: &impl Abort,
     alloc: Global,
     text: &[u8],
     name: &[u8],
-) -> Result<Option<(bool, usize, usize)>, NoMemory> {
-    let Some(mut disk) = two_dates(alloc, &built_in_schema(alloc)?, 1, 1)? else {
-        return Ok(None);
+) -> Option<(bool, usize, usize)> {
+    let Some(mut disk) = two_dates(
+        rt,
+        alloc,
+        &built_in_schema(alloc).expect(rt, "memory"),
+        1,
+        1,
+    ) else {
+        return None;
     };
     let Ok(given) = read_schema(alloc, text) else {
-        return Ok(None);
+        return None;
     };
     match Loading::open(alloc, &mut disk, &given, FIRST) {
-        Err(LoadRefusal::SchemaDiffers { table, kept, given }) => Ok(Some((
+        Err(LoadRefusal::SchemaDiffers { table, kept, given }) => Some((
             table.bytes() == name && kept.table.bytes() == name && given.table.bytes() == name,
             kept.kinds.len(),
             given.kinds.len(),
-        ))),
-        _ => Ok(None),
+        )),
+        _ => None,
     }
 }
 
@@ -79,20 +85,19 @@ const SCHEMAS: [(&str, &str, usize, usize); 6] = [
 ];
 
 #[test]
-fn another_schema(rt: HostRuntime) -> Result<(), Fail> {
+fn another_schema(rt: HostRuntime) {
     for (text, name, kept, given) in &SCHEMAS {
         assert_eq!(rt;
-            difference(rt.alloc(), text.as_bytes(), name.as_bytes())?,
+            difference(&rt, rt.alloc(), text.as_bytes(), name.as_bytes()),
             Some((true, *kept, *given))
         );
     }
-    Ok(())
 }
 
 // Why a load at this date of a plant of two dates is refused, if it is.
-fn at_date(alloc: Global, date: i32) -> Result<Option<i32>, LoadRefusal> {
+fn at_date(rt: &impl Abort, alloc: Global, date: i32) -> Result<Option<i32>, LoadRefusal> {
     let schema = built_in_schema(alloc)?;
-    let Some(mut disk) = two_dates(alloc, &schema, 1, 1)? else {
+    let Some(mut disk) = two_dates(rt, alloc, &schema, 1, 1) else {
         return Ok(Some(0));
     };
     match load(alloc, &mut disk, &schema, date) {
@@ -103,13 +108,12 @@ fn at_date(alloc: Global, date: i32) -> Result<Option<i32>, LoadRefusal> {
 }
 
 #[test]
-fn an_earlier_date(rt: HostRuntime) -> Result<(), Fail> {
+fn an_earlier_date(rt: HostRuntime) {
     let alloc = rt.alloc();
-    assert!(rt; matches!(at_date(alloc, FIRST), Ok(Some(8768))));
-    assert!(rt; matches!(at_date(alloc, -106_752), Ok(Some(8768))));
-    assert!(rt; matches!(at_date(alloc, SECOND), Ok(None)));
-    assert!(rt; matches!(at_date(alloc, 106_751), Ok(None)));
-    Ok(())
+    assert!(rt; matches!(at_date(&rt, alloc, FIRST), Ok(Some(8768))));
+    assert!(rt; matches!(at_date(&rt, alloc, -106_752), Ok(Some(8768))));
+    assert!(rt; matches!(at_date(&rt, alloc, SECOND), Ok(None)));
+    assert!(rt; matches!(at_date(&rt, alloc, 106_751), Ok(None)));
 }
 
 // What becomes of a file.
@@ -139,18 +143,18 @@ enum Ending {
 }
 
 // The updates of the only date and their greatest pass number, or why they aren't loaded.
-fn after(alloc: Global, file: u64, spoiling: &Spoiling) -> Result<Ending, NoMemory> {
-    let schema = built_in_schema(alloc)?;
-    let Some((mut disk, _logs)) = one_date(alloc, &schema, 1, 1)? else {
-        return Ok(Ending::Other);
+fn after(rt: &impl Abort, alloc: Global, file: u64, spoiling: &Spoiling) -> Ending {
+    let schema = built_in_schema(alloc).expect(rt, "memory");
+    let Some((mut disk, _logs)) = one_date(rt, alloc, &schema, 1, 1) else {
+        return Ending::Other;
     };
     if !spoil(&mut disk, file, spoiling) {
-        return Ok(Ending::Other);
+        return Ending::Other;
     }
     match load(alloc, &mut disk, &schema, FIRST) {
         Ok((founds, _logs)) => match founds.get(0) {
-            Some(found) => Ok(Ending::Updates(found.updates, found.top_by)),
-            None => Ok(Ending::Other),
+            Some(found) => Ending::Updates(found.updates, found.top_by),
+            None => Ending::Other,
         },
         Err(
             LoadRefusal::CorruptLog {
@@ -158,14 +162,14 @@ fn after(alloc: Global, file: u64, spoiling: &Spoiling) -> Result<Ending, NoMemo
                 chunks,
                 bytes,
             },
-        ) => Ok(Ending::Log(date, chunks, bytes)),
-        Err(LoadRefusal::BadManifest { bytes }) => Ok(Ending::Manifest(bytes)),
-        Err(_why) => Ok(Ending::Other),
+        ) => Ending::Log(date, chunks, bytes),
+        Err(LoadRefusal::BadManifest { bytes }) => Ending::Manifest(bytes),
+        Err(_why) => Ending::Other,
     }
 }
 
 #[test]
-fn damaged_log(rt: HostRuntime) -> Result<(), Fail> {
+fn damaged_log(rt: HostRuntime) {
     let alloc = rt.alloc();
     let cases = [
         (Spoiling::Cut(97), Ending::Updates(1, 3)),
@@ -184,38 +188,45 @@ fn damaged_log(rt: HostRuntime) -> Result<(), Fail> {
         ),
     ];
     for (spoiling, ending) in &cases {
-        assert_eq!(rt; after(alloc, FIRST_LOG, spoiling)?, *ending);
+        assert_eq!(rt; after(&rt, alloc, FIRST_LOG, spoiling), *ending);
     }
-    Ok(())
 }
 
 // The size of the manifest of a plant of one date.
-fn manifest_size(alloc: Global) -> Result<u64, NoMemory> {
-    match one_date(alloc, &built_in_schema(alloc)?, 1, 1)? {
-        Some((disk, _logs)) => Ok(disk.bytes_of(0).len() as u64),
-        None => Ok(0),
+fn manifest_size(rt: &impl Abort, alloc: Global) -> u64 {
+    match one_date(
+        rt,
+        alloc,
+        &built_in_schema(alloc).expect(rt, "memory"),
+        1,
+        1,
+    ) {
+        Some((disk, _logs)) => disk.bytes_of(0).len() as u64,
+        None => 0,
     }
 }
 
 // The record of a date has 18 bytes, and one more gate follows it.
 #[test]
-fn damaged_manifest(rt: HostRuntime) -> Result<(), Fail> {
+fn damaged_manifest(rt: HostRuntime) {
     let alloc = rt.alloc();
-    let size = manifest_size(alloc)?;
+    let size = manifest_size(&rt, alloc);
     assert!(rt; size > 19);
     let last = size.wrapping_sub(19);
     assert_eq!(rt;
-        after(alloc, 0, &Spoiling::Put(0, b"x"))?,
+        after(&rt, alloc, 0, &Spoiling::Put(0, b"x")),
         Ending::Manifest(0)
     );
-    assert_eq!(rt; after(alloc, 0, &Spoiling::Cut(0))?, Ending::Manifest(0));
     assert_eq!(rt;
-        after(alloc, 0, &Spoiling::Cut(size.wrapping_sub(1)))?,
+        after(&rt, alloc, 0, &Spoiling::Cut(0)),
+        Ending::Manifest(0)
+    );
+    assert_eq!(rt;
+        after(&rt, alloc, 0, &Spoiling::Cut(size.wrapping_sub(1))),
         Ending::Manifest(last)
     );
     assert_eq!(rt;
-        after(alloc, 0, &Spoiling::Put(last.wrapping_add(5), b"\x03"))?,
+        after(&rt, alloc, 0, &Spoiling::Put(last.wrapping_add(5), b"\x03")),
         Ending::Manifest(last)
     );
-    Ok(())
 }

@@ -3,10 +3,9 @@ use crate::plant::{FIRST, Found, SECOND, add, load, one_date, two_dates};
 use date_loading::LoadRefusal;
 use date_logs::format;
 use outside_mem::{Leaving, MemDisk};
-use q_values::NoMemory;
 use schema_text::built_in_schema;
 use std::alloc::Global;
-use std::test::Fail;
+use std::process::Abort;
 
 // The first date, where it has this many updates, each of as many rows.
 fn first(updates: u32, rows: u32) -> Found {
@@ -32,9 +31,14 @@ const LAST: Found = Found {
 };
 
 // Whether both dates are loaded from what a crash leaves, as they were written.
-fn are_loaded(alloc: Global, updates: u32, rows: u32) -> Result<bool, LoadRefusal> {
+fn are_loaded(
+    rt: &impl Abort,
+    alloc: Global,
+    updates: u32,
+    rows: u32,
+) -> Result<bool, LoadRefusal> {
     let schema = built_in_schema(alloc)?;
-    let Some(disk) = two_dates(alloc, &schema, updates as usize, rows as usize)? else {
+    let Some(disk) = two_dates(rt, alloc, &schema, updates as usize, rows as usize) else {
         return Ok(false);
     };
     let mut left = disk.restart(alloc, Leaving::Shortest)?;
@@ -44,17 +48,15 @@ fn are_loaded(alloc: Global, updates: u32, rows: u32) -> Result<bool, LoadRefusa
 }
 
 #[test]
-fn two_dates_are_loaded(rt: HostRuntime) -> Result<(), Fail> {
+fn two_dates_are_loaded(rt: HostRuntime) {
     let alloc = rt.alloc();
-    assert!(rt; matches!(are_loaded(alloc, 0, 1), Ok(true)));
-    assert!(rt; matches!(are_loaded(alloc, 3, 2), Ok(true)));
-    Ok(())
+    assert!(rt; matches!(are_loaded(&rt, alloc, 0, 1), Ok(true)));
+    assert!(rt; matches!(are_loaded(&rt, alloc, 3, 2), Ok(true)));
 }
 
 #[test]
-fn a_thousand_updates_of_a_hundred_rows(rt: HostRuntime) -> Result<(), Fail> {
-    assert!(rt; matches!(are_loaded(rt.alloc(), 1_000, 100), Ok(true)));
-    Ok(())
+fn a_thousand_updates_of_a_hundred_rows(rt: HostRuntime) {
+    assert!(rt; matches!(are_loaded(&rt, rt.alloc(), 1_000, 100), Ok(true)));
 }
 
 // Whether a plant that was made and has opened no date is loaded.
@@ -69,27 +71,25 @@ fn is_undated(alloc: Global) -> Result<bool, LoadRefusal> {
 }
 
 #[test]
-fn no_date_is_loaded(rt: HostRuntime) -> Result<(), Fail> {
+fn no_date_is_loaded(rt: HostRuntime) {
     assert!(rt; matches!(is_undated(rt.alloc()), Ok(true)));
-    Ok(())
 }
 
 // Whether an update that is added after a load is loaded next time.
-fn goes_on(alloc: Global) -> Result<bool, LoadRefusal> {
+fn goes_on(rt: &impl Abort, alloc: Global) -> Result<bool, LoadRefusal> {
     let schema = built_in_schema(alloc)?;
-    let Some((mut disk, _logs)) = one_date(alloc, &schema, 2, 1)? else {
+    let Some((mut disk, _logs)) = one_date(rt, alloc, &schema, 2, 1) else {
         return Ok(false);
     };
     let (_founds, Some(mut logs)) = load(alloc, &mut disk, &schema, FIRST)? else {
         return Ok(false);
     };
-    let added = add(alloc, &mut disk, &mut logs, &schema, 3, 1)?;
+    let added = add(rt, alloc, &mut disk, &mut logs, &schema, 3, 1);
     let (founds, _logs) = load(alloc, &mut disk, &schema, FIRST)?;
     Ok(added && founds.as_slice() == [first(3, 1)].as_slice())
 }
 
 #[test]
-fn a_loaded_plant_goes_on(rt: HostRuntime) -> Result<(), Fail> {
-    assert!(rt; matches!(goes_on(rt.alloc()), Ok(true)));
-    Ok(())
+fn a_loaded_plant_goes_on(rt: HostRuntime) {
+    assert!(rt; matches!(goes_on(&rt, rt.alloc()), Ok(true)));
 }

@@ -1,10 +1,9 @@
 //! Bytes that are no object: each refusal, with its offset.
 
-use crate::refusal_rows::{deep, refused};
+use crate::refusal_rows::{DEEP, REFUSED};
 use ipc_codec::{DecodeRefusal, Order, decode, measure};
-use q_values::NoMemory;
 use std::alloc::Global;
-use std::test::Fail;
+use std::process::Abort;
 
 // Whether both readers refuse the bytes so.
 fn is_refused(alloc: Global, bytes: &[u8], order: Order, refusal: DecodeRefusal) -> bool {
@@ -12,26 +11,27 @@ fn is_refused(alloc: Global, bytes: &[u8], order: Order, refusal: DecodeRefusal)
 }
 
 // An object within `depth` lists of one item.
-fn nested(alloc: Global, depth: usize, inner: &[u8]) -> Result<Vec<u8>, NoMemory> {
+fn nested(rt: &impl Abort, alloc: Global, depth: usize, inner: &[u8]) -> Vec<u8> {
     let mut bytes = Vec::new(alloc);
     for _ in 0..depth {
-        bytes.extend_from_slice(b"\0\0\x01\0\0\0")?;
+        bytes
+            .extend_from_slice(b"\0\0\x01\0\0\0")
+            .expect(rt, "memory");
     }
-    bytes.extend_from_slice(inner)?;
-    Ok(bytes)
+    bytes.extend_from_slice(inner).expect(rt, "memory");
+    bytes
 }
 
 #[test]
-fn each_refusal_with_its_place(rt: HostRuntime) -> Result<(), Fail> {
-    for (name, order, bytes, refusal) in refused() {
-        assert!(rt; is_refused(rt.alloc(), bytes, order, refusal), "{name}");
+fn each_refusal_with_its_place(rt: HostRuntime) {
+    for (name, order, bytes, refusal) in &REFUSED {
+        assert!(rt; is_refused(rt.alloc(), bytes, *order, *refusal), "{name}");
     }
-    for (name, depth, inner, refusal) in deep() {
-        let bytes = nested(rt.alloc(), depth, inner)?;
+    for (name, depth, inner, refusal) in &DEEP {
+        let bytes = nested(&rt, rt.alloc(), *depth, inner);
         assert!(rt;
-            is_refused(rt.alloc(), &bytes, Order::Little, refusal),
+            is_refused(rt.alloc(), &bytes, Order::Little, *refusal),
             "{name}"
         );
     }
-    Ok(())
 }

@@ -3,9 +3,8 @@ use crate::steps::{FILE, finds, payload, started};
 use gated_journal::{Journal, JournalRefusal};
 use outside_api::Disk;
 use outside_mem::MemDisk;
-use q_values::NoMemory;
 use std::alloc::Global;
-use std::test::Fail;
+use std::process::Abort;
 
 fn disk_of(alloc: Global, bytes: &[u8]) -> Option<MemDisk> {
     let mut disk = MemDisk::new(alloc);
@@ -16,78 +15,83 @@ fn disk_of(alloc: Global, bytes: &[u8]) -> Option<MemDisk> {
 }
 
 // Whether a load of these bytes is refused with these two numbers.
-fn is_corrupt(alloc: Global, file: &[u8], records: u64, bytes: u64) -> Result<bool, NoMemory> {
+fn is_corrupt(alloc: Global, file: &[u8], records: u64, bytes: u64) -> bool {
     let Some(mut disk) = disk_of(alloc, file) else {
-        return Ok(false);
+        return false;
     };
     match Journal::load(alloc, &mut disk, FILE) {
-        Ok(_found) => Ok(false),
-        Err(refusal) => Ok(refusal == JournalRefusal::Corrupt { records, bytes }),
+        Ok(_found) => false,
+        Err(refusal) => refusal == JournalRefusal::Corrupt { records, bytes },
     }
 }
 
-fn reads(alloc: Global, file: &[u8], wanted: &[u8]) -> Result<bool, NoMemory> {
+fn reads(rt: &impl Abort, alloc: Global, file: &[u8], wanted: &[u8]) -> bool {
     let Some(mut disk) = disk_of(alloc, file) else {
-        return Ok(false);
+        return false;
     };
-    finds(alloc, &mut disk, wanted)
+    finds(rt, alloc, &mut disk, wanted)
 }
 
-fn bytes_of_two(alloc: Global) -> Result<Option<MemDisk>, NoMemory> {
-    let Some(mut disk) = started(alloc)? else {
-        return Ok(None);
+fn bytes_of_two(rt: &impl Abort, alloc: Global) -> Option<MemDisk> {
+    let Some(mut disk) = started(rt, alloc) else {
+        return None;
     };
-    let second = payload(alloc, b"c")?;
+    let second = payload(rt, alloc, b"c");
     let Ok((mut journal, _records)) = Journal::load(alloc, &mut disk, FILE) else {
-        return Ok(None);
+        return None;
     };
     if journal.append(&mut disk, &second).is_err() {
-        return Ok(None);
+        return None;
     }
-    Ok(Some(disk))
+    Some(disk)
 }
 
 #[test]
-fn journal_bytes(rt: HostRuntime) -> Result<(), Fail> {
+fn journal_bytes(rt: HostRuntime) {
     let alloc = rt.alloc();
     let mut fresh = MemDisk::new(alloc);
     let made = Journal::fresh(&mut fresh, FILE).is_ok();
     assert!(rt; made);
     assert_eq!(rt; fresh.bytes_of(FILE), b"qtplant1\x00".as_slice());
-    let disk = bytes_of_two(alloc)?.ok_or("a fault")?;
+    let disk = bytes_of_two(&rt, alloc).expect(&rt, "a fault");
     assert_eq!(rt;
         disk.bytes_of(FILE),
         b"qtplant1\xa5\x02\0\0\0ab\xa5\x01\0\0\0c\0".as_slice()
     );
-    Ok(())
 }
 
 #[test]
-fn records_end_at_a_closed_gate(rt: HostRuntime) -> Result<(), Fail> {
+fn records_end_at_a_closed_gate(rt: HostRuntime) {
     let alloc = rt.alloc();
-    assert!(rt; reads(alloc, b"qtplant1\0", b"")?);
-    assert!(rt; reads(alloc, b"qtplant1\x7f\x01\0\0\0x", b"")?);
-    assert!(rt; reads(alloc, b"qtplant1\xa5\x01\0\0\0x\0\xa5\x01\0\0\0y\0", b"x,")?);
+    assert!(rt; reads(&rt, alloc, b"qtplant1\0", b""));
+    assert!(rt; reads(&rt, alloc, b"qtplant1\x7f\x01\0\0\0x", b""));
     assert!(rt;
         reads(
+            &rt,
+            alloc,
+            b"qtplant1\xa5\x01\0\0\0x\0\xa5\x01\0\0\0y\0",
+            b"x,"
+        )
+    );
+    assert!(rt;
+        reads(
+            &rt,
             alloc,
             b"qtplant1\xa5\x01\0\0\0x\xa5\x02\0\0\0yz\x01",
             b"x,yz,"
-        )?
+        )
     );
-    Ok(())
 }
 
 #[test]
-fn corrupt_journals(rt: HostRuntime) -> Result<(), Fail> {
+fn corrupt_journals(rt: HostRuntime) {
     let alloc = rt.alloc();
-    assert!(rt; is_corrupt(alloc, b"", 0, 0)?);
-    assert!(rt; is_corrupt(alloc, b"qtplant1", 0, 0)?);
-    assert!(rt; is_corrupt(alloc, b"qtplant2\0", 0, 0)?);
-    assert!(rt; is_corrupt(alloc, b"qtplant1\xa5", 0, 8)?);
-    assert!(rt; is_corrupt(alloc, b"qtplant1\xa5\x01\0\0", 0, 8)?);
-    assert!(rt; is_corrupt(alloc, b"qtplant1\xa5\x01\0\0\0x", 0, 8)?);
-    assert!(rt; is_corrupt(alloc, b"qtplant1\xa5\x00\0\0\0\0\0", 0, 8)?);
-    assert!(rt; is_corrupt(alloc, b"qtplant1\xa5\x01\0\0\0x\xa5\0\0\0\x80\0", 1, 14)?);
-    Ok(())
+    assert!(rt; is_corrupt(alloc, b"", 0, 0));
+    assert!(rt; is_corrupt(alloc, b"qtplant1", 0, 0));
+    assert!(rt; is_corrupt(alloc, b"qtplant2\0", 0, 0));
+    assert!(rt; is_corrupt(alloc, b"qtplant1\xa5", 0, 8));
+    assert!(rt; is_corrupt(alloc, b"qtplant1\xa5\x01\0\0", 0, 8));
+    assert!(rt; is_corrupt(alloc, b"qtplant1\xa5\x01\0\0\0x", 0, 8));
+    assert!(rt; is_corrupt(alloc, b"qtplant1\xa5\x00\0\0\0\0\0", 0, 8));
+    assert!(rt; is_corrupt(alloc, b"qtplant1\xa5\x01\0\0\0x\xa5\0\0\0\x80\0", 1, 14));
 }

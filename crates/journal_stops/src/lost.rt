@@ -1,16 +1,14 @@
 //! A sync that fails and drops what it should have written, later calls that succeed, and a crash after them.
-ghost use Rattle.std.specs.Prelude.{◌<◌, length};
 ghost use Rattle.gated_journal.specs.Journal.{HasLastGate};
 ghost use Rattle.outside_mem.specs.MemDisk.{shown_by};
 
-use crate::faults::{fails_append, fails_mend};
-use crate::steps::{FILE, finds, one_failing, payload, started};
-use gated_journal::{Journal, Payload};
+use crate::steps::{
+    self, FILE, OnDisk, fails_append, fails_mend, loaded, mends, one_failing, payload,
+};
 use outside_api::Disk;
-use outside_mem::{Calling, Callings, Leaving, MemDisk, RangeLeft};
-use q_values::NoMemory;
+use outside_mem::{Calling, Leaving, MemDisk, RangeLeft};
 use std::alloc::Global;
-use std::test::Fail;
+use std::process::Abort;
 
 // Which images a crash leaves.
 const LEFT: [Leaving; 8] = [
@@ -36,94 +34,68 @@ const LEFT: [Leaving; 8] = [
     },
 ];
 
-// A repair that is to succeed.
-fn repairs(alloc: Global, disk: &mut MemDisk, journal: &mut Journal) -> bool
-    requires has_gate { HasLastGate (shown_by disk.old) journal.old }
-    ensures has_gate { HasLastGate (shown_by disk.new) journal.new }
+// An append of `fg` that is to succeed.
+fn adds(rt: &impl Abort, alloc: Global, it: &mut OnDisk) -> bool
+    requires has_gate { HasLastGate (shown_by it.old.disk) it.old.journal }
 {
-    disk.plan(Callings::new(alloc), None);
-    journal.mend(disk).is_ok()
-}
-
-// An append that is to succeed.
-fn adds(disk: &mut MemDisk, journal: &mut Journal, payload: &Payload) -> bool
-    requires some { 0 < length payload.now.bytes }
-    requires has_gate { HasLastGate (shown_by disk.old) journal.old }
-{
-    journal.is_clean() && journal.append(disk, payload).is_ok()
+    let third = payload(rt, alloc, b"fg");
+    it.journal.is_clean() && it.journal.append(&mut it.disk, &third).is_ok()
 }
 
 // An append whose sync after `place` calls fails and loses, a repair, and a crash.
 fn mends_and_stops(
+    rt: &impl Abort,
     alloc: Global,
     place: usize,
     leaving: Leaving,
     wanted: &[u8],
-) -> Result<bool, NoMemory> {
-    let second = payload(alloc, b"cde")?;
-    let callings = one_failing(alloc, place, Calling::FailsDone)?;
-    let Some(mut disk) = started(alloc)? else {
-        return Ok(false);
+) -> bool {
+    let Some(mut it) = loaded(rt, alloc) else {
+        return false;
     };
-    let Ok((mut journal, _records)) = Journal::load(alloc, &mut disk, FILE) else {
-        return Ok(false);
-    };
-    let failed = fails_append(&mut disk, &mut journal, &second, callings);
-    let mended = repairs(alloc, &mut disk, &mut journal);
-    let mut left = disk.restart(alloc, leaving)?;
-    Ok(failed && mended && finds(alloc, &mut left, wanted)?)
+    let failed = fails_append(rt, alloc, &mut it, place, Calling::FailsDone);
+    let mended = mends(alloc, &mut it);
+    failed && mended && steps::leaves(rt, alloc, &it.disk, leaving, wanted)
 }
 
 // The same, with an append after the repair.
 fn adds_and_stops(
+    rt: &impl Abort,
     alloc: Global,
     place: usize,
     leaving: Leaving,
     wanted: &[u8],
-) -> Result<bool, NoMemory> {
-    let second = payload(alloc, b"cde")?;
-    let third = payload(alloc, b"fg")?;
-    let callings = one_failing(alloc, place, Calling::FailsDone)?;
-    let Some(mut disk) = started(alloc)? else {
-        return Ok(false);
+) -> bool {
+    let Some(mut it) = loaded(rt, alloc) else {
+        return false;
     };
-    let Ok((mut journal, _records)) = Journal::load(alloc, &mut disk, FILE) else {
-        return Ok(false);
-    };
-    let failed = fails_append(&mut disk, &mut journal, &second, callings);
-    let mended = repairs(alloc, &mut disk, &mut journal);
-    let added = adds(&mut disk, &mut journal, &third);
-    let mut left = disk.restart(alloc, leaving)?;
-    Ok(failed && mended && added && finds(alloc, &mut left, wanted)?)
+    let failed = fails_append(rt, alloc, &mut it, place, Calling::FailsDone);
+    let mended = mends(alloc, &mut it);
+    let added = adds(rt, alloc, &mut it);
+    failed && mended && added && steps::leaves(rt, alloc, &it.disk, leaving, wanted)
 }
 
 // An append whose last sync fails and loses, a repair whose sync does so too, and where that is asked another repair; then a
 // crash.
 fn mends_twice_and_stops(
+    rt: &impl Abort,
     alloc: Global,
     again: bool,
     leaving: Leaving,
     wanted: &[u8],
-) -> Result<bool, NoMemory> {
-    let second = payload(alloc, b"cde")?;
-    let callings = one_failing(alloc, 3, Calling::FailsDone)?;
-    let mend_callings = one_failing(alloc, 1, Calling::FailsDone)?;
-    let Some(mut disk) = started(alloc)? else {
-        return Ok(false);
+) -> bool {
+    let Some(mut it) = loaded(rt, alloc) else {
+        return false;
     };
-    let Ok((mut journal, _records)) = Journal::load(alloc, &mut disk, FILE) else {
-        return Ok(false);
-    };
-    let failed = fails_append(&mut disk, &mut journal, &second, callings);
-    let failed_mend = fails_mend(&mut disk, &mut journal, mend_callings);
-    let mended = !again || repairs(alloc, &mut disk, &mut journal);
-    let mut left = disk.restart(alloc, leaving)?;
-    Ok(failed && failed_mend && mended && finds(alloc, &mut left, wanted)?)
+    let failed = fails_append(rt, alloc, &mut it, 3, Calling::FailsDone);
+    let failed_mend = fails_mend(rt, alloc, &mut it, 1, Calling::FailsDone);
+    let mended = !again || mends(alloc, &mut it);
+    failed && failed_mend && mended && steps::leaves(rt, alloc, &it.disk, leaving, wanted)
 }
 
 // A write, a sync that fails and loses, where that is asked the same write, and a sync that succeeds.
-fn written_again(alloc: Global, again: bool) -> Result<Option<MemDisk>, NoMemory> {
-    let callings = one_failing(alloc, 1, Calling::FailsDone)?;
+fn written_again(rt: &impl Abort, alloc: Global, again: bool) -> Option<MemDisk> {
+    let callings = one_failing(rt, alloc, 1, Calling::FailsDone);
     let mut disk = MemDisk::new(alloc);
     disk.plan(callings, None);
     let wrote = disk.write_at(FILE, 0, b"ab").is_ok();
@@ -131,66 +103,63 @@ fn written_again(alloc: Global, again: bool) -> Result<Option<MemDisk>, NoMemory
     let wrote_again = !again || disk.write_at(FILE, 0, b"ab").is_ok();
     let synced = disk.sync(FILE).is_ok();
     if wrote && failed && wrote_again && synced {
-        return Ok(Some(disk));
+        return Some(disk);
     }
-    Ok(None)
+    None
 }
 
-fn leaves(alloc: Global, again: bool, leaving: Leaving, wanted: &[u8]) -> Result<bool, NoMemory> {
-    match written_again(alloc, again)? {
-        Some(disk) => Ok(
-            disk.bytes_of(FILE) == b"ab".as_slice()
-                && disk.restart(alloc, leaving)?.bytes_of(FILE) == wanted,
-        ),
-        None => Ok(false),
+fn leaves(rt: &impl Abort, alloc: Global, again: bool, leaving: Leaving, wanted: &[u8]) -> bool {
+    match written_again(rt, alloc, again) {
+        Some(disk) => disk.bytes_of(FILE) == b"ab".as_slice()
+            && disk
+                .restart(alloc, leaving)
+                .expect(rt, "memory")
+                .bytes_of(FILE)
+                == wanted,
+        None => false,
     }
 }
 
 #[test]
-fn lost_until_written_anew(rt: HostRuntime) -> Result<(), Fail> {
+fn lost_until_written_anew(rt: HostRuntime) {
     let alloc = rt.alloc();
-    assert!(rt; leaves(alloc, false, Leaving::Torn(0x7a), b"zz")?);
-    assert!(rt; leaves(alloc, false, Leaving::Shortest, b"")?);
-    assert!(rt; leaves(alloc, true, Leaving::Torn(0x7a), b"ab")?);
-    assert!(rt; leaves(alloc, true, Leaving::Shortest, b"ab")?);
-    Ok(())
+    assert!(rt; leaves(&rt, alloc, false, Leaving::Torn(0x7a), b"zz"));
+    assert!(rt; leaves(&rt, alloc, false, Leaving::Shortest, b""));
+    assert!(rt; leaves(&rt, alloc, true, Leaving::Torn(0x7a), b"ab"));
+    assert!(rt; leaves(&rt, alloc, true, Leaving::Shortest, b"ab"));
 }
 
 #[test]
-fn lost_record_is_not_read(rt: HostRuntime) -> Result<(), Fail> {
-    let alloc = rt.alloc();
-    for leaving in LEFT {
-        assert!(rt; mends_and_stops(alloc, 1, leaving, b"ab,")?);
-    }
-    Ok(())
-}
-
-#[test]
-fn lost_gate_is_mended(rt: HostRuntime) -> Result<(), Fail> {
+fn lost_record_is_not_read(rt: HostRuntime) {
     let alloc = rt.alloc();
     for leaving in LEFT {
-        assert!(rt; mends_and_stops(alloc, 3, leaving, b"ab,")?);
+        assert!(rt; mends_and_stops(&rt, alloc, 1, leaving, b"ab,"));
     }
-    Ok(())
 }
 
 #[test]
-fn append_after_a_lost_one(rt: HostRuntime) -> Result<(), Fail> {
+fn lost_gate_is_mended(rt: HostRuntime) {
     let alloc = rt.alloc();
     for leaving in LEFT {
-        assert!(rt; adds_and_stops(alloc, 1, leaving, b"ab,fg,")?);
-        assert!(rt; adds_and_stops(alloc, 3, leaving, b"ab,fg,")?);
+        assert!(rt; mends_and_stops(&rt, alloc, 3, leaving, b"ab,"));
     }
-    Ok(())
 }
 
 #[test]
-fn lost_repair_is_repaired(rt: HostRuntime) -> Result<(), Fail> {
+fn append_after_a_lost_one(rt: HostRuntime) {
     let alloc = rt.alloc();
-    assert!(rt; mends_twice_and_stops(alloc, false, Leaving::Torn(0), b"ab,")?);
-    assert!(rt; mends_twice_and_stops(alloc, false, Leaving::Torn(0xa5), b"ab,cde,")?);
     for leaving in LEFT {
-        assert!(rt; mends_twice_and_stops(alloc, true, leaving, b"ab,")?);
+        assert!(rt; adds_and_stops(&rt, alloc, 1, leaving, b"ab,fg,"));
+        assert!(rt; adds_and_stops(&rt, alloc, 3, leaving, b"ab,fg,"));
     }
-    Ok(())
+}
+
+#[test]
+fn lost_repair_is_repaired(rt: HostRuntime) {
+    let alloc = rt.alloc();
+    assert!(rt; mends_twice_and_stops(&rt, alloc, false, Leaving::Torn(0), b"ab,"));
+    assert!(rt; mends_twice_and_stops(&rt, alloc, false, Leaving::Torn(0xa5), b"ab,cde,"));
+    for leaving in LEFT {
+        assert!(rt; mends_twice_and_stops(&rt, alloc, true, leaving, b"ab,"));
+    }
 }

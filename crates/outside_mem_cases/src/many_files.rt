@@ -1,9 +1,8 @@
 //! A disk with many files.
 use outside_api::Disk;
 use outside_mem::{Leaving, MemDisk};
-use q_values::NoMemory;
 use std::alloc::Global;
-use std::test::Fail;
+use std::process::Abort;
 
 // The number of the file of an index: the numbers neither rise nor fall.
 fn number_of(index: u64) -> u64 {
@@ -36,16 +35,17 @@ fn has_all(disk: &MemDisk) -> bool {
     true
 }
 
-fn keeps_many(alloc: Global) -> Result<bool, NoMemory> {
+fn keeps_many(rt: &impl Abort, alloc: Global) -> bool {
     let mut disk = MemDisk::new(alloc);
     let filled = fill(&mut disk);
-    let restarted = disk.restart(alloc, Leaving::Torn(0xff))?;
-    Ok(filled && has_all(&disk) && has_all(&restarted) && restarted.bytes_of(10_007).is_empty())
+    let restarted = disk
+        .restart(alloc, Leaving::Torn(0xff))
+        .expect(rt, "memory");
+    filled && has_all(&disk) && has_all(&restarted) && restarted.bytes_of(10_007).is_empty()
 }
 
 #[test]
-fn many_files(rt: HostRuntime) -> Result<(), Fail> {
-    let kept = keeps_many(rt.alloc())?;
+fn many_files(rt: HostRuntime) {
+    let kept = keeps_many(&rt, rt.alloc());
     assert!(rt; kept);
-    Ok(())
 }

@@ -4,12 +4,12 @@ use outside_mem::{
     MemClock, MemLink, MemRecorder, MemTap, Moments, Piece, Pieces, Receiving, Receivings,
     SteadyClock, Taking, Takings,
 };
-use q_values::{Column, Columns, LongKind, Names, NoMemory, Sym, TableValue, Text, Turn, Vector};
+use q_values::{Column, Columns, LongKind, Names, Sym, TableValue, Text, Turn, Vector};
 use std::alloc::Global;
-use std::test::Fail;
+use std::process::Abort;
 
-fn piece(alloc: Global, bytes: &[u8]) -> Result<Piece, NoMemory> {
-    Ok(Piece::Bytes(Text::from_vec(Vec::from_slice(alloc, bytes)?)))
+fn piece(rt: &impl Abort, alloc: Global, bytes: &[u8]) -> Piece {
+    Piece::Bytes(Text::from_vec(Vec::from_slice(alloc, bytes).expect(rt, "memory")))
 }
 
 fn read_two<L: Link>(link: &mut L) -> (Got, [u8; 2]) {
@@ -32,28 +32,28 @@ fn note_lengths<N: Recorder>(recorder: &mut N, lengths: &[u64]) {
     }
 }
 
-fn pieces(alloc: Global) -> Result<Pieces, NoMemory> {
+fn pieces(rt: &impl Abort, alloc: Global) -> Pieces {
     let mut pieces = Pieces::new(alloc);
-    pieces.push(piece(alloc, b"abc")?)?;
-    pieces.push(Piece::Fault)?;
-    pieces.push(piece(alloc, b"")?)?;
-    pieces.push(Piece::Idle)?;
-    pieces.push(piece(alloc, b"d")?)?;
-    Ok(pieces)
+    pieces.push(piece(rt, alloc, b"abc")).expect(rt, "memory");
+    pieces.push(Piece::Fault).expect(rt, "memory");
+    pieces.push(piece(rt, alloc, b"")).expect(rt, "memory");
+    pieces.push(Piece::Idle).expect(rt, "memory");
+    pieces.push(piece(rt, alloc, b"d")).expect(rt, "memory");
+    pieces
 }
 
-fn takings(alloc: Global) -> Result<Takings, NoMemory> {
+fn takings(rt: &impl Abort, alloc: Global) -> Takings {
     let mut takings = Takings::new(alloc);
-    takings.push(Taking::Front(0))?;
-    takings.push(Taking::All)?;
-    takings.push(Taking::Front(1))?;
-    Ok(takings)
+    takings.push(Taking::Front(0)).expect(rt, "memory");
+    takings.push(Taking::All).expect(rt, "memory");
+    takings.push(Taking::Front(1)).expect(rt, "memory");
+    takings
 }
 
-fn scripted(alloc: Global) -> Result<MemLink, NoMemory> {
-    let pieces = pieces(alloc)?;
-    let takings = takings(alloc)?;
-    Ok(MemLink::script(alloc, pieces, takings))
+fn scripted(rt: &impl Abort, alloc: Global) -> MemLink {
+    let pieces = pieces(rt, alloc);
+    let takings = takings(rt, alloc);
+    MemLink::script(alloc, pieces, takings)
 }
 
 fn five_reads<L: Link>(link: &mut L) -> [(Got, [u8; 2]); 5] {
@@ -67,8 +67,8 @@ fn five_reads<L: Link>(link: &mut L) -> [(Got, [u8; 2]); 5] {
 }
 
 #[test]
-fn idle_and_link_faults(rt: HostRuntime) -> Result<(), Fail> {
-    let mut link = scripted(rt.alloc())?;
+fn idle_and_link_faults(rt: HostRuntime) {
+    let mut link = scripted(&rt, rt.alloc());
     let wanted = [
         (Got::Bytes(2), *b"ab"),
         (Got::Bytes(1), *b"c\0"),
@@ -78,58 +78,56 @@ fn idle_and_link_faults(rt: HostRuntime) -> Result<(), Fail> {
     ];
     assert_eq!(rt; five_reads(&mut link), wanted);
     assert_eq!(rt; five_reads(&mut link), [(Got::End, [0, 0]); 5]);
-    Ok(())
 }
 
 #[test]
-fn first_write_fails(rt: HostRuntime) -> Result<(), Fail> {
-    let mut link = scripted(rt.alloc())?;
+fn first_write_fails(rt: HostRuntime) {
+    let mut link = scripted(&rt, rt.alloc());
     assert!(rt; write_to(&mut link, b"xy").is_err());
     assert_eq!(rt; link.taken().len(), 0);
     assert!(rt; write_to(&mut link, b"xy").is_ok());
     assert!(rt; write_to(&mut link, b"xy").is_err());
     assert_eq!(rt; link.taken(), b"xyx".as_slice());
-    Ok(())
 }
 
 #[test]
-fn ample_memory_calls(rt: HostRuntime) -> Result<(), Fail> {
-    let mut recorder = MemRecorder::with_room(rt.alloc(), 2)?;
+fn ample_memory_calls(rt: HostRuntime) {
+    let mut recorder = MemRecorder::with_room(rt.alloc(), 2).expect(&rt, "memory");
     note_lengths(&mut recorder, &[7, 8]);
     assert!(rt; !recorder.is_full());
     note_lengths(&mut recorder, &[9]);
     assert!(rt; recorder.is_full());
     let wanted = [Turn::Answered { length: 7 }, Turn::Answered { length: 8 }];
     assert_eq!(rt; recorder.turns(), wanted.as_slice());
-    Ok(())
 }
 
 #[test]
-fn last_reading_is_repeated(rt: HostRuntime) -> Result<(), Fail> {
+fn last_reading_is_repeated(rt: HostRuntime) {
     let mut moments = Moments::new(rt.alloc());
-    moments.push(5)?;
-    moments.push(-7)?;
+    moments.push(5).expect(&rt, "memory");
+    moments.push(-7).expect(&rt, "memory");
     assert_eq!(rt; moments_of(&mut MemClock::new(moments)), [5, -7, -7]);
     assert_eq!(rt; moments_of(&mut SteadyClock::new(9)), [9, 9, 9]);
-    Ok(())
 }
 
-fn rows(alloc: Global, price: i64) -> Result<TapMessage, NoMemory> {
+fn rows(rt: &impl Abort, alloc: Global, price: i64) -> TapMessage {
     let mut names = Names::new(alloc);
-    names.push(Sym::copied(alloc, b"price")?)?;
+    names.push(Sym::copied(alloc, b"price").expect(rt, "memory")).expect(rt, "memory");
+    let mut prices = Vec::new(alloc);
+    prices.push(price).expect(rt, "memory");
+    prices.push(price).expect(rt, "memory");
     let mut columns = Columns::new(alloc);
-    let prices = vec![in alloc; price; 2]?;
-    columns.push(Vector::from_column(Column::Longs(LongKind::Long, prices)))?;
-    let table = Sym::copied(alloc, b"trade")?;
+    columns.push(Vector::from_column(Column::Longs(LongKind::Long, prices))).expect(rt, "memory");
+    let table = Sym::copied(alloc, b"trade").expect(rt, "memory");
     let rows = TableValue { names, columns };
-    Ok(TapMessage::Rows { table, rows })
+    TapMessage::Rows { table, rows }
 }
 
-fn tap(alloc: Global) -> Result<MemTap, NoMemory> {
+fn tap(rt: &impl Abort, alloc: Global) -> MemTap {
     let mut receivings = Receivings::new(alloc);
-    receivings.push(Receiving::Succeeds)?;
-    receivings.push(Receiving::Fails)?;
-    MemTap::with_room(alloc, 2, receivings)
+    receivings.push(Receiving::Succeeds).expect(rt, "memory");
+    receivings.push(Receiving::Fails).expect(rt, "memory");
+    MemTap::with_room(alloc, 2, receivings).expect(rt, "memory")
 }
 
 // Whether a message is of `trade`, with two rows of this price.
@@ -149,23 +147,24 @@ fn is_kept(message: &TapMessage, price: i64) -> bool {
 
 // It takes the first message, the third and the fourth, and has room for two.
 #[test]
-fn tap_with_room_for_two(rt: HostRuntime) -> Result<(), Fail> {
+fn tap_with_room_for_two(rt: HostRuntime) {
     let alloc = rt.alloc();
-    let mut tap = tap(alloc)?;
-    let taken = [
-        tap.take(&rows(alloc, 1)?).is_ok(),
-        tap.take(&rows(alloc, 2)?).is_ok(),
-        tap.take(&rows(alloc, 3)?).is_ok(),
-    ];
-    assert_eq!(rt; taken, [true, false, true]);
+    let mut tap = tap(&rt, alloc);
+    assert!(rt; tap.take(&rows(&rt, alloc, 1)).is_ok());
+    assert!(rt; tap.take(&rows(&rt, alloc, 2)).is_err());
+    assert!(rt; tap.take(&rows(&rt, alloc, 3)).is_ok());
     assert!(rt; tap.faults() == 1 && !tap.is_full());
     assert!(rt; tap.take(&TapMessage::End { date: 8_767 }).is_ok());
     assert!(rt; tap.is_full());
     let kept = tap.kept();
-    assert_eq!(rt; kept.len(), 2);
+    assert!(rt; kept.len() == 2);
     assert!(rt; is_kept(&kept[0], 1) && is_kept(&kept[1], 3));
-    let mut other = MemTap::without_room(alloc);
-    assert!(rt; other.take(&rows(alloc, 1)?).is_ok());
-    assert!(rt; other.is_full());
-    Ok(())
+}
+
+#[test]
+fn tap_without_room(rt: HostRuntime) {
+    let alloc = rt.alloc();
+    let mut tap = MemTap::without_room(alloc);
+    assert!(rt; tap.take(&rows(&rt, alloc, 1)).is_ok());
+    assert!(rt; tap.is_full());
 }

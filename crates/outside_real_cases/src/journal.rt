@@ -1,23 +1,22 @@
 //! A journal on a real disk.
-ghost use Rattle.std.specs.Prelude.{◌≡◌, ◌<◌, length, IfOk};
+ghost use Rattle.std.specs.Prelude.{◌≡◌, ◌<◌, length};
 ghost use Rattle.gated_journal.specs.Journal.{HasLastGate};
 
 use crate::real::{fresh_path, made, opened};
 use gated_journal::{Journal, Payload, State};
 use outside_api::Disk;
-use q_values::NoMemory;
 use std::alloc::Global;
 use std::fs;
-use std::test::Fail;
+use std::process::Abort;
 
 const FILE: u64 = 1_008_767;
 
-fn payload(alloc: Global) -> Result<Payload, NoMemory>
-    ensures { IfOk result (λ p. 0 < length p.bytes) }
+fn payload(rt: &impl Abort, alloc: Global) -> Payload
+    ensures { 0 < length result.bytes }
 {
-    let mut payload = Payload::with_room(alloc, 80)?;
+    let mut payload = Payload::with_room(alloc, 80).expect(rt, "failed");
     payload.fill(&[7; 80]);
-    Ok(payload)
+    payload
 }
 
 /// Appends the payload `count` times; whether each append succeeded.
@@ -34,12 +33,12 @@ fn append_all<D: Disk>(disk: &mut D, journal: &mut Journal, payload: &Payload, c
     true
 }
 
-fn fill<D: Disk>(alloc: Global, disk: &mut D, count: u64) -> Result<bool, NoMemory> {
-    let payload = payload(alloc)?;
+fn fill<D: Disk>(rt: &impl Abort, alloc: Global, disk: &mut D, count: u64) -> bool {
+    let payload = payload(rt, alloc);
     let Ok(mut journal) = Journal::fresh(disk, FILE) else {
-        return Ok(false);
+        return false;
     };
-    Ok(append_all(disk, &mut journal, &payload, count))
+    append_all(disk, &mut journal, &payload, count)
 }
 
 /// How many records there are, and whether the last is the payload.
@@ -52,14 +51,13 @@ fn found<D: Disk>(alloc: Global, disk: &mut D) -> Option<(usize, bool)> {
 }
 
 #[test]
-fn thousand_records_are_found_again(rt: HostRuntime) -> Result<(), Fail> {
-    let path = fresh_path(&rt, "journal")?;
-    let mut disk = made(&rt, path.as_str())?;
-    assert!(rt; fill(rt.alloc(), &mut disk, 1_000)?);
+fn thousand_records_are_found_again(rt: HostRuntime) {
+    let path = fresh_path(&rt, "journal").expect(&rt, "failed");
+    let mut disk = made(&rt, path.as_str()).expect(&rt, "no disk");
+    assert!(rt; fill(&rt, rt.alloc(), &mut disk, 1_000));
     drop(disk);
-    let mut disk = opened(&rt, path.as_str())?;
+    let mut disk = opened(&rt, path.as_str()).expect(&rt, "no disk");
     assert_eq!(rt; found(rt.alloc(), &mut disk), Some((1_000, true)));
     assert_eq!(rt; disk.faults(), 0);
-    fs::remove_dir_all(&rt, path.as_str())?;
-    Ok(())
+    fs::remove_dir_all(&rt, path.as_str()).expect(&rt, "failed");
 }

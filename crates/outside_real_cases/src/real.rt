@@ -2,7 +2,6 @@
 use outside_api::{Disk, DiskFault};
 use outside_real::{FolderDisk, FolderRefusal, LockedFolder, ReadRefusal, read_file};
 use std::os::unix::fs::symlink;
-use std::test::Fail;
 use std::{env, fs, io, process};
 
 /// The disk of a real folder.
@@ -17,15 +16,15 @@ pub fn fresh_path(rt: &HostRuntime, test: &str) -> io::Result<String> {
 }
 
 /// The disk of a folder that is made where there is none.
-pub fn made(rt: &HostRuntime, path: &str) -> Result<RealDisk, Fail> {
-    let folder = LockedFolder::make(rt.clone()?, rt.alloc(), path)?;
-    Ok(FolderDisk::new(rt.alloc(), folder))
+pub fn made(rt: &HostRuntime, path: &str) -> Option<RealDisk> {
+    let folder = LockedFolder::make(rt.clone().ok()?, rt.alloc(), path).ok()?;
+    Some(FolderDisk::new(rt.alloc(), folder))
 }
 
 /// The disk of a folder that is there.
-pub fn opened(rt: &HostRuntime, path: &str) -> Result<RealDisk, Fail> {
-    let folder = LockedFolder::open(rt.clone()?, rt.alloc(), path)?;
-    Ok(FolderDisk::new(rt.alloc(), folder))
+pub fn opened(rt: &HostRuntime, path: &str) -> Option<RealDisk> {
+    let folder = LockedFolder::open(rt.clone().ok()?, rt.alloc(), path).ok()?;
+    Some(FolderDisk::new(rt.alloc(), folder))
 }
 
 /// What a value is that may go to another thread.
@@ -60,36 +59,41 @@ fn look_at(disk: &mut RealDisk) -> Result<([u64; 3], [u8; 3]), DiskFault> {
 }
 
 #[test]
-fn written_bytes_are_found_again(rt: HostRuntime) -> Result<(), Fail> {
-    let path = fresh_path(&rt, "found")?;
-    let mut disk = sent(made(&rt, path.as_str())?);
-    write_two(&mut disk)?;
-    assert_eq!(rt; look_at(&mut disk)?, ([5, 1, 0], *b"bXY"));
+fn written_bytes_are_found_again(rt: HostRuntime) {
+    let path = fresh_path(&rt, "found").expect(&rt, "failed");
+    let mut disk = sent(made(&rt, path.as_str()).expect(&rt, "no disk"));
+    write_two(&mut disk).expect(&rt, "failed");
+    assert_eq!(rt;
+        look_at(&mut disk).expect(&rt, "failed"),
+        ([5, 1, 0], *b"bXY")
+    );
     assert_eq!(rt; disk.faults(), 0);
     drop(disk);
-    let mut disk = opened(&rt, path.as_str())?;
-    assert_eq!(rt; look_at(&mut disk)?, ([5, 1, 0], *b"bXY"));
-    let whole = format!(in rt.alloc(); "{path}/f0")?;
-    let bytes = read_file(&rt, rt.alloc(), whole.as_str(), 5)?;
+    let mut disk = opened(&rt, path.as_str()).expect(&rt, "no disk");
+    assert_eq!(rt;
+        look_at(&mut disk).expect(&rt, "failed"),
+        ([5, 1, 0], *b"bXY")
+    );
+    let whole = format!(in rt.alloc(); "{path}/f0").expect(&rt, "failed");
+    let bytes = read_file(&rt, rt.alloc(), whole.as_str(), 5).expect(&rt, "failed");
     assert_eq!(rt; bytes.as_slice(), b"abXYe".as_slice());
-    let last = format!(in rt.alloc(); "{path}/f18446744073709551615")?;
-    assert!(rt; fs::exists(&rt, last.as_str())?);
-    let absent = format!(in rt.alloc(); "{path}/f7")?;
-    assert!(rt; !fs::exists(&rt, absent.as_str())?);
-    fs::remove_dir_all(&rt, path.as_str())?;
-    Ok(())
+    let last = format!(in rt.alloc(); "{path}/f18446744073709551615").expect(&rt, "failed");
+    assert!(rt; fs::exists(&rt, last.as_str()).expect(&rt, "failed"));
+    let absent = format!(in rt.alloc(); "{path}/f7").expect(&rt, "failed");
+    assert!(rt; !fs::exists(&rt, absent.as_str()).expect(&rt, "failed"));
+    fs::remove_dir_all(&rt, path.as_str()).expect(&rt, "failed");
 }
 
 #[test]
-fn faults_are_counted(rt: HostRuntime) -> Result<(), Fail> {
-    let path = fresh_path(&rt, "faults")?;
-    let mut disk = made(&rt, path.as_str())?;
-    let folder = format!(in rt.alloc(); "{path}/f1")?;
-    fs::create_dir(&rt, folder.as_str())?;
-    let full = format!(in rt.alloc(); "{path}/f2")?;
-    symlink(&rt, "/dev/full", full.as_str())?;
+fn faults_are_counted(rt: HostRuntime) {
+    let path = fresh_path(&rt, "faults").expect(&rt, "failed");
+    let mut disk = made(&rt, path.as_str()).expect(&rt, "no disk");
+    let folder = format!(in rt.alloc(); "{path}/f1").expect(&rt, "failed");
+    fs::create_dir(&rt, folder.as_str()).expect(&rt, "failed");
+    let full = format!(in rt.alloc(); "{path}/f2").expect(&rt, "failed");
+    symlink(&rt, "/dev/full", full.as_str()).expect(&rt, "failed");
     let mut buf = [0; 2];
-    disk.write_at(0, 0, b"a")?;
+    disk.write_at(0, 0, b"a").expect(&rt, "failed");
     assert!(rt; disk.read(0, 0, &mut buf).is_err(), "a read past the end");
     assert!(rt;
         disk.read(3, 0, &mut buf).is_err(),
@@ -111,71 +115,71 @@ fn faults_are_counted(rt: HostRuntime) -> Result<(), Fail> {
     assert!(rt; disk.write_at(2, 0, b"a").is_err(), "a full disk");
     assert_eq!(rt; disk.faults(), 7);
     assert_eq!(rt; disk.size(0), Ok(1));
-    fs::remove_dir_all(&rt, path.as_str())?;
-    Ok(())
+    fs::remove_dir_all(&rt, path.as_str()).expect(&rt, "failed");
 }
 
 // The superuser may write into any folder.
 #[test]
-fn read_only_folder(rt: HostRuntime) -> Result<(), Fail> {
-    let path = fresh_path(&rt, "read_only")?;
-    let mut disk = made(&rt, path.as_str())?;
-    let mut permissions = fs::metadata(&rt, path.as_str())?.permissions();
+fn read_only_folder(rt: HostRuntime) {
+    let path = fresh_path(&rt, "read_only").expect(&rt, "failed");
+    let mut disk = made(&rt, path.as_str()).expect(&rt, "no disk");
+    let mut permissions = fs::metadata(&rt, path.as_str())
+        .expect(&rt, "failed")
+        .permissions();
     permissions.set_readonly(true);
-    fs::set_permissions(&rt, path.as_str(), permissions)?;
-    let other = format!(in rt.alloc(); "{path}/other")?;
+    fs::set_permissions(&rt, path.as_str(), permissions).expect(&rt, "failed");
+    let other = format!(in rt.alloc(); "{path}/other").expect(&rt, "failed");
     let is_superuser = fs::write(&rt, other.as_str(), b"").is_ok();
     assert_eq!(rt; disk.write_at(0, 0, b"a").is_ok(), is_superuser);
     assert_eq!(rt; disk.faults() == 0, is_superuser);
-    let mut permissions = fs::metadata(&rt, path.as_str())?.permissions();
+    let mut permissions = fs::metadata(&rt, path.as_str())
+        .expect(&rt, "failed")
+        .permissions();
     permissions.set_readonly(false);
-    fs::set_permissions(&rt, path.as_str(), permissions)?;
-    fs::remove_dir_all(&rt, path.as_str())?;
-    Ok(())
+    fs::set_permissions(&rt, path.as_str(), permissions).expect(&rt, "failed");
+    fs::remove_dir_all(&rt, path.as_str()).expect(&rt, "failed");
 }
 
-fn refusal_of(rt: &HostRuntime, path: &str) -> Result<Option<FolderRefusal>, Fail> {
-    Ok(LockedFolder::open(rt.clone()?, rt.alloc(), path).err())
+fn refusal_of(rt: &HostRuntime, path: &str) -> Option<FolderRefusal> {
+    LockedFolder::open(rt.clone().ok()?, rt.alloc(), path).err()
 }
 
 #[test]
-fn folder_is_opened_once(rt: HostRuntime) -> Result<(), Fail> {
-    let path = fresh_path(&rt, "lock")?;
+fn folder_is_opened_once(rt: HostRuntime) {
+    let path = fresh_path(&rt, "lock").expect(&rt, "failed");
     assert_eq!(rt;
-        refusal_of(&rt, path.as_str())?,
+        refusal_of(&rt, path.as_str()),
         Some(FolderRefusal::Missing)
     );
-    let mut disk = made(&rt, path.as_str())?;
-    assert_eq!(rt; refusal_of(&rt, path.as_str())?, Some(FolderRefusal::InUse));
-    disk.write_at(0, 0, b"a")?;
-    let file = format!(in rt.alloc(); "{path}/f0")?;
+    let mut disk = made(&rt, path.as_str()).expect(&rt, "no disk");
+    assert_eq!(rt; refusal_of(&rt, path.as_str()), Some(FolderRefusal::InUse));
+    disk.write_at(0, 0, b"a").expect(&rt, "failed");
+    let file = format!(in rt.alloc(); "{path}/f0").expect(&rt, "failed");
     assert_eq!(rt;
-        refusal_of(&rt, file.as_str())?,
+        refusal_of(&rt, file.as_str()),
         Some(FolderRefusal::NotAFolder)
     );
-    let within = format!(in rt.alloc(); "{path}/f0/x")?;
+    let within = format!(in rt.alloc(); "{path}/f0/x").expect(&rt, "failed");
     assert_eq!(rt;
-        refusal_of(&rt, within.as_str())?,
+        refusal_of(&rt, within.as_str()),
         Some(FolderRefusal::NotAFolder)
     );
     drop(disk);
-    assert_eq!(rt; refusal_of(&rt, path.as_str())?, None);
-    let again = made(&rt, path.as_str())?;
+    assert_eq!(rt; refusal_of(&rt, path.as_str()), None);
+    let again = made(&rt, path.as_str()).expect(&rt, "no disk");
     drop(again);
-    fs::remove_dir_all(&rt, path.as_str())?;
-    Ok(())
+    fs::remove_dir_all(&rt, path.as_str()).expect(&rt, "failed");
 }
 
 #[test]
-fn file_read_whole(rt: HostRuntime) -> Result<(), Fail> {
-    let path = fresh_path(&rt, "whole")?;
+fn file_read_whole(rt: HostRuntime) {
+    let path = fresh_path(&rt, "whole").expect(&rt, "failed");
     let missing = read_file(&rt, rt.alloc(), path.as_str(), 100);
     assert_eq!(rt; missing.err(), Some(ReadRefusal::Missing));
-    fs::write(&rt, path.as_str(), b"abc")?;
-    let bytes = read_file(&rt, rt.alloc(), path.as_str(), 3)?;
+    fs::write(&rt, path.as_str(), b"abc").expect(&rt, "failed");
+    let bytes = read_file(&rt, rt.alloc(), path.as_str(), 3).expect(&rt, "failed");
     assert_eq!(rt; bytes.as_slice(), b"abc".as_slice());
     let too_long = read_file(&rt, rt.alloc(), path.as_str(), 2);
     assert_eq!(rt; too_long.err(), Some(ReadRefusal::TooLong));
-    fs::remove_file(&rt, path.as_str())?;
-    Ok(())
+    fs::remove_file(&rt, path.as_str()).expect(&rt, "failed");
 }

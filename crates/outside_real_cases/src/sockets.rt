@@ -3,24 +3,20 @@ use outside_api::{Got, Link};
 use outside_real::{OpenPort, PortRefusal, SocketLink};
 use std::io::{ErrorKind, Read, Write};
 use std::net::{Shutdown, TcpListener, TcpStream};
-use std::test::Fail;
 use std::time::{Duration, Instant};
 use std::{io, thread};
 
 /// A port of 127.0.0.1 that nothing listens on.
-fn free_port(rt: &HostRuntime) -> Result<u16, Fail> {
-    let listener = TcpListener::bind(rt, ("127.0.0.1", 0))?;
-    Ok(listener.local_addr()?.port())
+fn free_port(rt: &HostRuntime) -> Option<u16> {
+    let listener = TcpListener::bind(rt, ("127.0.0.1", 0)).ok()?;
+    Some(listener.local_addr().ok()?.port())
 }
 
 /// Both ends of a new connection: the client's, and the one that was accepted.
-fn connected(rt: &HostRuntime) -> Result<(TcpStream, TcpStream), Fail> {
-    let open = OpenPort::listen(rt, free_port(rt)?)?;
-    let client = TcpStream::connect(rt, ("127.0.0.1", open.port()))?;
-    match open.accept(rt)? {
-        Some(stream) => Ok((client, stream)),
-        None => Err(Fail::new("no connection")),
-    }
+fn connected(rt: &HostRuntime) -> Option<(TcpStream, TcpStream)> {
+    let open = OpenPort::listen(rt, free_port(rt)?).ok()?;
+    let client = TcpStream::connect(rt, ("127.0.0.1", open.port())).ok()?;
+    Some((client, open.accept(rt).ok()??))
 }
 
 /// What a value is that may go to another thread.
@@ -35,25 +31,24 @@ fn read_two<L: Link>(link: &mut L) -> (Got, [u8; 2]) {
 }
 
 #[test]
-fn bytes_pass_and_a_read_times_out(rt: HostRuntime) -> Result<(), Fail> {
-    let (mut client, stream) = connected(&rt)?;
+fn bytes_pass_and_a_read_times_out(rt: HostRuntime) {
+    let (mut client, stream) = connected(&rt).expect(&rt, "no port");
     let mut link = sent(SocketLink::new(&rt, stream));
-    let start = Instant::now(&rt)?;
+    let start = Instant::now(&rt).expect(&rt, "failed");
     assert_eq!(rt; read_two(&mut link), (Got::Idle, [0, 0]));
-    let waited = start.elapsed(&rt)?;
+    let waited = start.elapsed(&rt).expect(&rt, "failed");
     assert!(rt; waited >= Duration::from_millis(45) && waited < Duration::from_millis(2_000));
-    client.write_all(b"abc")?;
+    client.write_all(b"abc").expect(&rt, "failed");
     assert_eq!(rt; read_two(&mut link), (Got::Bytes(2), *b"ab"));
     assert_eq!(rt; read_two(&mut link), (Got::Bytes(1), *b"c\x00"));
-    client.shutdown(Shutdown::Write)?;
+    client.shutdown(Shutdown::Write).expect(&rt, "failed");
     assert_eq!(rt; read_two(&mut link), (Got::End, [0, 0]));
     assert_eq!(rt; read_two(&mut link), (Got::End, [0, 0]));
     assert!(rt; link.write(b"xyz").is_ok(), "the client may still read");
     drop(link);
     let mut all = Vec::new(rt.alloc());
-    client.read_to_end(&mut all)?;
+    client.read_to_end(&mut all).expect(&rt, "failed");
     assert_eq!(rt; all.as_slice(), b"xyz".as_slice());
-    Ok(())
 }
 
 /// Reads to the end, and gives how many bytes came.
@@ -70,25 +65,24 @@ fn read_all(mut stream: TcpStream) -> io::Result<u64> {
 }
 
 #[test]
-fn ten_million_bytes_in_one_write(rt: HostRuntime) -> Result<(), Fail> {
-    let (client, stream) = connected(&rt)?;
+fn ten_million_bytes_in_one_write(rt: HostRuntime) {
+    let (client, stream) = connected(&rt).expect(&rt, "no port");
     let mut link = SocketLink::new(&rt, stream);
     let mut bytes = Vec::new(rt.alloc());
-    bytes.resize(10_000_000, 7)?;
+    bytes.resize(10_000_000, 7).expect(&rt, "failed");
     let reader = match thread::spawn(&rt, move || read_all(client)) {
         Ok(reader) => reader,
-        Err(_) => return Err(Fail::new("no thread")),
+        Err(_) => panic!(rt; "no thread"),
     };
     assert!(rt; link.write(&bytes).is_ok());
     drop(link);
-    assert_eq!(rt; reader.join(&rt)?, 10_000_000);
-    Ok(())
+    assert_eq!(rt; reader.join(&rt).expect(&rt, "failed"), 10_000_000);
 }
 
 // A client that closes without having read what it was sent resets the connection.
 #[test]
-fn a_client_that_vanishes_is_a_fault(rt: HostRuntime) -> Result<(), Fail> {
-    let (client, stream) = connected(&rt)?;
+fn a_client_that_vanishes_is_a_fault(rt: HostRuntime) {
+    let (client, stream) = connected(&rt).expect(&rt, "no port");
     let mut link = SocketLink::new(&rt, stream);
     assert!(rt; link.write(b"unread").is_ok());
     thread::sleep(&rt, Duration::from_millis(20));
@@ -96,42 +90,42 @@ fn a_client_that_vanishes_is_a_fault(rt: HostRuntime) -> Result<(), Fail> {
     thread::sleep(&rt, Duration::from_millis(20));
     assert_eq!(rt; read_two(&mut link), (Got::Failed, [0, 0]));
     assert!(rt; link.write(b"more").is_err());
-    Ok(())
 }
 
 // Connections that are gone again before they are accepted are links that fail or end; the port goes on.
 #[test]
-fn clients_that_are_gone_before_they_are_accepted(rt: HostRuntime) -> Result<(), Fail> {
-    let open = OpenPort::listen(&rt, free_port(&rt)?)?;
+fn clients_that_are_gone_before_they_are_accepted(rt: HostRuntime) {
+    let open = OpenPort::listen(&rt, free_port(&rt).expect(&rt, "no port")).expect(&rt, "failed");
     for _ in 0..5u32 {
-        let client = TcpStream::connect(&rt, ("127.0.0.1", open.port()))?;
+        let client = TcpStream::connect(&rt, ("127.0.0.1", open.port())).expect(&rt, "failed");
         drop(client);
     }
     let mut accepted = 0u32;
     for _ in 0..5u32 {
-        if let Some(stream) = open.accept(&rt)? {
+        if let Some(stream) = open.accept(&rt).expect(&rt, "failed") {
             let mut link = SocketLink::new(&rt, stream);
             assert_eq!(rt; read_two(&mut link), (Got::End, [0, 0]));
             accepted = accepted.wrapping_add(1);
         }
     }
     assert_eq!(rt; accepted, 5);
-    Ok(())
 }
 
 #[test]
-fn a_port_is_listened_on_once(rt: HostRuntime) -> Result<(), Fail> {
-    let port = free_port(&rt)?;
-    let open = OpenPort::listen(&rt, port)?;
+fn a_port_is_listened_on_once(rt: HostRuntime) {
+    let port = free_port(&rt).expect(&rt, "no port");
+    let open = OpenPort::listen(&rt, port).expect(&rt, "failed");
     assert_eq!(rt; open.port(), port);
     assert_eq!(rt; OpenPort::listen(&rt, port).err(), Some(PortRefusal::InUse));
-    let start = Instant::now(&rt)?;
-    assert!(rt; open.accept(&rt)?.is_none(), "no connection came");
-    let waited = start.elapsed(&rt)?;
+    let start = Instant::now(&rt).expect(&rt, "failed");
+    assert!(rt;
+        open.accept(&rt).expect(&rt, "failed").is_none(),
+        "no connection came"
+    );
+    let waited = start.elapsed(&rt).expect(&rt, "failed");
     assert!(rt; waited >= Duration::from_millis(45) && waited < Duration::from_millis(2_000));
     drop(open);
     assert!(rt; OpenPort::listen(&rt, port).is_ok(), "it is free again");
-    Ok(())
 }
 
 /// Gives an interruption, two timeouts, a fault, one byte and the end, in this order. Of what is written it takes one byte at

@@ -2,24 +2,22 @@
 use q_values::{Form, ShortSymbol, Sym, Symbols};
 use std::alloc::Global;
 use std::process::Abort;
-use std::test::Fail;
 
 const SHORT: [&[u8]; 4] = [b"eightbyt", b"", b"\xff\x80", b"eightby"];
 
 const LONG: [&[u8]; 3] = [b"a", b"ninebytes", b"\xffinebytes"];
 
-fn push(symbols: &mut Symbols, alloc: Global, text: &[u8]) -> Result<(), Fail> {
-    let symbol = Sym::of(alloc, text)?;
-    symbols.push(symbol.bytes())?;
-    Ok(())
+fn push(rt: &impl Abort, symbols: &mut Symbols, alloc: Global, text: &[u8]) {
+    let symbol = Sym::of(alloc, text).expect(rt, "memory");
+    symbols.push(symbol.bytes()).expect(rt, "memory");
 }
 
-fn symbols(alloc: Global, texts: &[&[u8]]) -> Result<Symbols, Fail> {
+fn symbols(rt: &impl Abort, alloc: Global, texts: &[&[u8]]) -> Symbols {
     let mut found = Symbols::new(alloc);
     for text in texts {
-        push(&mut found, alloc, text)?;
+        push(rt, &mut found, alloc, text);
     }
-    Ok(found)
+    found
 }
 
 fn assert_texts(rt: &impl Abort, symbols: &Symbols, is_short: bool, texts: &[&[u8]]) {
@@ -31,47 +29,51 @@ fn assert_texts(rt: &impl Abort, symbols: &Symbols, is_short: bool, texts: &[&[u
 }
 
 #[test]
-fn eight_bytes_are_short(rt: HostRuntime) -> Result<(), Fail> {
+fn eight_bytes_are_short(rt: HostRuntime) {
     let alloc = rt.alloc();
-    let mut some = symbols(alloc, &SHORT)?;
+    let mut some = symbols(&rt, alloc, &SHORT);
     assert_texts(&rt, &some, true, &SHORT);
-    assert_eq!(&rt; some.order(alloc)?.as_slice(), &[1, 3, 0, 2][..]);
-    push(&mut some, alloc, b"ninebytes")?;
+    assert_eq!(&rt;
+        some.order(alloc).expect(&rt, "memory").as_slice(),
+        &[1, 3, 0, 2][..]
+    );
+    push(&rt, &mut some, alloc, b"ninebytes");
     let texts: [&[u8]; 5] = [b"eightbyt", b"", b"\xff\x80", b"eightby", b"ninebytes"];
     assert_texts(&rt, &some, false, &texts);
-    assert_eq!(&rt; some.order(alloc)?.as_slice(), &[1, 3, 0, 4, 2][..]);
-    Ok(())
+    assert_eq!(&rt;
+        some.order(alloc).expect(&rt, "memory").as_slice(),
+        &[1, 3, 0, 4, 2][..]
+    );
 }
 
 /// Appends the symbols 1 and 2 of the others.
-fn append_two(rt: &impl Abort, symbols: &mut Symbols, more: &Symbols) -> Result<(), Fail> {
+fn append_two(rt: &impl Abort, symbols: &mut Symbols, more: &Symbols) {
     assert!(rt; more.len() > 2);
-    Ok(symbols.append_part(more, 1, 2)?)
+    symbols.append_part(more, 1, 2).expect(rt, "memory")
 }
 
 /// The symbols 2, 0 and 2.
-fn gather_three(rt: &impl Abort, alloc: Global, symbols: &Symbols) -> Result<Symbols, Fail> {
+fn gather_three(rt: &impl Abort, alloc: Global, symbols: &Symbols) -> Symbols {
     assert!(rt; symbols.len() > 2);
-    Ok(symbols.gather(alloc, &[2, 0, 2])?)
+    symbols.gather(alloc, &[2, 0, 2]).expect(rt, "memory")
 }
 
 #[test]
-fn parts_between_forms(rt: HostRuntime) -> Result<(), Fail> {
+fn parts_between_forms(rt: HostRuntime) {
     let alloc = rt.alloc();
-    let mut some = symbols(alloc, &SHORT)?;
+    let mut some = symbols(&rt, alloc, &SHORT);
     let texts: [&[u8]; 3] = [b"\xff\x80", b"eightbyt", b"\xff\x80"];
-    assert_texts(&rt, &gather_three(&rt, alloc, &some)?, true, &texts);
-    let mut other = symbols(alloc, &LONG)?;
+    assert_texts(&rt, &gather_three(&rt, alloc, &some), true, &texts);
+    let mut other = symbols(&rt, alloc, &LONG);
     let texts: [&[u8]; 3] = [b"\xffinebytes", b"a", b"\xffinebytes"];
-    assert_texts(&rt, &gather_three(&rt, alloc, &other)?, false, &texts);
-    append_two(&rt, &mut other, &some)?;
+    assert_texts(&rt, &gather_three(&rt, alloc, &other), false, &texts);
+    append_two(&rt, &mut other, &some);
     let texts: [&[u8]; 5] = [b"a", b"ninebytes", b"\xffinebytes", b"", b"\xff\x80"];
     assert_texts(&rt, &other, false, &texts);
     some.truncate(1);
-    append_two(&rt, &mut some, &other)?;
+    append_two(&rt, &mut some, &other);
     let texts: [&[u8]; 3] = [b"eightbyt", b"ninebytes", b"\xffinebytes"];
     assert_texts(&rt, &some, false, &texts);
-    Ok(())
 }
 
 /// The bytes before a 0 are a symbol, and eight bytes without one.
@@ -108,14 +110,14 @@ fn digits_of(n: u32) -> [u8; 5] {
 }
 
 /// Symbols of 5 to 20 bytes, in descending order: 99999, 99998x, 99997xx ..
-fn many(alloc: Global) -> Result<Symbols, Fail> {
+fn many(rt: &impl Abort, alloc: Global) -> Symbols {
     let mut found = Symbols::new(alloc);
     for i in 0..COUNT {
         let mut text = [b'x'; 20];
         text[..5].copy_from_slice(&digits_of(COUNT - 1 - i));
-        push(&mut found, alloc, &text[..5 + (i % 16) as usize])?;
+        push(rt, &mut found, alloc, &text[..5 + (i % 16) as usize]);
     }
-    Ok(found)
+    found
 }
 
 /// Whether these are the symbols of `many` in ascending order.
@@ -129,20 +131,19 @@ fn ascend(symbols: &Symbols) -> bool {
 }
 
 #[test]
-fn many_long_symbols(rt: HostRuntime) -> Result<(), Fail> {
+fn many_long_symbols(rt: HostRuntime) {
     let alloc = rt.alloc();
-    let some = many(alloc)?;
+    let some = many(&rt, alloc);
     assert_eq!(&rt; some.bytes_len(), 1_250_000);
-    let order = some.order(alloc)?;
+    let order = some.order(alloc).expect(&rt, "memory");
     assert!(&rt;
         order
             .iter()
             .enumerate()
             .all(|(i, place)| *place == 99_999usize.saturating_sub(i))
     );
-    let sorted = some.gather(alloc, order.as_slice())?;
+    let sorted = some.gather(alloc, order.as_slice()).expect(&rt, "memory");
     assert_eq!(&rt; sorted.len(), 100_000);
     assert_eq!(&rt; sorted.bytes_len(), 1_250_000);
     assert!(&rt; ascend(&sorted));
-    Ok(())
 }

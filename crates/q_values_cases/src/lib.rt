@@ -1,4 +1,4 @@
-//! Tests of `q_values` through its public calls, with values from outside.
+//! Tests of `q_values` and of `q_text` through their public calls, with values from outside.
 //!
 //! They stand in a crate of their own, since a crate with tests in it is proved twice. Each kind of column is ordered,
 //! cut, gathered and appended at its null and at the ends of its numbers; each refusal is met once; and the conversions
@@ -19,10 +19,25 @@
 //! many_long_symbols           100,000 symbols of 5 to 20 bytes: push, order and gather
 //! ```
 //!
-//! What no contract can say is left to them: that a call succeeds where memory is ample.
+//! `literals` has literals with the values that kdb+ gives them and texts that are no literals, and `dates` dates as text. A
+//! row is the text, the type number of the value (negative for an atom, as kdb+'s `type` gives it), its numbers, and the
+//! offset just past the literal. An infinity or a null is given as the number that stores it.
+//!
+//! ```text
+//! (b"1 0N -0Wh", 5, &[1, -32768, -32767], 9)     three shorts, in nine bytes
+//! is_bad(alloc, b"2023.02.29", 0)                no such date
+//! binds(alloc, b"a -1")                          the `-` belongs to the number
+//! ```
+//!
+//! What no contract can say is left to them: that a call succeeds where memory is ample. The laws of literals need no
+//! tests: they are contracts, in `q_text::laws`.
 #![tactic(auto)]
 
 #[cfg(test)]
+mod dates;
+#[cfg(test)]
 mod forms;
+#[cfg(test)]
+mod literals;
 #[cfg(test)]
 mod tests;

@@ -3,7 +3,7 @@
 use crate::queries::assert_rows;
 use crate::trade::{Mixed, mixed_rows, two_rows};
 use std::alloc::Global;
-use std::test::Fail;
+use std::process::Abort;
 
 const ROWS: u32 = 100_000;
 
@@ -57,7 +57,7 @@ struct Bars {
     sizes: Vec<i64>,
 }
 
-fn bars_of(alloc: Global) -> Result<Bars, Fail> {
+fn bars_of(rt: &impl Abort, alloc: Global) -> Bars {
     let mut bars = Bars {
         times: Vec::new(alloc),
         opens: Vec::new(alloc),
@@ -70,76 +70,75 @@ fn bars_of(alloc: Global) -> Result<Bars, Fail> {
         for number in 0..BARS {
             let bar = bar_of(symbol, number.wrapping_mul(ROWS_OF_BAR));
             bars.times
-                .push(i64::from(number).wrapping_mul(FIVE_MINUTES))?;
-            bars.opens.push(bar.open)?;
-            bars.highs.push(bar.high)?;
-            bars.lows.push(bar.low)?;
-            bars.closes.push(bar.close)?;
-            bars.sizes.push(bar.size)?;
+                .push(i64::from(number).wrapping_mul(FIVE_MINUTES))
+                .expect(rt, "memory");
+            bars.opens.push(bar.open).expect(rt, "memory");
+            bars.highs.push(bar.high).expect(rt, "memory");
+            bars.lows.push(bar.low).expect(rt, "memory");
+            bars.closes.push(bar.close).expect(rt, "memory");
+            bars.sizes.push(bar.size).expect(rt, "memory");
         }
     }
-    Ok(bars)
+    bars
 }
 
 // A column's name, and its numbers in brackets.
-fn push_numbers(
-    alloc: Global,
-    out: &mut Vec<u8>,
-    name: &[u8],
-    numbers: &[i64],
-) -> Result<(), Fail> {
+fn push_numbers(rt: &impl Abort, alloc: Global, out: &mut Vec<u8>, name: &[u8], numbers: &[i64]) {
     let mut before: &[u8] = name;
     for number in numbers {
-        out.extend_from_slice(before)?;
-        out.extend_from_slice(format!(in alloc; "{number}")?.as_bytes())?;
+        out.extend_from_slice(before).expect(rt, "memory");
+        out.extend_from_slice(
+            format!(in alloc; "{number}")
+                .expect(rt, "memory")
+                .as_bytes(),
+        )
+        .expect(rt, "memory");
         before = b" ";
     }
-    out.push(b']')?;
-    Ok(())
+    out.push(b']').expect(rt, "memory");
 }
 
 // The symbol of each bar.
-fn push_symbols(out: &mut Vec<u8>) -> Result<(), Fail> {
+fn push_symbols(rt: &impl Abort, out: &mut Vec<u8>) {
     let mut before: &[u8] = b"sym=s[";
     for letter in b"abc" {
         for _ in 0..BARS {
-            out.extend_from_slice(before)?;
-            out.push(*letter)?;
+            out.extend_from_slice(before).expect(rt, "memory");
+            out.push(*letter).expect(rt, "memory");
             before = b" ";
         }
     }
-    out.push(b']')?;
-    Ok(())
+    out.push(b']').expect(rt, "memory");
 }
 
-fn expected(alloc: Global) -> Result<Vec<u8>, Fail> {
-    let bars = bars_of(alloc)?;
+fn expected(rt: &impl Abort, alloc: Global) -> Vec<u8> {
+    let bars = bars_of(rt, alloc);
     let mut out = Vec::new(alloc);
-    push_symbols(&mut out)?;
-    push_numbers(alloc, &mut out, b" time=n[", &bars.times)?;
-    push_numbers(alloc, &mut out, b"|o=j[", &bars.opens)?;
-    push_numbers(alloc, &mut out, b" h=j[", &bars.highs)?;
-    push_numbers(alloc, &mut out, b" l=j[", &bars.lows)?;
-    push_numbers(alloc, &mut out, b" c=j[", &bars.closes)?;
-    push_numbers(alloc, &mut out, b" size=j[", &bars.sizes)?;
-    Ok(out)
+    push_symbols(rt, &mut out);
+    push_numbers(rt, alloc, &mut out, b" time=n[", &bars.times);
+    push_numbers(rt, alloc, &mut out, b"|o=j[", &bars.opens);
+    push_numbers(rt, alloc, &mut out, b" h=j[", &bars.highs);
+    push_numbers(rt, alloc, &mut out, b" l=j[", &bars.lows);
+    push_numbers(rt, alloc, &mut out, b" c=j[", &bars.closes);
+    push_numbers(rt, alloc, &mut out, b" size=j[", &bars.sizes);
+    out
 }
 
 #[test]
-fn bars_of_many_rows(rt: HostRuntime) -> Result<(), Fail> {
+fn bars_of_many_rows(rt: HostRuntime) {
     let alloc = rt.alloc();
-    let bars = expected(alloc)?;
+    let bars = expected(&rt, alloc);
     let cases: [(&[u8], &[u8]); 1] = [(
         b"select o:first price,h:max price,l:min price,c:last price,sum size by sym,0D00:05 xbar time from trade",
         &bars,
     )];
-    let rows = mixed_rows(alloc, ROWS)?;
-    assert_rows(&rt, alloc, &rows, &cases)?;
+    let rows = mixed_rows(&rt, alloc, ROWS);
+    assert_rows(&rt, alloc, &rows, &cases);
     assert_rows(&rt, alloc, &rows, &cases)
 }
 
 #[test]
-fn nulls_of_groups(rt: HostRuntime) -> Result<(), Fail> {
+fn nulls_of_groups(rt: HostRuntime) {
     let alloc = rt.alloc();
     let first_null: [(&[u8], &[u8]); 3] = [
         (
@@ -152,10 +151,20 @@ fn nulls_of_groups(rt: HostRuntime) -> Result<(), Fail> {
             b"size=j[-9223372036854775808 5]|n=j[1 1] s=j[0 5]",
         ),
     ];
-    assert_rows(&rt, alloc, &two_rows(alloc, &[i64::MIN, 5])?, &first_null)?;
+    assert_rows(
+        &rt,
+        alloc,
+        &two_rows(&rt, alloc, &[i64::MIN, 5]),
+        &first_null,
+    );
     let last_null: [(&[u8], &[u8]); 1] = [(
         b"select f:first size,l:last size by sym from trade",
         b"sym=s[b]|f=j[5] l=j[-9223372036854775808]",
     )];
-    assert_rows(&rt, alloc, &two_rows(alloc, &[5, i64::MIN])?, &last_null)
+    assert_rows(
+        &rt,
+        alloc,
+        &two_rows(&rt, alloc, &[5, i64::MIN]),
+        &last_null,
+    )
 }

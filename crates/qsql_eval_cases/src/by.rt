@@ -2,16 +2,15 @@
 
 use crate::queries::assert_rows;
 use crate::trade::{five_rows, many_rows};
-use std::test::Fail;
 
 #[test]
-fn last_price_by_sym(rt: HostRuntime) -> Result<(), Fail> {
+fn last_price_by_sym(rt: HostRuntime) {
     let alloc = rt.alloc();
     let cases: [(&[u8], &[u8]); 1] = [(
         b"select last price by sym from trade",
         b"sym=s[a b c]|price=j[21 11 30]",
     )];
-    assert_rows(&rt, alloc, &five_rows(alloc)?, &cases)
+    assert_rows(&rt, alloc, &five_rows(&rt, alloc), &cases)
 }
 
 const SELECTS: [(&[u8], &[u8]); 30] = [
@@ -69,7 +68,8 @@ const SELECTS: [(&[u8], &[u8]); 30] = [
     ),
     (
         b"select by date,time,sym,price from trade",
-        b"date=d[8767 8767 8767 8768 8768] time=n[34200000000000 34260000000000 34320000000000 34200000000000 34260000000000] sym=s[b a b c a] price=j[10 20 11 30 21]|size=j[100 5 7 1 9]",
+        b"date=d[8767 8767 8767 8768 8768] time=n[34200000000000 34260000000000 34320000000000 34200000000000 34260000000000] \
+          sym=s[b a b c a] price=j[10 20 11 30 21]|size=j[100 5 7 1 9]",
     ),
     (
         b"select last price by sym from trade where size>1000",
@@ -135,13 +135,13 @@ const SELECTS: [(&[u8], &[u8]); 30] = [
 ];
 
 #[test]
-fn selects_by(rt: HostRuntime) -> Result<(), Fail> {
+fn selects_by(rt: HostRuntime) {
     let alloc = rt.alloc();
-    assert_rows(&rt, alloc, &five_rows(alloc)?, &SELECTS)
+    assert_rows(&rt, alloc, &five_rows(&rt, alloc), &SELECTS)
 }
 
 #[test]
-fn execs_by(rt: HostRuntime) -> Result<(), Fail> {
+fn execs_by(rt: HostRuntime) {
     let alloc = rt.alloc();
     let cases: [(&[u8], &[u8]); 7] = [
         (
@@ -167,11 +167,11 @@ fn execs_by(rt: HostRuntime) -> Result<(), Fail> {
         (b"exec last price by sym=`b from trade", b"b[0 1]!j[21 11]"),
         (b"exec last sym by sym=`b from trade", b"not parsed"),
     ];
-    assert_rows(&rt, alloc, &five_rows(alloc)?, &cases)
+    assert_rows(&rt, alloc, &five_rows(&rt, alloc), &cases)
 }
 
 #[test]
-fn groups_of_many_rows(rt: HostRuntime) -> Result<(), Fail> {
+fn groups_of_many_rows(rt: HostRuntime) {
     let alloc = rt.alloc();
     let thousand: [(&[u8], &[u8]); 2] = [
         (
@@ -180,7 +180,7 @@ fn groups_of_many_rows(rt: HostRuntime) -> Result<(), Fail> {
         ),
         (b"exec sum price by sym from trade", b"s[a]!j[499500]"),
     ];
-    assert_rows(&rt, alloc, &many_rows(alloc, 1000)?, &thousand)?;
+    assert_rows(&rt, alloc, &many_rows(&rt, alloc, 1000), &thousand);
     let many: [(&[u8], &[u8]); 4] = [
         (
             b"exec count i by 250 xbar size from trade",
@@ -196,5 +196,5 @@ fn groups_of_many_rows(rt: HostRuntime) -> Result<(), Fail> {
         ),
         (b"exec sum price by sym from trade", b"s[a]!j[4999950000]"),
     ];
-    assert_rows(&rt, alloc, &many_rows(alloc, 100_000)?, &many)
+    assert_rows(&rt, alloc, &many_rows(&rt, alloc, 100_000), &many)
 }

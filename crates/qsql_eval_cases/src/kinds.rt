@@ -7,56 +7,69 @@ use qsql_eval::Rows;
 use schema_text::read_schema;
 use std::alloc::Global;
 use std::process::Abort;
-use std::test::Fail;
 
 const SCHEMA: &[u8] =
     b"t:([]time:`timespan$();sym:`symbol$();b:`boolean$();h:`short$();n:`int$();j:`long$();d:`date$();u:`minute$();g:`byte$())";
 
 // The symbols a, the null and b.
-fn syms(alloc: Global) -> Result<Vector, Fail> {
+fn syms(rt: &impl Abort, alloc: Global) -> Vector {
     let mut items = Symbols::new(alloc);
-    items.push(b"a")?;
-    items.push(b"")?;
-    items.push(b"b")?;
-    Ok(Vector::from_column(Column::Symbols(items)))
+    items.push(b"a").expect(rt, "memory");
+    items.push(b"").expect(rt, "memory");
+    items.push(b"b").expect(rt, "memory");
+    Vector::from_column(Column::Symbols(items))
 }
 
-fn integers(alloc: Global, kind: IntegerKind, numbers: &[i32]) -> Result<Vector, Fail> {
-    let items = Vec::from_slice(alloc, numbers)?;
-    Ok(Vector::from_column(Column::Integers(kind, items)))
+fn integers(rt: &impl Abort, alloc: Global, kind: IntegerKind, numbers: &[i32]) -> Vector {
+    let items = Vec::from_slice(alloc, numbers).expect(rt, "memory");
+    Vector::from_column(Column::Integers(kind, items))
 }
 
-fn narrow(alloc: Global) -> Result<(Vector, Vector, Vector), Fail> {
-    let booleans = Vec::from_slice(alloc, &[true, false, true])?;
-    let shorts = Vec::from_slice(alloc, &[1, i16::MIN, 3])?;
-    let bytes = Vec::from_slice(alloc, &[0, 1, 255])?;
-    Ok((
+fn narrow(rt: &impl Abort, alloc: Global) -> (Vector, Vector, Vector) {
+    let booleans = Vec::from_slice(alloc, &[true, false, true]).expect(rt, "memory");
+    let shorts = Vec::from_slice(alloc, &[1, i16::MIN, 3]).expect(rt, "memory");
+    let bytes = Vec::from_slice(alloc, &[0, 1, 255]).expect(rt, "memory");
+    (
         Vector::from_column(Column::Booleans(booleans)),
         Vector::from_column(Column::Shorts(shorts)),
         Vector::from_column(Column::Bytes(ByteKind::Byte, bytes)),
-    ))
+    )
 }
 
-fn three_rows(alloc: Global) -> Result<Rows, Fail> {
-    let (booleans, shorts, bytes) = narrow(alloc)?;
+fn three_rows(rt: &impl Abort, alloc: Global) -> Rows {
+    let (booleans, shorts, bytes) = narrow(rt, alloc);
     let mut columns = Columns::new(alloc);
-    columns.push(dates(alloc, &[8767, 8767, 8767])?)?;
-    columns.push(longs(alloc, LongKind::Timespan, &[0, 1, 2])?)?;
-    columns.push(syms(alloc)?)?;
-    columns.push(booleans)?;
-    columns.push(shorts)?;
-    columns.push(integers(alloc, IntegerKind::Integer, &[-7, 2, i32::MIN])?)?;
-    columns.push(longs(alloc, LongKind::Long, &[i64::MAX, 5, i64::MIN])?)?;
-    columns.push(integers(alloc, IntegerKind::Date, &[8767, i32::MIN, 8769])?)?;
-    columns.push(integers(alloc, IntegerKind::Minute, &[570, 571, i32::MIN])?)?;
-    columns.push(bytes)?;
-    columns.push(longs(alloc, LongKind::Long, &[0, 1, 2])?)?;
+    columns
+        .push(dates(rt, alloc, &[8767, 8767, 8767]))
+        .expect(rt, "memory");
+    columns
+        .push(longs(rt, alloc, LongKind::Timespan, &[0, 1, 2]))
+        .expect(rt, "memory");
+    columns.push(syms(rt, alloc)).expect(rt, "memory");
+    columns.push(booleans).expect(rt, "memory");
+    columns.push(shorts).expect(rt, "memory");
+    columns
+        .push(integers(rt, alloc, IntegerKind::Integer, &[-7, 2, i32::MIN]))
+        .expect(rt, "memory");
+    columns
+        .push(longs(rt, alloc, LongKind::Long, &[i64::MAX, 5, i64::MIN]))
+        .expect(rt, "memory");
+    columns
+        .push(integers(rt, alloc, IntegerKind::Date, &[8767, i32::MIN, 8769]))
+        .expect(rt, "memory");
+    columns
+        .push(integers(rt, alloc, IntegerKind::Minute, &[570, 571, i32::MIN]))
+        .expect(rt, "memory");
+    columns.push(bytes).expect(rt, "memory");
+    columns
+        .push(longs(rt, alloc, LongKind::Long, &[0, 1, 2]))
+        .expect(rt, "memory");
     let texts: [&[u8]; 11] = [
         b"date", b"time", b"sym", b"b", b"h", b"n", b"j", b"d", b"u", b"g", b"i",
     ];
-    match Rows::new(names(alloc, &texts)?, columns) {
-        Some(rows) => Ok(rows),
-        None => Err(Fail::from("columns of different lengths")),
+    match Rows::new(names(rt, alloc, &texts), columns) {
+        Some(rows) => rows,
+        None => panic!(rt; "columns of different lengths"),
     }
 }
 
@@ -135,21 +148,21 @@ const GROUPS: [(&[u8], &[u8]); 6] = [
     ),
 ];
 
-fn assert_kinds(rt: &impl Abort, alloc: Global, cases: &[(&[u8], &[u8])]) -> Result<(), Fail> {
+fn assert_kinds(rt: &impl Abort, alloc: Global, cases: &[(&[u8], &[u8])]) {
     match read_schema(alloc, SCHEMA) {
-        Ok(schema) => assert_answers(rt, alloc, &schema, &three_rows(alloc)?, cases),
-        Err(_) => Err(Fail::from("no schema")),
+        Ok(schema) => assert_answers(rt, alloc, &schema, &three_rows(rt, alloc), cases),
+        Err(_) => panic!(rt; "no schema"),
     }
 }
 
 #[test]
-fn null_keys(rt: HostRuntime) -> Result<(), Fail> {
+fn null_keys(rt: HostRuntime) {
     let alloc = rt.alloc();
     assert_kinds(&rt, alloc, &GROUPS)
 }
 
 #[test]
-fn nulls_and_ends(rt: HostRuntime) -> Result<(), Fail> {
+fn nulls_and_ends(rt: HostRuntime) {
     let alloc = rt.alloc();
     assert_kinds(&rt, alloc, &ANSWERS)
 }

@@ -9,64 +9,63 @@ use qsql_request::{Query, Request};
 use schema_text::built_in_schema;
 use std::alloc::Global;
 use std::process::Abort;
-use std::test::Fail;
 
-fn push_answer(alloc: Global, out: &mut Vec<u8>, typed: &Typed, rows: &Rows) -> Result<(), Fail> {
-    if !typed.fits(alloc, rows)? {
-        out.extend_from_slice(b"columns")?;
-        return Ok(());
+fn push_answer(rt: &impl Abort, alloc: Global, out: &mut Vec<u8>, typed: &Typed, rows: &Rows) {
+    if !typed.fits(alloc, rows).expect(rt, "memory") {
+        out.extend_from_slice(b"columns").expect(rt, "memory");
+        return;
     }
-    let value = eval(alloc, typed, rows)?;
-    push_value(alloc, out, &value)?;
-    Ok(())
+    let value = eval(alloc, typed, rows).expect(rt, "memory");
+    push_value(alloc, out, &value).expect(rt, "memory");
 }
 
-fn push_refusal(out: &mut Vec<u8>, refusal: CheckRefusal) -> Result<(), Fail> {
+fn push_refusal(rt: &impl Abort, out: &mut Vec<u8>, refusal: CheckRefusal) {
     match refusal {
         CheckRefusal::NoName(name) => {
-            out.extend_from_slice(b"name ")?;
-            out.extend_from_slice(name.bytes())?;
+            out.extend_from_slice(b"name ").expect(rt, "memory");
+            out.extend_from_slice(name.bytes()).expect(rt, "memory");
         }
-        CheckRefusal::WrongType => out.extend_from_slice(b"type")?,
-        CheckRefusal::NoMemory => out.extend_from_slice(b"wsfull")?,
+        CheckRefusal::WrongType => out.extend_from_slice(b"type").expect(rt, "memory"),
+        CheckRefusal::NoMemory => out.extend_from_slice(b"wsfull").expect(rt, "memory"),
     }
-    Ok(())
 }
 
 fn push_query(
+    rt: &impl Abort,
     alloc: Global,
     out: &mut Vec<u8>,
     query: &Query,
     schema: &Schema,
     rows: &Rows,
-) -> Result<(), Fail> {
+) {
     match check(alloc, query, schema) {
-        Ok(typed) => push_answer(alloc, out, &typed, rows),
-        Err(refusal) => push_refusal(out, refusal),
+        Ok(typed) => push_answer(rt, alloc, out, &typed, rows),
+        Err(refusal) => push_refusal(rt, out, refusal),
     }
 }
 
 fn push_request(
+    rt: &impl Abort,
     alloc: Global,
     out: &mut Vec<u8>,
     request: &Request,
     schema: &Schema,
     rows: &Rows,
-) -> Result<(), Fail> {
+) {
     match request {
-        Request::Query(query) => push_query(alloc, out, query, schema, rows),
-        _ => Ok(out.extend_from_slice(b"no query")?),
+        Request::Query(query) => push_query(rt, alloc, out, query, schema, rows),
+        _ => out.extend_from_slice(b"no query").expect(rt, "memory"),
     }
 }
 
 // The value or the refusal of a text, as text.
-fn shown(alloc: Global, schema: &Schema, rows: &Rows, text: &[u8]) -> Result<Vec<u8>, Fail> {
+fn shown(rt: &impl Abort, alloc: Global, schema: &Schema, rows: &Rows, text: &[u8]) -> Vec<u8> {
     let mut out = Vec::new(alloc);
     match parse(alloc, text) {
-        Ok(request) => push_request(alloc, &mut out, &request, schema, rows)?,
-        Err(_) => out.extend_from_slice(b"not parsed")?,
+        Ok(request) => push_request(rt, alloc, &mut out, &request, schema, rows),
+        Err(_) => out.extend_from_slice(b"not parsed").expect(rt, "memory"),
     }
-    Ok(out)
+    out
 }
 
 /// Stops at the first text whose answer over these rows is another than the one beside it.
@@ -76,29 +75,23 @@ pub(crate) fn assert_answers(
     schema: &Schema,
     rows: &Rows,
     cases: &[(&[u8], &[u8])],
-) -> Result<(), Fail> {
+) {
     let mut case = 0usize;
     for (text, wanted) in cases {
-        let found = shown(alloc, schema, rows, text)?;
+        let found = shown(rt, alloc, schema, rows, text);
         assert!(rt; found.as_slice() == *wanted, "case {case}");
         case = case.saturating_add(1);
     }
-    Ok(())
 }
 
 /// Stops at the first text over rows of the built-in schema whose answer is another than the one beside it.
-pub(crate) fn assert_rows(
-    rt: &impl Abort,
-    alloc: Global,
-    rows: &Rows,
-    cases: &[(&[u8], &[u8])],
-) -> Result<(), Fail> {
-    let schema = built_in_schema(alloc)?;
+pub(crate) fn assert_rows(rt: &impl Abort, alloc: Global, rows: &Rows, cases: &[(&[u8], &[u8])]) {
+    let schema = built_in_schema(alloc).expect(rt, "memory");
     assert_answers(rt, alloc, &schema, rows, cases)
 }
 
 #[test]
-fn phrases_left_to_right(rt: HostRuntime) -> Result<(), Fail> {
+fn phrases_left_to_right(rt: HostRuntime) {
     let alloc = rt.alloc();
     let cases: [(&[u8], &[u8]); 5] = [
         (
@@ -113,11 +106,11 @@ fn phrases_left_to_right(rt: HostRuntime) -> Result<(), Fail> {
         (b"exec size from trade where size=max size,sym=`a", b"j[]"),
         (b"exec i from trade where size<10,price>11", b"j[0 0 1]"),
     ];
-    assert_rows(&rt, alloc, &five_rows(alloc)?, &cases)
+    assert_rows(&rt, alloc, &five_rows(&rt, alloc), &cases)
 }
 
 #[test]
-fn aggregates_of_nothing(rt: HostRuntime) -> Result<(), Fail> {
+fn aggregates_of_nothing(rt: HostRuntime) {
     let alloc = rt.alloc();
     let cases: [(&[u8], &[u8]); 6] = [
         (
@@ -136,15 +129,15 @@ fn aggregates_of_nothing(rt: HostRuntime) -> Result<(), Fail> {
             b"j:-9223372036854775808",
         ),
     ];
-    assert_rows(&rt, alloc, &five_rows(alloc)?, &cases)?;
+    assert_rows(&rt, alloc, &five_rows(&rt, alloc), &cases);
     let sums: [(&[u8], &[u8]); 1] = [(b"exec sum size from trade", b"j:5")];
-    assert_rows(&rt, alloc, &two_rows(alloc, &[i64::MIN, 5])?, &sums)?;
+    assert_rows(&rt, alloc, &two_rows(&rt, alloc, &[i64::MIN, 5]), &sums);
     let sums: [(&[u8], &[u8]); 1] = [(b"exec sum size from trade", b"j:-9223372036854775808")];
-    assert_rows(&rt, alloc, &two_rows(alloc, &[i64::MAX, 1])?, &sums)
+    assert_rows(&rt, alloc, &two_rows(&rt, alloc, &[i64::MAX, 1]), &sums)
 }
 
 #[test]
-fn equal_rows_kept(rt: HostRuntime) -> Result<(), Fail> {
+fn equal_rows_kept(rt: HostRuntime) {
     let alloc = rt.alloc();
     let cases: [(&[u8], &[u8]); 2] = [
         (b"exec count i from trade", b"j:2"),
@@ -153,11 +146,11 @@ fn equal_rows_kept(rt: HostRuntime) -> Result<(), Fail> {
             b"date=d[8767 8767] time=n[34200000000000 34200000000000] sym=s[b b] price=j[10 10] size=j[100 100]",
         ),
     ];
-    assert_rows(&rt, alloc, &two_rows(alloc, &[100, 100])?, &cases)
+    assert_rows(&rt, alloc, &two_rows(&rt, alloc, &[100, 100]), &cases)
 }
 
 #[test]
-fn refused_texts(rt: HostRuntime) -> Result<(), Fail> {
+fn refused_texts(rt: HostRuntime) {
     let alloc = rt.alloc();
     let cases: [(&[u8], &[u8]); 17] = [
         (b"select from foo", b"name foo"),
@@ -181,7 +174,7 @@ fn refused_texts(rt: HostRuntime) -> Result<(), Fail> {
         (b"select by date,time,sym,price,size from trade", b"type"),
         (b"select max price by sym+1 from trade", b"type"),
     ];
-    assert_rows(&rt, alloc, &five_rows(alloc)?, &cases)
+    assert_rows(&rt, alloc, &five_rows(&rt, alloc), &cases)
 }
 
 const SELECTS: [(&[u8], &[u8]); 19] = [
@@ -234,9 +227,9 @@ const SELECTS: [(&[u8], &[u8]); 19] = [
 ];
 
 #[test]
-fn selects(rt: HostRuntime) -> Result<(), Fail> {
+fn selects(rt: HostRuntime) {
     let alloc = rt.alloc();
-    assert_rows(&rt, alloc, &five_rows(alloc)?, &SELECTS)
+    assert_rows(&rt, alloc, &five_rows(&rt, alloc), &SELECTS)
 }
 
 const EXECS: [(&[u8], &[u8]); 46] = [
@@ -313,13 +306,13 @@ const EXECS: [(&[u8], &[u8]); 46] = [
 ];
 
 #[test]
-fn execs(rt: HostRuntime) -> Result<(), Fail> {
+fn execs(rt: HostRuntime) {
     let alloc = rt.alloc();
-    assert_rows(&rt, alloc, &five_rows(alloc)?, &EXECS)
+    assert_rows(&rt, alloc, &five_rows(&rt, alloc), &EXECS)
 }
 
 #[test]
-fn many_rows_are_kept(rt: HostRuntime) -> Result<(), Fail> {
+fn many_rows_are_kept(rt: HostRuntime) {
     let alloc = rt.alloc();
     let cases: [(&[u8], &[u8]); 4] = [
         (b"exec count i from trade where size>=500", b"j:50000"),
@@ -330,8 +323,8 @@ fn many_rows_are_kept(rt: HostRuntime) -> Result<(), Fail> {
         (b"exec max price from trade where size<1", b"j:99000"),
         (b"exec count distinct size from trade", b"j:1000"),
     ];
-    let rows = many_rows(alloc, 100_000)?;
-    assert_rows(&rt, alloc, &rows, &cases)?;
-    assert_rows(&rt, alloc, &rows, &cases)?;
+    let rows = many_rows(&rt, alloc, 100_000);
+    assert_rows(&rt, alloc, &rows, &cases);
+    assert_rows(&rt, alloc, &rows, &cases);
     assert_rows(&rt, alloc, &rows, &cases)
 }

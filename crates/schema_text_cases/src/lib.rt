@@ -2,9 +2,10 @@
 //!
 //! `texts` has schema texts with their expected outcomes: the built-in schema, a refusal of each kind with its offset, and
 //! a table with as many columns as a table may have. `blocks` fills days with thousands of rows, and compares the number of
-//! their blocks and the updates that they give back. `days` logs three updates of the built-in schema's `trade` on one
-//! date, ends the date, and compares the order of arrival with the order by symbol. The expected values come from the
-//! documented order of kdb+ and from counting bytes by hand, not from the contracts.
+//! their blocks and the updates that they give back; `spans` compares the updates from an index on. `days` logs three
+//! updates of the built-in schema's `trade` on one date, ends the date, and compares the order of arrival with the order by
+//! symbol. The expected values come from the documented order of kdb+ and from counting bytes by hand, not from the
+//! contracts.
 //!
 //! One of the rows:
 //!
@@ -21,5 +22,7 @@
 mod blocks;
 #[cfg(test)]
 mod days;
+#[cfg(test)]
+mod spans;
 #[cfg(test)]
 mod texts;

@@ -5,7 +5,6 @@ use q_values::Kind;
 use schema_text::{BUILT_IN, SchemaRefusal, built_in_schema, read_schema};
 use std::alloc::Global;
 use std::process::Abort;
-use std::test::Fail;
 
 // The outcome of reading a text, without the names.
 #[derive(Clone, Copy, Debug, PartialEq, Eq)]
@@ -58,22 +57,23 @@ fn assert_built_in(rt: &impl Abort, alloc: Global) {
 }
 
 // A table with `count` columns after the first two.
-fn wide_table(alloc: Global, count: usize) -> Result<Vec<u8>, Fail> {
+fn wide_table(rt: &impl Abort, alloc: Global, count: usize) -> Vec<u8> {
     let mut text = Vec::new(alloc);
-    text.extend_from_slice(b"t:([]time:`timespan$();sym:`symbol$()")?;
+    text.extend_from_slice(b"t:([]time:`timespan$();sym:`symbol$()")
+        .expect(rt, "memory");
     for i in 0..count {
-        text.extend_from_slice(b";c")?;
+        text.extend_from_slice(b";c").expect(rt, "memory");
         for _ in 0..i {
-            text.push(b'x')?;
+            text.push(b'x').expect(rt, "memory");
         }
-        text.extend_from_slice(b":`int$()")?;
+        text.extend_from_slice(b":`int$()").expect(rt, "memory");
     }
-    text.extend_from_slice(b")")?;
-    Ok(text)
+    text.extend_from_slice(b")").expect(rt, "memory");
+    text
 }
 
 #[test]
-fn schema_refusals(rt: HostRuntime) -> Result<(), Fail> {
+fn schema_refusals(rt: HostRuntime) {
     let alloc = rt.alloc();
     assert_built_in(&rt, alloc);
     let table: &[u8] = b"t:([]time:`timespan$();sym:`symbol$())";
@@ -108,16 +108,17 @@ fn schema_refusals(rt: HostRuntime) -> Result<(), Fail> {
     ] {
         assert_eq!(rt; outcome_of(alloc, text), outcome);
     }
-    Ok(())
 }
 
 #[test]
-fn most_columns(rt: HostRuntime) -> Result<(), Fail> {
+fn most_columns(rt: HostRuntime) {
     let alloc = rt.alloc();
     assert_eq!(rt;
-        outcome_of(alloc, &wide_table(alloc, 46)?),
+        outcome_of(alloc, &wide_table(&rt, alloc, 46)),
         Outcome::Tables(1)
     );
-    assert_eq!(rt; outcome_of(alloc, &wide_table(alloc, 47)?), Outcome::Limit);
-    Ok(())
+    assert_eq!(rt;
+        outcome_of(alloc, &wide_table(&rt, alloc, 47)),
+        Outcome::Limit
+    );
 }

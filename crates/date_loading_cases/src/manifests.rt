@@ -1,0 +1,4 @@
+//! Manifests: their bytes, and the dates that they have.
+
+mod dates;
+mod files;

@@ -1,9 +1,0 @@
-use Rattle.outside_mem.specs.MemDisk.{shown_by}
-use Rattle.date_logs.specs.Stores.{IsReady}
-use Rattle.date_logs_cases.proofs.script.play.Given as goal
-
-abbrev pub invariant-loop : goal.invariant-loop
-invariant-loop l = IsReady (shown_by l.disk) l.logs
-
-abbrev pub invariant-loop-place : goal.invariant-loop-place
-invariant-loop-place l = IsReady (shown_by l.disk) l.logs

@@ -1,0 +1,5 @@
+//! A disk that fails or goes down.
+
+mod faults;
+mod script;
+mod stops;

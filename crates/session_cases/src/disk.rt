@@ -1,0 +1,4 @@
+//! Sessions whose disk fails.
+
+mod sessions;
+mod sitting;

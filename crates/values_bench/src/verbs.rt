@@ -1,0 +1,51 @@
+//! Times the verbs of `q_verbs` over longs, ints, dates and symbols. `bench/verbs.py` runs it, and sets its times beside those of
+//! the same loops in Rust.
+//!
+//! `made` makes the columns; `timed`, `names` and `groups` time each call over them, five times, and print one line for each:
+//! the kind of the items, the verb, nanoseconds, and the sum of the results.
+//!
+//! ```text
+//! values_bench verbs LONGS [SYMBOLS [ROWS]]
+//!
+//! longs sum NANOSECONDS SUM
+//! longs above_300 NANOSECONDS SUM
+//! ints plus NANOSECONDS SUM
+//! dates above NANOSECONDS SUM
+//! longs filter NANOSECONDS SUM
+//! symbols equal NANOSECONDS SUM
+//! symbols equal_one NANOSECONDS SUM
+//! symbols in_50 NANOSECONDS SUM
+//! symbols like NANOSECONDS SUM
+//! symbols order NANOSECONDS NUMBER
+//! groups symbols_100 NANOSECONDS GROUPS
+//! sum_by symbols_100 NANOSECONDS SUM
+//! groups dates NANOSECONDS GROUPS
+//! ```
+//!
+//! It times no query.
+
+mod groups;
+mod made;
+mod names;
+mod timed;
+
+use anyhow::Result;
+use std::env::Args;
+use std::rt::Clock;
+
+/// Times each verb over the columns. The arguments are LONGS, SYMBOLS and ROWS; what is not given is not timed.
+pub fn run<R: Clock + Print + AllocGlobal>(rt: &R, mut arguments: Args) -> Result<()> {
+    if let Some(count) = arguments.next() {
+        let count = count.as_str().parse::<u32>()?;
+        timed::report_longs(rt, count)?;
+    }
+    if let Some(count) = arguments.next() {
+        let count = count.as_str().parse::<u32>()?;
+        names::report_symbols(rt, count)?;
+    }
+    if let Some(count) = arguments.next() {
+        let count = count.as_str().parse::<u32>()?;
+        groups::report_groups(rt, count)?;
+    }
+    Ok(())
+}
