@@ -16,8 +16,8 @@ import time
 import unittest
 
 from plant_client import (
-    BIG, IDENTITY, LITTLE, Atom, BadBytes, Client, Dictionary, Error, Keyed, List, PlantEnded, Table, Vector, decode, encode,
-    plain, typed,
+    BIG, IDENTITY, LITTLE, Atom, BadBytes, Client, Dictionary, EndOfDay, Error, Keyed, List, PlantEnded, Table, Update, Vector,
+    decode, encode, message, plain, typed,
 )
 
 ROOT = os.path.join(os.path.dirname(os.path.abspath(__file__)), "..", "..")
@@ -250,6 +250,28 @@ class Connection(unittest.TestCase):
 
     def test_big_endian(self):
         self.answers(BIG)
+
+    def test_publications_before_a_response(self):
+        rows = Table(("price",), (Vector("long", (7, 8)),))
+        update = List((Atom("symbol", b"upd"), Atom("symbol", b"trade"), rows))
+        end = List((Atom("symbol", b".u.end"), Atom("date", 8767)))
+
+        def serve(client, reads):
+            reads.read(5)
+            client.sendall(b"\x03")
+            for _ in range(2):
+                read_message(reads)
+                client.sendall(message(update, False) + message(end, False) + response(Atom("long", 1), LITTLE))
+            client.sendall(message(update, False, BIG))
+
+        with Port(serve) as port, Client.connect("127.0.0.1", port, user=b"u:p", timeout=30) as plant:
+            told = plant.subscribe("trade", "KX")
+            self.assertEqual(plant.query("2"), 1)
+            for _ in range(2):
+                self.assertEqual(next(told), Update("trade", Table(("price",), (Vector("long", (7, 8)),))))
+                self.assertEqual(next(told), EndOfDay(DAY))
+            self.assertEqual(next(told).rows["price"], [7, 8])
+            self.assertRaises(StopIteration, next, told)
 
     def test_nothing_listens(self):
         with socket.create_server(("127.0.0.1", 0)) as listener:

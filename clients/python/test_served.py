@@ -80,6 +80,29 @@ class Served(unittest.TestCase):
                 feed.query("select foo from trade")
         self.ends()
 
+    def test_two_subscribers(self):
+        """Each is told every update that it is subscribed to, in order: after its own messages at once, and else when a read
+        of the plant times out."""
+        self.start(3)
+        with self.client() as feed, self.client() as every, self.client(order=BIG) as one:
+            everything, rows = every.subscribe(), one.subscribe("trade", ["KX"])
+            for size in range(1000):
+                feed.update("trade", HALF_PAST_NINE, "AB", 1, size)
+                feed.update("trade", [HALF_PAST_NINE] * 2, ["KX", "AB"], [2, 3], [size, size])
+            for size in range(1000):
+                single, pair = next(everything), next(everything)
+                self.assertEqual((single.table, list(single.rows)), ("trade", [(HALF_PAST_NINE, "AB", 1, size)]))
+                self.assertEqual(pair.rows["price"], [2, 3])
+                self.assertEqual(list(next(rows).rows), [(HALF_PAST_NINE, "KX", 2, size)])
+            with self.assertRaises(Error):
+                one.subscribe("foo")
+            rows = one.subscribe("trade", "AB")
+            feed.update("trade", HALF_PAST_NINE, "KX", 4, 1)
+            feed.update("trade", HALF_PAST_NINE, "AB", 5, 1)
+            self.assertEqual(one.query("exec count i from trade"), 3002)
+            self.assertEqual(next(rows).rows["price"], [5])
+        self.ends()
+
     def test_rows_are_there_at_the_next_start(self):
         subprocess.run([PLANT, "init", "--dir", self.folder], check=True)
         rows = 100_000

@@ -165,23 +165,3 @@ fn clock_beyond_one_day(rt: HostRuntime) -> Result<(), Fail> {
     assert!(rt; are_answered_at(&rt, rt.alloc(), earlier, done, logged, 1, &one)?);
     Ok(())
 }
-
-/// Whether a text that subscribes is declined with `nyi`, and the next text answered.
-fn is_declined<R: Wait>(rt: &R, alloc: Global, text: &[u8]) -> Result<bool, NoMemory> {
-    let message = text_of(alloc, 1, text)?;
-    let given = Given {
-        updates: message.as_slice(),
-        readings: &[NOW],
-        sent: b"\x01\x02\0\0\x0d\0\0\0\x80nyi\0",
-        turns: &[Turn::Declined],
-    };
-    let texts: [Asked; 1] = [(b".u.i", NONE)];
-    answers(rt, alloc, given, 0, &texts)
-}
-
-#[test]
-fn subscriptions_are_declined(rt: HostRuntime) -> Result<(), Fail> {
-    assert!(rt; is_declined(&rt, rt.alloc(), b".u.sub[`trade;`a]")?);
-    assert!(rt; is_declined(&rt, rt.alloc(), b".u.sub[`;`]")?);
-    Ok(())
-}
