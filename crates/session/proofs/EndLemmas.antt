@@ -295,3 +295,9 @@ no_session limits l k n a =
       clock = works.clock;
       access = works.access;
     }
+
+-- the devices are what the session left them as
+pub ends_as : {A L C N : Type 0} (access : A → AccessView) (link : L → LinkView) (clock : C → Option (List ℤ)) (notes : N → Option (List Turn)) (limits : Limits) (before : World) (end : End)
+    (l m : L) (k j : C) (n o : N) (a b : A) → m ≡ l → j ≡ k → o ≡ n → b ≡ a
+    → IsSession limits before (world (link l) (clock k) (notes n) (access a)) end → IsSession limits before (world (link m) (clock j) (notes o) (access b)) end
+ends_as access link clock notes limits before end l m k j n o a b link_is clock_is notes_are access_is session = rw (link_is, clock_is, notes_are, access_is) session

@@ -19,14 +19,14 @@ world_of access link clock notes s = world (link s.link.now) (clock s.clock.now)
 
 -- what a session knows between two events, by what its access shows
 abbrev pub state_of : {A L C G N : Type 0} → (A → AccessView) → Session A L C G N → State
-state_of access s = record { known = length (access s.access.now).seen; subscriber = s.subscriber; due = false }
+state_of access s = record { known = length (access s.access.now).seen; subscriber = s.subscriber.now; due = false }
 
 -- the same when an event was served, and publications haven't been looked for
 abbrev pub served_of : {A L C G N : Type 0} → (A → AccessView) → Session A L C G N → State
 served_of access s = record {
   known = length (access s.access.now).seen;
-  subscriber = s.subscriber;
-  due = is_owed s.subscriber (length (access s.access.now).seen);
+  subscriber = s.subscriber.now;
+  due = is_owed s.subscriber.now (length (access s.access.now).seen);
 }
 
 -- the session still has its devices and its limits
@@ -46,7 +46,7 @@ pub record HearsNothing {A L C G N : Type 0} (old new : Session A L C G N) : Typ
 -- nothing was read, and the subscriber is as it was
 pub record KeepsSubscriber {A L C G N : Type 0} (old new : Session A L C G N) : Type 0 where
   pub unheard : HearsNothing old new
-  pub subscriber : new.subscriber ≡ old.subscriber
+  pub subscriber : new.subscriber.now ≡ old.subscriber.now
 
 -- nothing was read, written or noted
 pub record OnlyAsks {A L C G N : Type 0} (old new : Session A L C G N) : Type 0 where

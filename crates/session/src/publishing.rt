@@ -24,11 +24,11 @@ impl<A: Access, L: Link, C: Clock, G: Gate, N: Recorder> Session<'_, A, L, C, G,
         ensures same { HearsNothing self.old self.new }
         ensures access { self.new.access.now ≡ self.old.access.now }
         ensures clock { self.new.clock.now ≡ self.old.clock.now }
-        ensures subscriber { self.new.subscriber ≡ told_up_to to self.old.subscriber }
+        ensures subscriber { self.new.subscriber.now ≡ told_up_to to self.old.subscriber.now }
         ensures noted { Tells (N.noted self.old.recorder.now) (N.noted self.new.recorder.now) (Turn.Told from to ∷ []) }
         ensures sent { Finishes (L.shown self.old.link.now) (L.shown self.new.link.now) messages.now result }
     {
-        if let Some(subscriber) = &mut self.subscriber {
+        if let Some(subscriber) = &mut *self.subscriber {
             subscriber.cursor = to;
         }
         self.recorder.note(Turn::Told { from, to });
@@ -38,14 +38,14 @@ impl<A: Access, L: Link, C: Clock, G: Gate, N: Recorder> Session<'_, A, L, C, G,
     /// Publishes what the subscriber is owed, if there is a subscriber. What can't be sent it is owed still.
     pub fn publish<R: Wait>(&mut self, rt: &R, alloc: Global) -> Option<End>
         requires same { (A.shown self.old.access.now).frame.limits ≡ self.old.limits.now }
-        requires fits { FitsPlant (A.shown self.old.access.now).frame (length (A.shown self.old.access.now).seen) self.old.subscriber }
+        requires fits { FitsPlant (A.shown self.old.access.now).frame (length (A.shown self.old.access.now).seen) self.old.subscriber.now }
         ensures same { HearsNothing self.old self.new }
         ensures performs { Performs []
             (world_of A.shown L.shown C.readings N.noted self.old)
             (world_of A.shown L.shown C.readings N.noted self.new)
             (served_of A.shown self.old) (state_of A.shown self.new) result }
     {
-        match &self.subscriber {
+        match &*self.subscriber {
             Some(_) => self.publish_owed(rt, alloc),
             None => None,
         }
@@ -54,8 +54,8 @@ impl<A: Access, L: Link, C: Clock, G: Gate, N: Recorder> Session<'_, A, L, C, G,
     /// Publishes what the subscriber is owed. There is one.
     fn publish_owed<R: Wait>(&mut self, rt: &R, alloc: Global) -> Option<End>
         requires same { (A.shown self.old.access.now).frame.limits ≡ self.old.limits.now }
-        requires some { (of : Subscriber) × (self.old.subscriber ≡ Some of) }
-        requires fits { FitsPlant (A.shown self.old.access.now).frame (length (A.shown self.old.access.now).seen) self.old.subscriber }
+        requires some { (of : Subscriber) × (self.old.subscriber.now ≡ Some of) }
+        requires fits { FitsPlant (A.shown self.old.access.now).frame (length (A.shown self.old.access.now).seen) self.old.subscriber.now }
         ensures same { HearsNothing self.old self.new }
         ensures performs { Performs []
             (world_of A.shown L.shown C.readings N.noted self.old)

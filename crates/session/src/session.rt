@@ -35,7 +35,7 @@ pub struct Session<'a, A, L, C, G, N> {
     /// How many more reads may time out. The session ends where it gets to 0.
     pub idles_left: u64,
     /// What the client is subscribed to; none before its first subscription.
-    pub subscriber: Option<Subscriber>,
+    pub subscriber: &'a mut Option<Subscriber>,
 }
 
 impl<'a, A: Access, L: Link, C: Clock, G: Gate, N: Recorder> Session<'a, A, L, C, G, N> {
@@ -48,6 +48,7 @@ impl<'a, A: Access, L: Link, C: Clock, G: Gate, N: Recorder> Session<'a, A, L, C
         recorder: &'a mut N,
         limits: &'a Limits,
         reader: &'a mut Reader,
+        subscriber: &'a mut Option<Subscriber>,
     ) -> Session<'a, A, L, C, G, N>
         ensures access { IsLent access.entry result.access }
         ensures link { IsLent link.entry result.link }
@@ -56,7 +57,7 @@ impl<'a, A: Access, L: Link, C: Clock, G: Gate, N: Recorder> Session<'a, A, L, C
         ensures limits { result.limits.now ≡ limits.now }
         ensures reader { result.reader.now ≡ reader.old }
         ensures idles_left { result.idles_left ≡ limits.now.idle }
-        ensures subscriber { result.subscriber ≡ None }
+        ensures subscriber { result.subscriber.now ≡ subscriber.old }
     {
         Session {
             access,
@@ -67,7 +68,7 @@ impl<'a, A: Access, L: Link, C: Clock, G: Gate, N: Recorder> Session<'a, A, L, C
             limits,
             reader,
             idles_left: limits.idle,
-            subscriber: None,
+            subscriber,
         }
     }
 }
@@ -100,7 +101,17 @@ pub fn serve_session<A: Access, L: Link, C: Clock, G: Gate, N: Recorder, R: Wait
 {
     let end = match Reader::new(alloc, limits) {
         Ok(mut reader) => {
-            let mut session = Session::new(access, link, clock, gate, turns, limits, &mut reader);
+            let mut subscriber = None;
+            let mut session = Session::new(
+                access,
+                link,
+                clock,
+                gate,
+                turns,
+                limits,
+                &mut reader,
+                &mut subscriber,
+            );
             session.serve_all(rt, alloc)
         }
         Err(_) => End::NoMemory,
