@@ -1,11 +1,11 @@
 -- What stays true of a subscriber from step to step.
-use Rattle.std.proofs.Common.{◌≡◌, ◌≤◌, ◌⊎◌, ℕ, Bool, List, [], ◌∷◌, length, refl, sym, ap, subst, ◌∙◌, arith, inl, inr, Option, Some, None}
+use Rattle.std.proofs.Common.{◌≡◌, ◌≤◌, ℕ, Bool, List, [], ◌∷◌, refl, sym, ap, subst, ◌∙◌, arith, inl, inr, Option, Some, None}
 use Rattle.day_rows.specs.declared.entry.Entry.{Entry}
 use Rattle.ipc_frame.specs.Stream.{Content, built, unbuilt}
 use Rattle.plant_memory.specs.Frame.{Frame}
 use Rattle.pubsub.specs.declared.request.SubRequest.{SubRequest}
 use Rattle.q_values.specs.declared.turn.Turn.{Turn}
-use Rattle.session.specs.Lawful.{AllGoOn, AreLengths, last_length, length_after}
+use Rattle.session.specs.Lawful.{AreLengths, last_length, length_after}
 use Rattle.session.specs.Owing.{FitsPlant}
 use Rattle.session.specs.Request.{Request, update, subscribe, mistyped, text, other, request_of, subscription_in}
 use Rattle.session.specs.Served.{Event, greeted, asked, idled, published, Deed, Step}
@@ -13,7 +13,7 @@ use Rattle.session.specs.State.{State, Chain}
 use Rattle.session.specs.Steps.{Serves, ServesAsked, ServesContent, IsStep}
 use Rattle.session.specs.Subscribing.{Publishes, ServesSubscription, ServesForm}
 use Rattle.session.specs.declared.subscriber.Subscriber.{Subscriber}
-use Rattle.session.proofs.GoingLemmas.{at_most, go_on-rises}
+use Rattle.session.proofs.GoingLemmas.{go_on-rises}
 
 -- more is known
 pub fits-more : (frame : Frame) (n m : ℕ) (x y : Option Subscriber) → n ≤ m → y ≡ x → FitsPlant frame n x → FitsPlant frame m y

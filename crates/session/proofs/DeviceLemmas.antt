@@ -1,6 +1,6 @@
 -- Which devices a session has.
 use Rattle.std.proofs.Common.{refl, ◌∙◌}
-use Rattle.session.specs.Devices.{HasSameDevices, HearsNothing, KeepsSubscriber, OnlyAsks}
+use Rattle.session.specs.Devices.{HasSameDevices, HearsNothing, OnlyAsks}
 use Rattle.session.specs.declared.session.Session.{Session}
 
 pub devices-none : {A L C G N : Type 0} (s : Session A L C G N) → HasSameDevices s s

@@ -17,7 +17,7 @@ use Rattle.session.specs.Run.{World, Works, Advances, turns_of, made_in, snapsho
 use Rattle.session.specs.Served.{Event, greeted, asked, idled, published, Deed, Step, StandsAfter, ServesRequest, ServesText, ServesIdle, IsIdle}
 use Rattle.session.specs.State.{State, Chain}
 use Rattle.session.specs.Steps.{Serves, ServesAsked, ServesContent, IsStep}
-use Rattle.session.specs.Subscribing.{Publishes, IsTold, IsTooMuch, IsSubscribed, IsUnknown, IsTooMuchBefore, IsShortOfTelling, ServesSubscription, ServesForm}
+use Rattle.session.specs.Subscribing.{Publishes, IsTooMuch, IsUnknown, IsTooMuchBefore, IsShortOfTelling, ServesSubscription, ServesForm}
 use Rattle.session.specs.declared.subscriber.Subscriber.{Subscriber}
 use Rattle.pubsub.specs.declared.request.SubRequest.{SubRequest}
 use Rattle.session.proofs.GoingLemmas.{at_most, just, go_on-lower}

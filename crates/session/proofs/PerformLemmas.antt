@@ -1,5 +1,5 @@
 -- Events that are served, as steps.
-use Rattle.std.proofs.Common.{◌≡◌, ℕ, ℤ, Bool, false, List, [], ◌∷◌, ◌++◌, length, map, take, refl, sym, ap, subst, ◌∙◌, arith, inl, inr, ◌⊎◌, Option, Some, None}
+use Rattle.std.proofs.Common.{◌≡◌, ℕ, ℤ, Bool, List, [], ◌∷◌, ◌++◌, length, take, refl, sym, ap, subst, ◌∙◌, inl, inr, Option, Some, None}
 use Rattle.std.specs.List.{flat_map}
 use Rattle.std.proofs.lemmas.List.{append-nil, map-append}
 use Rattle.std.proofs.lemmas.List.Concat.{flat_map-append}
@@ -41,9 +41,13 @@ finishes-append : (l m n : LinkView) (ps qs : List (List ℕ)) (end : Option End
 finishes-append l m n ps qs None p q =
     q ∙ ap (λ (v : LinkView). record v { taken = told v.taken (flat_map (λ part. part) qs) }) p
     ∙ ap (λ k. record l { taken = k }) (told-told l.taken (flat_map (λ part. part) ps) (flat_map (λ part. part) qs) ∙ ap (told l.taken) (sym (flat_map-append (λ part. part) ps qs)))
-finishes-append l m n ps qs (Some end) p q = (q.0, flat_map (λ part. part) ps ++ q.1, sent-append e.WriteFault ps qs q.1 q.2,
-    q.3 ∙ ap (λ (v : LinkView). record v { taken = told v.taken q.1; write_faults = counted v.write_faults 1 }) p
-    ∙ ap (λ k. record l { taken = k; write_faults = counted l.write_faults 1 }) (told-told l.taken (flat_map (λ part. part) ps) q.1))
+finishes-append l m n ps qs (Some end) p q = (
+  q.0,
+  flat_map (λ part. part) ps ++ q.1,
+  sent-append e.WriteFault ps qs q.1 q.2,
+  q.3 ∙ ap (λ (v : LinkView). record v { taken = told v.taken q.1; write_faults = counted v.write_faults 1 }) p
+      ∙ ap (λ k. record l { taken = k; write_faults = counted l.write_faults 1 }) (told-told l.taken (flat_map (λ part. part) ps) q.1),
+)
 
 -- one step
 pub performs-one : (a b : World) (x y : State) (event : Event) (heard : List Event) (deed : Deed) (end : Option End)

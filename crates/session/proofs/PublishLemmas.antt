@@ -1,5 +1,5 @@
 -- What a subscriber is told.
-use Rattle.std.proofs.Common.{◌≡◌, ◌<◌, ◌≤◌, ◌+◌, ℕ, ℤ, Bool, false, List, [], ◌∷◌, ◌++◌, length, refl, sym, ap, subst, ◌∙◌, arith, inl, inr, Option, Some, None}
+use Rattle.std.proofs.Common.{◌≡◌, ◌<◌, ◌≤◌, ℕ, ℤ, false, List, [], ◌∷◌, ◌++◌, length, refl, sym, ap, subst, ◌∙◌, arith, inl, inr, Option, Some, None}
 use Rattle.std.specs.Prelude.{nat_lt}
 use Rattle.std.proofs.lemmas.Bool.{le-ltb}
 use Rattle.std.proofs.lemmas.List.{append-nil, length-append}
@@ -7,17 +7,15 @@ use Rattle.day_rows.specs.declared.entry.Entry.{Entry}
 use Rattle.outside_api.specs.Link.{LinkView}
 use Rattle.outside_api.specs.Told.{Tells}
 use Rattle.plant_core.specs.Access.{AccessView, Sees}
-use Rattle.plant_memory.specs.Frame.{Frame}
-use Rattle.publications.specs.Notice.{sent_for}
 use Rattle.q_values.specs.declared.turn.Turn.{Turn}
 use Rattle.q_values.specs.declared.turn.Turn.TheVariants as t
 use Rattle.session.specs.Acting.{Finishes, Performs}
-use Rattle.session.specs.Devices.{HearsNothing, OnlyAsks, world_of, state_of, served_of}
+use Rattle.session.specs.Devices.{OnlyAsks, world_of, state_of, served_of}
 use Rattle.session.specs.Owing.{FitsPlant, OwesMessages, OwesTooMuch, told_up_to}
 use Rattle.session.specs.Run.{Advances, advanced}
 use Rattle.session.specs.Served.{published, Deed}
 use Rattle.session.specs.State.{State, is_owed}
-use Rattle.session.specs.Subscribing.{Publishes, IsPaid, owed}
+use Rattle.session.specs.Subscribing.{Publishes, IsPaid}
 use Rattle.session.specs.declared.end.End.{End}
 use Rattle.session.specs.declared.session.Session.{Session}
 use Rattle.session.specs.declared.subscriber.Subscriber.{Subscriber}
@@ -157,16 +155,19 @@ publishes_too_long access link clock notes s m z from to asks still l owes same 
     let b = access m.access.now in
     let size = reports_all (access s.access.now) b l to owes.to_is in
     noted_alone access link clock notes s m z owes.of (t.TooLong from to) asks still l owes.is same after kept unsent noted (record { each = (size, tt); last = sym size })
-    (inr (refl, inl (record {
-      count = to;
-      front = b.seen;
-      is_front = record { count = owes.to_is; more = []; whole = sym (append-nil b.seen) };
-      more = subst (λ n. n < to) owes.from_is owes.more;
-      long = owes.long;
-      noted = ap (λ n. t.TooLong n to ∷ []) owes.from_is;
-      sent_is = refl;
-      still = record { unread = refl; unmade = refl; unasked = (refl, refl) };
-    })))
+    (inr (
+      refl,
+      inl (record {
+        count = to;
+        front = b.seen;
+        is_front = record { count = owes.to_is; more = []; whole = sym (append-nil b.seen) };
+        more = subst (λ n. n < to) owes.from_is owes.more;
+        long = owes.long;
+        noted = ap (λ n. t.TooLong n to ∷ []) owes.from_is;
+        sent_is = refl;
+        still = record { unread = refl; unmade = refl; unasked = (refl, refl) };
+      }),
+    ))
 
 pub publishes_short : {A L C G N : Type 0} (access : A → AccessView) (link : L → LinkView) (clock : C → Option (List ℤ)) (notes : N → Option (List Turn)) (s m z : Session A L C G N) (of : Subscriber)
     → OnlyAsks s m → m.clock.now ≡ s.clock.now → Sees (access s.access.now) (access m.access.now)

@@ -1,5 +1,5 @@
 -- Consecutive steps, up to an end.
-use Rattle.std.proofs.Common.{◌≡◌, ◌<◌, ◌+◌, ◌⊎◌, ℕ, ℤ, false, List, [], ◌∷◌, ◌++◌, length, map, take, Option, refl, sym, ap, subst, ◌∙◌, arith, append_assoc, inl, inr}
+use Rattle.std.proofs.Common.{◌≡◌, ◌<◌, ◌+◌, ◌⊎◌, ℕ, ℤ, false, List, [], ◌∷◌, ◌++◌, length, take, Option, refl, sym, ap, subst, ◌∙◌, arith, append_assoc, inl, inr}
 use Rattle.std.specs.List.{flat_map}
 use Rattle.std.proofs.lemmas.List.{length-append, map-append, append-nil}
 use Rattle.std.proofs.lemmas.List.Concat.{flat_map-append}
@@ -9,7 +9,6 @@ use Rattle.q_values.specs.declared.limits.Limits.{Limits}
 use Rattle.session.specs.Arrival.{ReaderView, unheard}
 use Rattle.session.specs.Ended.{Runs, Converses, Rests, IsSent, SpendsIdles, WasOpenAt, NeedsNoRead, ended_link}
 use Rattle.session.specs.Run.{World, world, moved, sent_in}
-use Rattle.session.specs.Served.{Event, Step}
 use Rattle.session.specs.State.{State}
 use Rattle.session.specs.declared.end.End.{End}
 use Rattle.session.specs.declared.end.End.TheVariants as e

@@ -28,7 +28,6 @@ use Rattle.session.specs.Reply.{response, reply, replied, refusal_text}
 use Rattle.session.specs.Request.{Request, update, mistyped, text, other}
 use Rattle.session.specs.Run.{Advances, advanced}
 use Rattle.session.specs.Served.{Deed, IsDeclined, IsUnserved, entry_turns}
-use Rattle.session.specs.State.{State}
 use Rattle.session.specs.declared.answer.Answer.{Answer}
 use Rattle.session.specs.declared.reply.Reply.{Reply}
 use Rattle.session.proofs.GoingLemmas.{advances, just}

@@ -1,6 +1,5 @@
 -- Serving an event, and publishing after it.
-use Rattle.std.proofs.Common.{◌≡◌, ◌<◌, ◌≤◌, ℕ, ℤ, Bool, true, false, List, [], ◌∷◌, ◌++◌, length, refl, sym, ap, subst, ◌∙◌, inl, inr, Option, Some, None, codes}
-use Rattle.std.proofs.lemmas.List.{append-nil}
+use Rattle.std.proofs.Common.{◌≡◌, ◌<◌, ℕ, ℤ, Bool, List, [], ◌∷◌, length, refl, sym, ap, subst, ◌∙◌, inl, inr, Option, Some, None, codes}
 use Rattle.day_rows.specs.declared.entry.Entry.{Entry}
 use Rattle.ipc_frame.specs.Stream.{built, unbuilt}
 use Rattle.outside_api.specs.Link.{LinkView}

@@ -1,5 +1,5 @@
 -- One step of a session.
-use Rattle.std.proofs.Common.{◌≡◌, ◌<◌, ◌+◌, ℕ, ℤ, Bool, true, false, if◌then◌else◌, List, [], ◌∷◌, ◌++◌, length, take, Option, Some, None, refl, sym, ap, subst, ◌∙◌, arith, inl, inr, ◌⊎◌}
+use Rattle.std.proofs.Common.{◌≡◌, ◌<◌, ◌+◌, ℕ, ℤ, Bool, true, false, if◌then◌else◌, List, [], ◌∷◌, ◌++◌, length, Option, Some, None, refl, sym, ap, subst, ◌∙◌, arith, inl, inr, ◌⊎◌}
 use Rattle.std.specs.List.{flat_map}
 use Rattle.std.proofs.lemmas.List.{append-nil, length-append}
 use Rattle.std.specs.Prelude.{IsTrue, ◌↔◌}
@@ -83,22 +83,25 @@ pub heard_step : (limits : Limits) (place : ℕ) (a b : World) (x y : State) (r 
     → idles_heard (event ∷ []) ≡ 0
     → Performs (event ∷ []) a b x y result
     → Goes limits place a b x y r s left left result
-heard_step limits place a b x y r s left event None same at some is hears none p = (record {
-  steps = p.steps;
-  heard = r.framer.held;
-  given = [];
-  idled = 0;
-  link = p.link ∙ sent_link a.link p.steps;
-  works = subst (λ z. Works a b x z p.steps) (p.goes_on refl) p.works;
-  bytes = append-nil (unheard r) ∙ ap (λ (v : ReaderView). r.framer.held ++ unheard v) (sym is);
-  hears = subst (λ (v : ReaderView). Hears limits r.framer.greeted place r.framer.held (events p.steps) v.framer.greeted) (sym is)
-      (hears-heard limits r.framer.greeted true place r.framer.held (events p.steps) (rw p.events hears));
-  limits_same = ap (λ (v : ReaderView). v.framer.limits) is ∙ same;
-  placed = ap (λ (v : ReaderView). v.framer.place) is ∙ told_after r.framer.place place (length r.framer.held) at;
-  counted = idles-heard (events p.steps) ∙ ap idles_heard p.events ∙ none;
-  idles = omega arith;
-  opened = inl (refl, refl);
-}, some)
+heard_step limits place a b x y r s left event None same at some is hears none p = (
+  record {
+    steps = p.steps;
+    heard = r.framer.held;
+    given = [];
+    idled = 0;
+    link = p.link ∙ sent_link a.link p.steps;
+    works = subst (λ z. Works a b x z p.steps) (p.goes_on refl) p.works;
+    bytes = append-nil (unheard r) ∙ ap (λ (v : ReaderView). r.framer.held ++ unheard v) (sym is);
+    hears = subst (λ (v : ReaderView). Hears limits r.framer.greeted place r.framer.held (events p.steps) v.framer.greeted) (sym is)
+        (hears-heard limits r.framer.greeted true place r.framer.held (events p.steps) (rw p.events hears));
+    limits_same = ap (λ (v : ReaderView). v.framer.limits) is ∙ same;
+    placed = ap (λ (v : ReaderView). v.framer.place) is ∙ told_after r.framer.place place (length r.framer.held) at;
+    counted = idles-heard (events p.steps) ∙ ap idles_heard p.events ∙ none;
+    idles = omega arith;
+    opened = inl (refl, refl);
+  },
+  some,
+)
 heard_step limits place a b x y r s left event (Some end) same at some is hears none p =
     let f = p.link in
     subst (λ e. Converses limits place a b x r left e) (sym f.0) (record {
@@ -170,22 +173,24 @@ opened_by l given (inr still) = inr still
 -- more was read or taken, and nothing heard
 pub more_step : (limits : Limits) (place : ℕ) (l l' : LinkView) (k : Option (List ℤ)) (n : Option (List Turn)) (a : AccessView) (x : State) (r s : ReaderView) (left : ℕ) → r.framer.limits ≡ limits → r.framer.place ≡ told_place place → 0 < left → Gathers l l' r s → Runs limits place (world l k n a) (world l' k n a) x x r s left left × (0 < left)
 more_step limits place l l' k n a x r s left same at some g =
-    let z : place ≡ place + 0 = omega arith in
-    (record {
-      steps = [];
-      heard = [];
-      given = g.given;
-      idled = 0;
-      link = g.link;
-      works = works-none l l' k n a x;
-      bytes = g.bytes;
-      hears = (refl, g.greeted);
-      limits_same = g.limits ∙ same;
-      placed = g.place ∙ at ∙ ap told_place z;
-      counted = refl;
-      idles = omega arith;
-      opened = opened_by l g.given g.opened;
-    }, some)
+    let z : place ≡ place + 0 = omega arith in (
+      record {
+        steps = [];
+        heard = [];
+        given = g.given;
+        idled = 0;
+        link = g.link;
+        works = works-none l l' k n a x;
+        bytes = g.bytes;
+        hears = (refl, g.greeted);
+        limits_same = g.limits ∙ same;
+        placed = g.place ∙ at ∙ ap told_place z;
+        counted = refl;
+        idles = omega arith;
+        opened = opened_by l g.given g.opened;
+      },
+      some,
+    )
 
 -- a read timeout hears no byte
 hears_idle : (limits : Limits) (g h : Bool) (place : ℕ) → h ≡ g → Hears limits g place [] (idled ∷ []) h

@@ -1,8 +1,7 @@
 -- What is done with a subscription.
-use Rattle.std.proofs.Common.{◌≡◌, ℕ, ℤ, Bool, true, false, List, [], ◌∷◌, ◌++◌, length, refl, sym, ap, subst, ◌∙◌, inl, inr, ◌⊎◌, Option, Some, None, codes, arith}
+use Rattle.std.proofs.Common.{◌≡◌, ℕ, ℤ, Bool, true, List, [], ◌∷◌, ◌++◌, length, refl, sym, ap, subst, ◌∙◌, inl, inr, ◌⊎◌, Option, Some, None, codes, arith}
 use Rattle.std.proofs.lemmas.List.{append-nil}
 use Rattle.day_rows.specs.declared.entry.Entry.{Entry}
-use Rattle.day_rows.specs.declared.schema.Shape.{Shape}
 use Rattle.ipc_frame.specs.Stream.{built}
 use Rattle.outside_api.specs.Link.{LinkView}
 use Rattle.outside_api.specs.Told.{Tells}
@@ -18,14 +17,13 @@ use Rattle.q_values.specs.declared.limits.Limits.{Limits}
 use Rattle.q_values.specs.declared.turn.Turn.{Turn}
 use Rattle.q_values.specs.declared.turn.Turn.TheVariants as t
 use Rattle.session.specs.Acting.{Finishes, Performs, ServesHeard}
-use Rattle.session.specs.Answering.{Does, ServesValue, AnswersUnknown, turns_by, sent_by, deed_of}
+use Rattle.session.specs.Answering.{Does, ServesValue, AnswersUnknown, turns_by, sent_by}
 use Rattle.session.specs.Devices.{OnlyAsks, KeepsSubscriber, world_of, state_of, served_of}
-use Rattle.session.specs.Owing.{FitsPlant, OwesMessages, OwesTooMuch, told_up_to, IsTextOf, IsSubscriptionTo}
+use Rattle.session.specs.Owing.{FitsPlant, OwesMessages, OwesTooMuch, told_up_to, IsSubscriptionTo}
 use Rattle.session.specs.Reply.{reply, replied, response}
-use Rattle.session.specs.Request.{Request, subscribe, text, request_of, subscription_in}
+use Rattle.session.specs.Request.{Request, request_of}
 use Rattle.session.specs.Run.{Advances}
 use Rattle.session.specs.Served.{asked, Deed, IsShort}
-use Rattle.session.specs.State.{State}
 use Rattle.session.specs.Steps.{ServesContent}
 use Rattle.session.specs.Subscribing.{ServesSubscription, IsPaid, chosen_by}
 use Rattle.session.specs.declared.answer.Answer.{Answer}
@@ -34,7 +32,7 @@ use Rattle.session.specs.declared.session.Session.{Session}
 use Rattle.session.specs.declared.subscriber.Subscriber.{Subscriber}
 use Rattle.session.proofs.PerformLemmas.{performs-one, performs-append, content_performs}
 use Rattle.session.proofs.PublishLemmas.{sees_after, whole_turn, reports_all, publishes_told}
-use Rattle.session.proofs.ServedLemmas.{Idles, advances_idle, does_nothing, tells_declined, tells_short}
+use Rattle.session.proofs.ServedLemmas.{advances_idle, does_nothing, tells_declined, tells_short}
 use Rattle.session.proofs.ServingLemmas.{performed-frame, performed-fits}
 use Rattle.session.proofs.ToldLemmas.{told-nil}
 
@@ -55,14 +53,17 @@ does_unknown : (a : AccessView) (k : Option (List ℤ)) (x : Option Subscriber) 
     → Does (λ deed. ServesSubscription a.frame a.seen x x sync request deed ⊎ IsShort sync deed) k k a a answer
 does_unknown a k x limits sync request (r.NoTable name) answer same refuses (inl is) =
     does_nothing a k (λ deed. ServesSubscription a.frame a.seen x x sync request deed ⊎ IsShort sync deed) answer t.Declined is.roll is.turn (tells_declined _)
-    (inl (inr (refl, inl (record {
-      unknown = refuses.1;
-      declined = record {
-        noted = rw (is.roll, is.turn) refl;
-        answered = is.reply ∙ (λ i. replied sync (reply (sym same i) (wrong (refuses.0 i))));
-        still = record { unread = refl; unmade = refl; unasked = (refl, refl) };
-      };
-    }))))
+    (inl (inr (
+      refl,
+      inl (record {
+        unknown = refuses.1;
+        declined = record {
+          noted = rw (is.roll, is.turn) refl;
+          answered = is.reply ∙ (λ i. replied sync (reply (sym same i) (wrong (refuses.0 i))));
+          still = record { unread = refl; unmade = refl; unasked = (refl, refl) };
+        };
+      }),
+    )))
 does_unknown a k x limits sync request (r.NoTable name) answer same refuses (inr is) =
     does_nothing a k (λ deed. ServesSubscription a.frame a.seen x x sync request deed ⊎ IsShort sync deed) answer t.Short is.roll is.turn (tells_short _)
     (inr (record { noted = rw (is.roll, is.turn) refl; answered = is.reply; read = omega arith; unticked = refl; unmade = refl }))
@@ -130,16 +131,19 @@ too_much_performs access link clock notes s m z limits sync value request from t
       ticked = 0;
       clock = ap clock unread ∙ sym (told-nil (clock s.clock.now));
       access = rw turns (whole_turn a b l (t.TooLong from to) to owes.to_is (record { each = (size, tt); last = sym size }));
-      done = inl (rw owes.is (inr (refl, inr (record {
-        count = to;
-        front = b.seen;
-        is_front = record { count = owes.to_is; more = []; whole = sym (append-nil b.seen) };
-        more = rw (← owes.from_is) owes.more;
-        long = owes.long;
-        noted = turns ∙ ap (λ n. t.TooLong n to ∷ []) owes.from_is;
-        sent_is = answered ∙ ap (λ (v : Limits). replied sync (reply v (wrong (codes "limit")))) (sym same);
-        still = record { unread = refl; unmade = refl; unasked = (refl, refl) };
-      }))));
+      done = inl (rw owes.is (inr (
+        refl,
+        inr (record {
+          count = to;
+          front = b.seen;
+          is_front = record { count = owes.to_is; more = []; whole = sym (append-nil b.seen) };
+          more = rw (← owes.from_is) owes.more;
+          long = owes.long;
+          noted = turns ∙ ap (λ n. t.TooLong n to ∷ []) owes.from_is;
+          sent_is = answered ∙ ap (λ (v : Limits). replied sync (reply v (wrong (codes "limit")))) (sym same);
+          still = record { unread = refl; unmade = refl; unasked = (refl, refl) };
+        }),
+      )));
     }) noted sent
 
 -- the session was out of memory after it looked at the chronicle
@@ -220,7 +224,7 @@ pub told_subscribed : {A L C G N : Type 0} (access : A → AccessView) (link : L
 told_subscribed access link clock notes s m w z limits sync value request subscription bytes messages from to end is same fits asks unread l owes reached unheard moved told sent known chosen answered own still holds noted replied_to =
     let a = access s.access.now in
     let p : Performs [] (world_of access link clock notes s) (world_of access link clock notes w) (state_of access s) (state_of access w) None =
-        publishes_told access link clock notes s m w (state_of access s) from to messages None asks unread l owes reached unheard moved told sent refl refl in
+    publishes_told access link clock notes s m w (state_of access s) from to messages None asks unread l owes reached unheard moved told sent refl refl in
     let frame_is : (access w.access.now).frame ≡ a.frame = performed-frame [] _ _ _ _ None p in
     let holder : w.subscriber.now ≡ Some (record owes.of { cursor = to }) = moved ∙ ap (told_up_to to) (asks.unheard.subscriber ∙ owes.is) in
     let one : chosen_by (access w.access.now).frame w.subscriber.now ≡ chosen_by a.frame s.subscriber.now = rw (holder, owes.is) refl in

@@ -10,7 +10,9 @@ ghost use Rattle.qsql_request.specs.Views.{sub_of};
 
 use plant_memory::UpdRequest;
 use pubsub::{SubRequest, Wanted};
-use q_values::{Atom, ByteKind, Column, Names, NoMemory, Sym, Symbols, Text, Value, Values, Vector};
+use q_values::{
+    Atom, ByteKind, Column, Names, NoMemory, Sym, Symbols, Text, Value, Values, Vector,
+};
 use qsql_request as forms;
 use std::alloc::Global;
 

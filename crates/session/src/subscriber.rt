@@ -80,12 +80,7 @@ impl<A: Access, L: Link, C: Clock, G: Gate, N: Recorder> Session<'_, A, L, C, G,
         let from = cursor_of(self.subscriber);
         let tail = self.access.tail(rt, alloc, from)?;
         match &*self.subscriber {
-            Some(subscriber) => owed_of(
-                alloc,
-                &tail,
-                &subscriber.subscription,
-                self.limits.batch,
-            ),
+            Some(subscriber) => owed_of(alloc, &tail, &subscriber.subscription, self.limits.batch),
             None => {
                 let (_, to) = tail.span();
                 Ok(Owed::Nothing { to })

@@ -103,12 +103,7 @@ impl<A: Access, L: Link, C: Clock, G: Gate, N: Recorder> Session<'_, A, L, C, G,
     }
 
     /// Notes that a subscription holds from the length `to` on, and sends the response. A write that fails ends the session.
-    fn take_up(
-        &mut self,
-        subscription: Subscription,
-        reply: Option<Reply>,
-        to: u64,
-    ) -> Option<End>
+    fn take_up(&mut self, subscription: Subscription, reply: Option<Reply>, to: u64) -> Option<End>
         ensures same { HearsNothing self.old self.new }
         ensures access { self.new.access.now ≡ self.old.access.now }
         ensures clock { self.new.clock.now ≡ self.old.clock.now }

@@ -16,7 +16,7 @@ returns-then-eq-2 c =
     let not_upd = rw c.as_slice.ensures at (sym c.eq.ensures ∙ c.if-eq.false) in
     let is_sub = rw c.as_slice-2.ensures at (sym c.eq-2.ensures ∙ c.if-eq-2.true) in
     rw (sub_symbols c.args.symbols.now c.at-function.result.now c.at.result.now c.at-then-eq-2.result.now three c.at-function.ensures.value c.at.ensures.value
-        c.at-then-eq-2.ensures.value not_upd is_sub) c.subscription_to.ensures
+    c.at-then-eq-2.ensures.value not_upd is_sub) c.subscription_to.ensures
 
 pub returns : goal.returns
 returns c =
