@@ -30,8 +30,9 @@ impl ReadTimeout for TcpStream {
 }
 
 /// The link of a connection whose reads time out: after 50 milliseconds, but sooner while the client is told things that it
-/// didn't ask for, so that a subscriber gets what other sessions log without having to send anything. It counts its faults and its read timeouts, and keeps no bytes. Each
-/// count saturates at 2^64 - 1. A call that a signal interrupted is tried again at once.
+/// didn't ask for, so that a subscriber gets what other sessions log without having to send anything. It counts its faults
+/// and its read timeouts, and keeps no bytes. Each count saturates at 2^64 - 1. A call that a signal interrupted is tried
+/// again at once.
 #[derive(Drop)]
 pub struct SocketLink<'a, R, S> {
     /// By its clock a write sleeps that would block.

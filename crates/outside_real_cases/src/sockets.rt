@@ -1,6 +1,6 @@
 //! The port and the link of a connection, on real sockets of this machine, and the link over a stream that fails as planned.
 use outside_api::{Got, Link};
-use outside_real::{OpenPort, PortRefusal, SocketLink};
+use outside_real::{OpenPort, PortRefusal, ReadTimeout, SocketLink};
 use std::io::{ErrorKind, Read, Write};
 use std::net::{Shutdown, TcpListener, TcpStream};
 use std::time::{Duration, Instant};
@@ -111,6 +111,22 @@ fn clients_that_are_gone_before_they_are_accepted(rt: HostRuntime) {
     assert_eq!(rt; accepted, 5);
 }
 
+// A client that was told something without asking is looked after soon: 20 reads that time out take less than 20 times 50
+// milliseconds.
+#[test]
+fn reads_time_out_soon_after_a_publication(rt: HostRuntime) {
+    let (client, stream) = connected(&rt).expect(&rt, "no port");
+    let mut link = SocketLink::new(&rt, stream);
+    assert!(rt; link.write(b"told").is_ok());
+    let start = Instant::now(&rt).expect(&rt, "failed");
+    for _ in 0..20u32 {
+        assert_eq!(rt; read_two(&mut link), (Got::Idle, [0, 0]));
+    }
+    let waited = start.elapsed(&rt).expect(&rt, "failed");
+    assert!(rt; waited < Duration::from_millis(900));
+    drop(client);
+}
+
 #[test]
 fn a_port_is_listened_on_once(rt: HostRuntime) {
     let port = free_port(&rt).expect(&rt, "no port");
@@ -164,6 +180,12 @@ impl Write for Planned {
     }
 
     fn flush(&mut self) -> io::Result<()> {
+        Ok(())
+    }
+}
+
+impl ReadTimeout for Planned {
+    fn wait_at_most(&self, _milliseconds: u64) -> io::Result<()> {
         Ok(())
     }
 }

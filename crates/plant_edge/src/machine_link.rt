@@ -3,7 +3,7 @@ ghost use Rattle.std.specs.Prelude.{◌≡◌};
 
 use crate::link::StandardLink;
 use outside_api::{Got, Link, LinkFault};
-use outside_real::SocketLink;
+use outside_real::{ReadTimeout, SocketLink};
 use std::io::{Read, Write};
 use std::time::Clock;
 
@@ -16,7 +16,7 @@ pub enum MachineLink<'a, R, I, O, S> {
     Socket(SocketLink<'a, R, S>),
 }
 
-impl<'a, R: Clock, I: Read, O: Write, S: Read + Write> Link for MachineLink<'a, R, I, O, S> {
+impl<'a, R: Clock, I: Read, O: Write, S: Read + Write + ReadTimeout> Link for MachineLink<'a, R, I, O, S> {
     ghost use Rattle.outside_api.specs.Link.{Reads, Writes};
     ghost use Rattle.plant_edge.specs.Link.{machine_shown};
 
