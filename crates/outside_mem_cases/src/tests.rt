@@ -112,12 +112,16 @@ fn last_reading_is_repeated(rt: HostRuntime) {
 
 fn rows(rt: &impl Abort, alloc: Global, price: i64) -> TapMessage {
     let mut names = Names::new(alloc);
-    names.push(Sym::copied(alloc, b"price").expect(rt, "memory")).expect(rt, "memory");
+    names
+        .push(Sym::copied(alloc, b"price").expect(rt, "memory"))
+        .expect(rt, "memory");
     let mut prices = Vec::new(alloc);
     prices.push(price).expect(rt, "memory");
     prices.push(price).expect(rt, "memory");
     let mut columns = Columns::new(alloc);
-    columns.push(Vector::from_column(Column::Longs(LongKind::Long, prices))).expect(rt, "memory");
+    columns
+        .push(Vector::from_column(Column::Longs(LongKind::Long, prices)))
+        .expect(rt, "memory");
     let table = Sym::copied(alloc, b"trade").expect(rt, "memory");
     let rows = TableValue { names, columns };
     TapMessage::Rows { table, rows }

@@ -16,7 +16,8 @@ pub enum MachineLink<'a, R, I, O, S> {
     Socket(SocketLink<'a, R, S>),
 }
 
-impl<'a, R: Clock, I: Read, O: Write, S: Read + Write + ReadTimeout> Link for MachineLink<'a, R, I, O, S> {
+impl<'a, R: Clock, I: Read, O: Write, S: Read + Write + ReadTimeout> Link
+    for MachineLink<'a, R, I, O, S> {
     ghost use Rattle.outside_api.specs.Link.{Reads, Writes};
     ghost use Rattle.plant_edge.specs.Link.{machine_shown};
 

@@ -3,7 +3,9 @@ ghost use Rattle.std.specs.Prelude.{◌≡◌, IfOk};
 
 use day_rows::{Entries, Entry, Schema};
 use outside_api::TapMessage;
-use pubsub::{SubRefusal, SubRequest, Subscription, TapMessages, Wanted, are_of_schema, messages_of};
+use pubsub::{
+    SubRefusal, SubRequest, Subscription, TapMessages, Wanted, are_of_schema, messages_of,
+};
 use q_shown::push_value;
 use q_values::{Column, Columns, LongKind, NoMemory, Sym, Symbols, Value, Vector};
 use schema_text::built_in_schema;

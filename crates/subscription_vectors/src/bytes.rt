@@ -7,15 +7,13 @@ pub(crate) const TO_A: &[u8] = b"\x01\x01\0\0\x1f\0\0\0\x0a\0\x11\0\0\0.u.sub[`t
 pub(crate) const TO_B: &[u8] = b"\x01\x01\0\0\x1f\0\0\0\x0a\0\x11\0\0\0.u.sub[`trade;`b]";
 
 /// The text ``.u.sub[`trade;`]`` as an async message.
-pub(crate) const ASYNC_TO_TRADE: &[u8] =
-    b"\x01\0\0\0\x1e\0\0\0\x0a\0\x10\0\0\0.u.sub[`trade;`]";
+pub(crate) const ASYNC_TO_TRADE: &[u8] = b"\x01\0\0\0\x1e\0\0\0\x0a\0\x10\0\0\0.u.sub[`trade;`]";
 
 /// The text ``.u.sub[`;`]``.
 pub(crate) const TO_ALL: &[u8] = b"\x01\x01\0\0\x19\0\0\0\x0a\0\x0b\0\0\0.u.sub[`;`]";
 
 /// The text ``.u.sub[`trade`quote;`]``.
-pub(crate) const TO_TWO: &[u8] =
-    b"\x01\x01\0\0$\0\0\0\x0a\0\x16\0\0\0.u.sub[`trade`quote;`]";
+pub(crate) const TO_TWO: &[u8] = b"\x01\x01\0\0$\0\0\0\x0a\0\x16\0\0\0.u.sub[`trade`quote;`]";
 
 /// The text ``.u.sub[`foo;`]``.
 pub(crate) const TO_FOO: &[u8] = b"\x01\x01\0\0\x1c\0\0\0\x0a\0\x0e\0\0\0.u.sub[`foo;`]";
@@ -29,8 +27,7 @@ pub(crate) const TO_NOTHING: &[u8] =
     b"\x01\x01\0\0#\0\0\0\0\0\x03\0\0\0\xf5.u.sub\0\xf5trade\0\x0b\0\0\0\0\0";
 
 /// The symbols `.u.sub`, `trade` and `b`.
-pub(crate) const SYMBOLS_TO_B: &[u8] =
-    b"\x01\x01\0\0\x1d\0\0\0\x0b\0\x03\0\0\0.u.sub\0trade\0b\0";
+pub(crate) const SYMBOLS_TO_B: &[u8] = b"\x01\x01\0\0\x1d\0\0\0\x0b\0\x03\0\0\0.u.sub\0trade\0b\0";
 
 /// The list of `.u.sub`, `trade` and the long 1.
 pub(crate) const TO_ONE: &[u8] =
@@ -67,5 +64,4 @@ pub(crate) const THIRD_TOLD: &[u8] =
 \x07\0\x01\0\0\0\x07\0\0\0\0\0\0\0";
 
 /// The publication of the end of 2024.01.02.
-pub(crate) const END_TOLD: &[u8] =
-    b"\x01\0\0\0\x1b\0\0\0\0\0\x02\0\0\0\xf5.u.end\0\xf2?\x22\0\0";
+pub(crate) const END_TOLD: &[u8] = b"\x01\0\0\0\x1b\0\0\0\0\0\x02\0\0\0\xf5.u.end\0\xf2?\x22\0\0";

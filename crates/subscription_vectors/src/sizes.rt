@@ -10,6 +10,7 @@ use test_sessions::{NOW, Outcome, sat};
 
 // The front of an update of `trade` by vectors, and of its publication.
 const UPDATE: &[u8] = b"\0\0\x03\0\0\0\xf5.u.upd\0\xf5trade\0\0\0\x04\0\0\0";
+
 const TOLD: &[u8] =
     b"\0\0\x03\0\0\0\xf5upd\0\xf5trade\0b\0c\x0b\0\x04\0\0\0time\0sym\0price\0size\0\0\0\x04\0\0\0";
 

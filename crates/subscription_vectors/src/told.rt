@@ -6,9 +6,7 @@ use crate::bytes::{
 use outside_mem::Taking;
 use q_values::{NANOSECONDS_PER_DAY, Turn};
 use session::End;
-use test_sessions::bytes::{
-    DONE, FIRST, FOO, FOURTH, GREETED, GREETING, SECOND, THIRD, TYPE,
-};
+use test_sessions::bytes::{DONE, FIRST, FOO, FOURTH, GREETED, GREETING, SECOND, THIRD, TYPE};
 use test_sessions::{
     GREETED_TURN, NOW, Read, Wanted, messages_go, messages_go_at, script_goes, script_goes_at,
 };
@@ -26,7 +24,16 @@ fn subscription_filters_and_day_end(rt: HostRuntime) {
     let wanted = Wanted {
         end: End::Closed,
         sent: &[
-            GREETED, TRADE, DONE, DONE, SECOND_TOLD, TRADE, DONE, THIRD_TOLD, DONE, END_TOLD,
+            GREETED,
+            TRADE,
+            DONE,
+            DONE,
+            SECOND_TOLD,
+            TRADE,
+            DONE,
+            THIRD_TOLD,
+            DONE,
+            END_TOLD,
         ],
         turns: &[
             GREETED_TURN,
@@ -51,7 +58,9 @@ fn subscription_filters_and_day_end(rt: HostRuntime) {
     };
     let readings = [NOW, NOW, NOW, TOMORROW];
     let messages = [TO_A, FIRST, SECOND, TO_B, THIRD, FOURTH];
-    assert!(rt; messages_go_at(&rt, rt.alloc(), &readings, &messages, wanted).expect(&rt, "memory"));
+    assert!(rt;
+        messages_go_at(&rt, rt.alloc(), &readings, &messages, wanted).expect(&rt, "memory")
+    );
 }
 
 // A set of symbols, symbols as one vector, and a set without symbols, which is told of the end of the date alone.
@@ -60,7 +69,17 @@ fn calls_that_subscribe(rt: HostRuntime) {
     let wanted = Wanted {
         end: End::Closed,
         sent: &[
-            GREETED, TRADE, DONE, DONE, SECOND_TOLD, TRADE, DONE, THIRD_TOLD, TRADE, DONE, END_TOLD,
+            GREETED,
+            TRADE,
+            DONE,
+            DONE,
+            SECOND_TOLD,
+            TRADE,
+            DONE,
+            THIRD_TOLD,
+            TRADE,
+            DONE,
+            END_TOLD,
         ],
         turns: &[
             GREETED_TURN,
@@ -94,7 +113,9 @@ fn calls_that_subscribe(rt: HostRuntime) {
         TO_NOTHING,
         FOURTH,
     ];
-    assert!(rt; messages_go_at(&rt, rt.alloc(), &readings, &messages, wanted).expect(&rt, "memory"));
+    assert!(rt;
+        messages_go_at(&rt, rt.alloc(), &readings, &messages, wanted).expect(&rt, "memory")
+    );
 }
 
 // What was logged before a subscription isn't told; one that is async has no answer.
@@ -102,9 +123,7 @@ fn calls_that_subscribe(rt: HostRuntime) {
 fn every_table_and_async(rt: HostRuntime) {
     let wanted = Wanted {
         end: End::Closed,
-        sent: &[
-            GREETED, DONE, BOTH, DONE, SECOND_TOLD, DONE, THIRD_TOLD,
-        ],
+        sent: &[GREETED, DONE, BOTH, DONE, SECOND_TOLD, DONE, THIRD_TOLD],
         turns: &[
             GREETED_TURN,
             logged(0),
@@ -125,9 +144,7 @@ fn every_table_and_async(rt: HostRuntime) {
 fn refused_subscriptions(rt: HostRuntime) {
     let wanted = Wanted {
         end: End::Closed,
-        sent: &[
-            GREETED, TRADE, FOO, TYPE, TYPE, DONE, FIRST_TOLD,
-        ],
+        sent: &[GREETED, TRADE, FOO, TYPE, TYPE, DONE, FIRST_TOLD],
         turns: &[
             GREETED_TURN,
             Turn::Subscribed { length: 0 },
@@ -168,7 +185,9 @@ fn told_at_a_read_timeout(rt: HostRuntime) {
         Read::Idle,
         Read::Idle,
     ];
-    assert!(rt; script_goes_at(&rt, rt.alloc(), &[TOMORROW], &reads, &[], wanted).expect(&rt, "memory"));
+    assert!(rt;
+        script_goes_at(&rt, rt.alloc(), &[TOMORROW], &reads, &[], wanted).expect(&rt, "memory")
+    );
 }
 
 // A publication that can't be written ends the session: its turn was noted, and the response before it was sent.
