@@ -103,6 +103,59 @@ class Served(unittest.TestCase):
             self.assertEqual(next(rows).rows["price"], [5])
         self.ends()
 
+    def test_feeds_and_subscribers_at_once(self):
+        """Two feeds and three subscribers with filters of their own, each on a thread: what each was told is what the plant
+        has logged of its choice, in order, each row once."""
+        for words in ((), ("--batch",)):
+            with self.subTest(words=words):
+                self.feeds_and_subscribers(1000, words)
+
+    def feeds_and_subscribers(self, updates, words):
+        self.start(6, *words)
+        chosen, got, failures = {"every": "", "set": ["AB", "KX"], "none": []}, {}, []
+        met = threading.Barrier(len(chosen) + 2, timeout=60)
+
+        def feed(number):
+            with self.client() as plant:
+                met.wait()
+                for size in range(updates):
+                    plant.update("trade", [HALF_PAST_NINE] * 2, ["AB", f"S{number}"], [number, size], [size, size])
+                plant.update("quote", HALF_PAST_NINE, "end", 1, 1, 1, 1)
+
+        def subscribe(name):
+            with self.client() as plant:
+                plant.subscribe("quote")
+                told, ends = plant.subscribe("trade", chosen[name]), 0
+                met.wait()
+                rows = got.setdefault(name, [])
+                for publication in told:
+                    if publication.table == "quote":
+                        ends += len(publication.rows)
+                        if ends == 2:
+                            break
+                    else:
+                        rows += list(publication.rows)
+
+        def run(talk, argument):
+            try:
+                talk(argument)
+            except Exception as failure:  # told below
+                failures.append(failure)
+
+        threads = [threading.Thread(target=run, args=it) for it in [(subscribe, name) for name in chosen] + [(feed, 0), (feed, 1)]]
+        for thread in threads:
+            thread.start()
+        for thread in threads:
+            thread.join()
+        self.assertEqual(failures, [])
+        with self.client() as plant:
+            logged = [row[1:] for row in plant.query("select from trade")]
+        self.ends()
+        self.assertEqual(len(logged), 4 * updates)
+        self.assertEqual(got["every"], logged)
+        self.assertEqual(got["set"], [row for row in logged if row[1] in ("AB", "KX")])
+        self.assertEqual(got["none"], [])
+
     def test_rows_are_there_at_the_next_start(self):
         subprocess.run([PLANT, "init", "--dir", self.folder], check=True)
         rows = 100_000
