@@ -112,7 +112,7 @@ class Served(unittest.TestCase):
 
     def feeds_and_subscribers(self, updates, words):
         self.start(6, *words)
-        chosen, got, failures = {"every": "", "set": ["AB", "KX"], "none": []}, {}, []
+        chosen, got, failures = {"every": "", "set": ["AB", "KX", "end"], "one": ["end"]}, {}, []
         met = threading.Barrier(len(chosen) + 2, timeout=60)
 
         def feed(number):
@@ -120,21 +120,17 @@ class Served(unittest.TestCase):
                 met.wait()
                 for size in range(updates):
                     plant.update("trade", [HALF_PAST_NINE] * 2, ["AB", f"S{number}"], [number, size], [size, size])
-                plant.update("quote", HALF_PAST_NINE, "end", 1, 1, 1, 1)
+                plant.update("trade", HALF_PAST_NINE, "end", 1, 1)
 
         def subscribe(name):
             with self.client() as plant:
-                plant.subscribe("quote")
-                told, ends = plant.subscribe("trade", chosen[name]), 0
+                told, rows = plant.subscribe("trade", chosen[name]), got.setdefault(name, [])
                 met.wait()
-                rows = got.setdefault(name, [])
-                for publication in told:
-                    if publication.table == "quote":
-                        ends += len(publication.rows)
-                        if ends == 2:
-                            break
-                    else:
-                        rows += list(publication.rows)
+                ends = 0
+                while ends < 2:
+                    came = list(next(told).rows)
+                    ends += sum(row[1] == "end" for row in came)
+                    rows += came
 
         def run(talk, argument):
             try:
@@ -151,10 +147,10 @@ class Served(unittest.TestCase):
         with self.client() as plant:
             logged = [row[1:] for row in plant.query("select from trade")]
         self.ends()
-        self.assertEqual(len(logged), 4 * updates)
+        self.assertEqual(len(logged), 4 * updates + 2)
         self.assertEqual(got["every"], logged)
-        self.assertEqual(got["set"], [row for row in logged if row[1] in ("AB", "KX")])
-        self.assertEqual(got["none"], [])
+        for name in ("set", "one"):
+            self.assertEqual(got[name], [row for row in logged if row[1] in chosen[name]])
 
     def test_rows_are_there_at_the_next_start(self):
         subprocess.run([PLANT, "init", "--dir", self.folder], check=True)
