@@ -130,7 +130,7 @@ fn kind_of(field: Field) -> Kind {
 
 fn push_decimal(rt: &impl Abort, alloc: Global, out: &mut Vec<u8>, number: i64) {
     let text = format!(in alloc; "{number}").expect(rt, "memory");
-    out.extend_from_slice(text.as_bytes())
+    out.extend_from_slice(text.as_bytes()).expect(rt, "memory");
 }
 
 fn push_item(rt: &impl Abort, alloc: Global, out: &mut Vec<u8>, field: Field, number: i64) {
@@ -166,7 +166,8 @@ fn push_column(
         push_item(rt, alloc, out, field, *number);
         mark = b" ";
     }
-    out.extend_from_slice(if items.is_empty() { b"[]" } else { b"]" })
+    let end: &[u8] = if items.is_empty() { b"[]" } else { b"]" };
+    out.extend_from_slice(end).expect(rt, "memory");
 }
 
 // What the slow program gives.
