@@ -39,8 +39,8 @@ def show_memory(program, size):
     print(f"{'list of':12} {'bytes':>11} {'peak, MiB':>10} {'per byte':>9}")
     for name, length in OBJECTS:
         count = str(size // length)
-        most = peak(*program, "decode", name, count)
-        more = most - peak(*program, "measure", name, count)
+        most = peak(program, "decode", name, count)
+        more = most - peak(program, "measure", name, count)
         print(f"{name:12} {size:11,} {most / 2**20:10.1f} {more / size:9.2f}")
 
 
@@ -57,16 +57,16 @@ def main():
     parser.add_argument("--memory", type=int, metavar="N", help="decode lists of N bytes, and print their memory instead")
     options = parser.parse_args()
     if options.memory:
-        return show_memory(programs.proved("values_bench", "codec"), options.memory)
+        return show_memory(programs.proved("codec_bench"), options.memory)
     if min(options.rows, options.longs, options.symbols, options.runs) < 1:
         parser.error("N is at least 1")
     arguments = [str(options.rows), str(options.longs), str(options.symbols)]
-    program = programs.proved("values_bench", "codec")
+    program = programs.proved("codec_bench")
     own, other = {}, {}
     with tempfile.TemporaryDirectory() as folder:
         loop = programs.compiled(folder, "codec")
         for _ in range(options.runs):
-            programs.best_of([*program, *arguments], own)
+            programs.best_of([program, *arguments], own)
             programs.best_of([loop, *arguments], other)
     print(f"{'':14} {'bytes':>11} {'ms':>9} {'copy ms':>9} {'loop ms':>9} {'to copy':>10} {'to loop':>10}")
     for what, shown_as in VALUES:

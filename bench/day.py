@@ -24,7 +24,7 @@ def times(program, loop, rows, size, runs):
     """The least nanoseconds of each step, for the plant's day and for the loop."""
     best = {}
     for _ in range(runs):
-        programs.best_of([*program, "timed", str(rows), str(size)], best)
+        programs.best_of([program, "timed", str(rows), str(size)], best)
         programs.best_of([loop, str(rows), str(size)], best)
     for step in ("log", "read", "sort"):
         if best["day", step][1] != rows or best["loop", step][1] != rows:
@@ -36,7 +36,7 @@ def memory(program, state, rows, size, runs):
     """The bytes at the peak and at the end, in the run with the least of each."""
     found = []
     for _ in range(runs):
-        words = programs.lines([*program, state, str(rows), str(size)])
+        words = programs.lines([program, state, str(rows), str(size)])
         said = {line[0]: int(line[1]) * 1024 for line in words if line and line[0] in ("VmHWM:", "VmRSS:")}
         found.append((said["VmHWM:"], said["VmRSS:"]))
     return min(peak for peak, _ in found), min(now for _, now in found)
@@ -76,7 +76,7 @@ def main():
         parser.error("N is at least 1, and 1000 is a multiple of the rows of an update")
     if min(options.rows) < 1000 or any(rows % 1000 for rows in options.rows):
         parser.error("the rows of the date are a multiple of 1000")
-    program = [options.program, "day"] if options.program else programs.proved("query_bench", "day")
+    program = options.program or programs.proved("day_bench")
     enough = [rows for rows in options.rows if rows * BYTES_PER_ROW <= available()]
     for rows in sorted(set(options.rows) - set(enough)):
         print(f"day.py: there isn't enough memory for {rows:,} rows", file=sys.stderr)

@@ -64,14 +64,10 @@ def script(options, name, *arguments):
     return [options.python, os.path.join(programs.HERE, name), *arguments]
 
 
-def command(options, benchmark):
-    return [options.program, benchmark] if options.program else programs.proved("query_bench", benchmark)
-
-
 def queries(options, clickhouse):
-    program = command(options, "eval")
+    program = options.program or programs.proved("eval_bench")
     for rows in options.rows:
-        commands = [[*program, rows], script(options, "eval_arrays.py", rows)]
+        commands = [[program, rows], script(options, "eval_arrays.py", rows)]
         if clickhouse:
             commands.append(script(options, "eval_clickhouse.py", clickhouse, rows, options.clickhouse_threads))
         best = run(commands, options.runs)
@@ -80,9 +76,9 @@ def queries(options, clickhouse):
 
 
 def joins(options):
-    program = command(options, "aj")
+    program = options.aj_program or programs.proved("aj_bench")
     for trades, quotes in JOINS:
-        best = run([[*program, trades, quotes], script(options, "aj_arrays.py", trades, quotes)], options.runs)
+        best = run([[program, trades, quotes], script(options, "aj_arrays.py", trades, quotes)], options.runs)
         show(best, "aj", f"aj[`sym`time;{trades:,} rows of trade;quote]", quotes)
 
 
@@ -98,7 +94,8 @@ def main():
     parser = argparse.ArgumentParser(description=__doc__.splitlines()[0])
     parser.add_argument("--rows", type=int, nargs="+", default=[1_000_000, 10_000_000], metavar="N", help="rows (1000000 10000000)")
     parser.add_argument("--runs", type=int, default=3, metavar="N", help="runs of each program, of five rounds (3)")
-    parser.add_argument("--program", help="the program, if it is built already")
+    parser.add_argument("--program", help="the program of the queries, if it is built already")
+    parser.add_argument("--aj-program", help="the program of the joins, if it is built already")
     parser.add_argument("--only-queries", action="store_true", help="no joins")
     parser.add_argument("--only-joins", action="store_true", help="no queries")
     parser.add_argument("--clickhouse", default="clickhouse-server", metavar="PROGRAM", help="the server of ClickHouse (clickhouse-server)")

@@ -23,7 +23,7 @@ SIZES = ((100_000, 1), (1_000, 1_000))
 def run_once(program, loop, count, rows):
     """The nanoseconds of each call of the plant beside those that it is compared with, in one run of both programs."""
     own, other = {}, {}
-    programs.best_of([*program, str(count), str(rows)], own)
+    programs.best_of([program, str(count), str(rows)], own)
     programs.best_of([loop, str(count), str(rows)], other)
     own, other = ({name: it for (_, name), it in found.items()} for found in (own, other))
     if own["memory"][1] != count or own["log"][1] != other["log"][1] or own["load"][1] != other["replay"][1]:
@@ -49,7 +49,7 @@ def main():
     parser = argparse.ArgumentParser(description=__doc__.splitlines()[0])
     parser.add_argument("--runs", type=int, default=5, metavar="N", help="runs of both programs, in turn (5)")
     options = parser.parse_args()
-    program = programs.proved("plant_bench", "plant")
+    program = programs.proved("plant_bench")
     print(f"{'updates':>9} {'rows':>6} {'call':16} {'ms':>9} {'other ms':>9} {'ratio':>8} {'least':>8} {'greatest':>8}")
     with tempfile.TemporaryDirectory() as folder:
         loop = programs.compiled(folder, "log")

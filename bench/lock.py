@@ -16,7 +16,7 @@ import programs
 
 LOCKS = ("lock", "ticket", "mutex")
 
-# The lines of `plant_bench shared` with updates, and those with the longest one.
+# The lines of `plant_shared_bench` with updates, and those with the longest one.
 UPDATED = {
     ("solo", 1): "a pass alone, without a lock",
     ("feeds", 1): "one thread",
@@ -36,12 +36,12 @@ def timed(command, times):
 
 def taken(takes, runs):
     """Times takes and gives, and prints them."""
-    program = programs.proved("storage_bench", "lock")
+    program = programs.proved("lock_bench")
     times = {}
     with tempfile.TemporaryDirectory() as folder:
         loop = programs.compiled(folder, "lock", edition="2024")
         for _ in range(runs):
-            timed([*program, str(takes)], times)
+            timed([program, str(takes)], times)
             timed([loop, str(takes)], times)
     print(f"{'threads':8}" + "".join(f"{name + '/s':>14}" for name in LOCKS) + f"{'to ticket':>12}{'to mutex':>12}")
     for threads in (1, 4):
@@ -58,11 +58,11 @@ def spread(rates):
 
 def updated(updates, rows, runs):
     """Times updates through the lock, and prints them."""
-    program = programs.proved("plant_bench", "shared")
+    program = programs.proved("plant_shared_bench")
     times = {}
     before = os.getloadavg()[0]
     for _ in range(runs):
-        for name, threads, nanoseconds, *number in programs.lines([*program, str(updates), str(rows)]):
+        for name, threads, nanoseconds, *number in programs.lines([program, str(updates), str(rows)]):
             times.setdefault((name, int(threads)), []).append((int(nanoseconds), int(number[0]) if number else 0))
     print(f"load of the machine: {before:.1f} before the runs of updates, {os.getloadavg()[0]:.1f} after them")
     print(f"{'updates by':28}{'updates/s':>12}{'least':>12}{'most':>12}{'snapshots/s':>12}{'least':>12}{'most':>12}")

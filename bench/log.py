@@ -24,7 +24,7 @@ CALLS = ("log", "load", "replay")
 def show_memory(program):
     for count, rows in SIZES:
         words = str(count), str(rows)
-        load, day, made = (peak(*program, *words, word) for word in ("load", "day", "made"))
+        load, day, made = (peak(program, *words, word) for word in ("load", "day", "made"))
         sizes = ", ".join(f"{name} {size / 2**20:.1f} MiB" for name, size in (("load", load), ("replay", day), ("day", made)))
         print(f"{count:9,} of {rows:5,}: {sizes}, beyond both {day / (load + made) - 1:+.1%}")
 
@@ -34,7 +34,7 @@ def main():
     parser.add_argument("--runs", type=int, default=3, metavar="N", help="runs of each program (3)")
     parser.add_argument("--memory", action="store_true", help="print peak memory instead")
     options = parser.parse_args()
-    program = programs.proved("storage_bench", "log")
+    program = programs.proved("log_bench")
     if options.memory:
         return show_memory(program)
     own, other = {}, {}
@@ -42,7 +42,7 @@ def main():
         loop = programs.compiled(folder, "log")
         for count, rows in SIZES:
             for _ in range(options.runs):
-                programs.best_of([*program, str(count), str(rows)], own)
+                programs.best_of([program, str(count), str(rows)], own)
                 programs.best_of([loop, str(count), str(rows)], other)
     print(f"{'updates':>9} {'rows':>6} {'call':8} {'ms':>9} {'loop ms':>9} {'to loop':>8}")
     for count, rows in SIZES:

@@ -3,7 +3,7 @@
 and then queries over a day of a million rows, one after the other.
 
 Prints, for each, the messages per second, the seconds, the bytes in and out and the peak memory, and then the ratio; for the
-updates also what their log costs: `plant_bench plant` makes the same updates without a session, with a log and in memory alone; for
+updates also what their log costs: `plant_bench` makes the same updates without a session, with a log and in memory alone; for
 the queries of a day, the messages per second, and by how many bytes a row the peak of the memory rose above the day's own: in
 all, and for each of the columns that the query reads (at most 24 is wanted).
 Needs rustc, a C compiler (gcc, or the one that CC names), the kit's `rt` and what `bin/plant` needs, and nothing else but Python 3.
@@ -174,9 +174,9 @@ def compare(folder, programs, what, front, one, reply, count, runs):
 
 def show_log(seconds, count, runs):
     """What the log is of the seconds that this many updates take through the plant: its records are made in memory too."""
-    program, took = proved("plant_bench", "plant"), {}
+    program, took = proved("plant_bench"), {}
     for _ in range(runs):
-        best_of([*program, str(count), "1"], took)
+        best_of([program, str(count), "1"], took)
     log = (took["1", "log"][0] - took["1", "memory"][0] + took["1", "records"][0]) / 1e9
     rest = seconds - log
     print(f"{'without a log':14} {count / rest:12,.0f} {rest:9.3f}")

@@ -17,10 +17,10 @@ def main():
     options = parser.parse_args()
     if not 64 <= options.length <= 16384 or options.runs < 1:
         parser.error("the length is 64 to 16384, and N is at least 1")
-    program = programs.proved("values_bench", "parse")
+    program = programs.proved("parse_bench")
     best = {}
     for _ in range(options.runs):
-        for what, size, nanoseconds, answer in programs.lines([*program, str(options.length)]):
+        for what, size, nanoseconds, answer in programs.lines([program, str(options.length)]):
             key = what, int(size), answer
             best[key] = min(best.get(key, int(nanoseconds)), int(nanoseconds))
     print(f"{'text':10} {'bytes':>7} {'microseconds':>13} {'ns/byte':>10}  answer")

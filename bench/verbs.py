@@ -66,13 +66,13 @@ def main():
     if subprocess.run([options.python, "-c", "import numpy"], stderr=subprocess.DEVNULL).returncode != 0:
         sys.exit("verbs.py: needs numpy, which is Debian's python3-numpy; --python names a Python that has it")
     arguments = [str(options.longs), str(options.symbols), str(options.rows)]
-    program = [options.program, "verbs"] if options.program else programs.proved("values_bench", "verbs")
+    program = options.program or programs.proved("verbs_bench")
     beside = [options.python, os.path.join(programs.HERE, "verbs_numpy.py"), arguments[0], arguments[2]]
     own, loops, arrays = {}, {}, {}
     with tempfile.TemporaryDirectory() as folder:
         loop = programs.compiled(folder, "verbs", "-C", "target-cpu=x86-64-v2")
         for _ in range(options.runs):
-            programs.best_of([*program, *arguments], own)
+            programs.best_of([program, *arguments], own)
             programs.best_of(beside, arrays)
             programs.best_of([loop, *arguments], loops)
     counts = {"symbols": options.symbols, **dict.fromkeys(("groups", "sum_by", "last_by", "max_by"), options.rows)}

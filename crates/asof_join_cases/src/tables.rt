@@ -3,44 +3,42 @@
 use q_values::{Column, Columns, IntegerKind, LongKind, Names, Sym, Symbols, Vector};
 use qsql_eval::Rows;
 use std::alloc::Global;
-use std::process::Abort;
+use std::test::Fail;
 
-fn longs(rt: &impl Abort, alloc: Global, kind: LongKind, numbers: &[i64]) -> Vector {
-    let items = Vec::from_slice(alloc, numbers).expect(rt, "memory");
-    Vector::from_column(Column::Longs(kind, items))
+fn longs(alloc: Global, kind: LongKind, numbers: &[i64]) -> Result<Vector, Fail> {
+    let items = Vec::from_slice(alloc, numbers)?;
+    Ok(Vector::from_column(Column::Longs(kind, items)))
 }
 
-fn dates(rt: &impl Abort, alloc: Global, numbers: &[i32]) -> Vector {
-    let items = Vec::from_slice(alloc, numbers).expect(rt, "memory");
-    Vector::from_column(Column::Integers(IntegerKind::Date, items))
+fn dates(alloc: Global, numbers: &[i32]) -> Result<Vector, Fail> {
+    let items = Vec::from_slice(alloc, numbers)?;
+    Ok(Vector::from_column(Column::Integers(IntegerKind::Date, items)))
 }
 
 // A symbol for each letter; a blank is the null.
-fn symbols(rt: &impl Abort, alloc: Global, letters: &[u8]) -> Vector {
+fn symbols(alloc: Global, letters: &[u8]) -> Result<Vector, Fail> {
     let mut items = Symbols::new(alloc);
     for letter in letters {
         let bytes = [*letter];
         let text: &[u8] = if *letter == b' ' { b"" } else { &bytes };
-        let name = Sym::of(alloc, text).expect(rt, "memory");
-        items.push(name.bytes()).expect(rt, "memory");
+        let name = Sym::of(alloc, text)?;
+        items.push(name.bytes())?;
     }
-    Vector::from_column(Column::Symbols(items))
+    Ok(Vector::from_column(Column::Symbols(items)))
 }
 
-fn names(rt: &impl Abort, alloc: Global, texts: &[&[u8]]) -> Names {
+fn names(alloc: Global, texts: &[&[u8]]) -> Result<Names, Fail> {
     let mut names = Names::new(alloc);
     for text in texts {
-        names
-            .push(Sym::of(alloc, text).expect(rt, "memory"))
-            .expect(rt, "memory");
+        names.push(Sym::of(alloc, text)?)?;
     }
-    names
+    Ok(names)
 }
 
-fn rows(rt: &impl Abort, names: Names, columns: Columns) -> Rows {
+fn rows(names: Names, columns: Columns) -> Result<Rows, Fail> {
     match Rows::new(names, columns) {
-        Some(rows) => rows,
-        None => panic!(rt; "columns of different lengths"),
+        Some(rows) => Ok(rows),
+        None => Err(Fail::from("columns of different lengths")),
     }
 }
 
@@ -55,25 +53,15 @@ pub(crate) struct Trades<'a> {
 }
 
 /// The rows of these trades.
-pub(crate) fn trade_rows(rt: &impl Abort, alloc: Global, trades: &Trades) -> Rows {
+pub(crate) fn trade_rows(alloc: Global, trades: &Trades) -> Result<Rows, Fail> {
     let mut columns = Columns::new(alloc);
-    columns
-        .push(dates(rt, alloc, trades.dates))
-        .expect(rt, "memory");
-    columns
-        .push(longs(rt, alloc, LongKind::Timespan, trades.times))
-        .expect(rt, "memory");
-    columns
-        .push(symbols(rt, alloc, trades.syms))
-        .expect(rt, "memory");
-    columns
-        .push(longs(rt, alloc, LongKind::Long, trades.prices))
-        .expect(rt, "memory");
-    columns
-        .push(longs(rt, alloc, LongKind::Long, trades.sizes))
-        .expect(rt, "memory");
+    columns.push(dates(alloc, trades.dates)?)?;
+    columns.push(longs(alloc, LongKind::Timespan, trades.times)?)?;
+    columns.push(symbols(alloc, trades.syms)?)?;
+    columns.push(longs(alloc, LongKind::Long, trades.prices)?)?;
+    columns.push(longs(alloc, LongKind::Long, trades.sizes)?)?;
     let texts: [&[u8]; 5] = [b"date", b"time", b"sym", b"price", b"size"];
-    rows(rt, names(rt, alloc, &texts), columns)
+    rows(names(alloc, &texts)?, columns)
 }
 
 /// Rows of `quote`.
@@ -88,29 +76,15 @@ pub(crate) struct Quotes<'a> {
 }
 
 /// The rows of these quotes.
-pub(crate) fn quote_rows(rt: &impl Abort, alloc: Global, quotes: &Quotes) -> Rows {
+pub(crate) fn quote_rows(alloc: Global, quotes: &Quotes) -> Result<Rows, Fail> {
     let mut columns = Columns::new(alloc);
-    columns
-        .push(dates(rt, alloc, quotes.dates))
-        .expect(rt, "memory");
-    columns
-        .push(longs(rt, alloc, LongKind::Timespan, quotes.times))
-        .expect(rt, "memory");
-    columns
-        .push(symbols(rt, alloc, quotes.syms))
-        .expect(rt, "memory");
-    columns
-        .push(longs(rt, alloc, LongKind::Long, quotes.bids))
-        .expect(rt, "memory");
-    columns
-        .push(longs(rt, alloc, LongKind::Long, quotes.asks))
-        .expect(rt, "memory");
-    columns
-        .push(longs(rt, alloc, LongKind::Long, quotes.sizes))
-        .expect(rt, "memory");
-    columns
-        .push(longs(rt, alloc, LongKind::Long, quotes.sizes))
-        .expect(rt, "memory");
+    columns.push(dates(alloc, quotes.dates)?)?;
+    columns.push(longs(alloc, LongKind::Timespan, quotes.times)?)?;
+    columns.push(symbols(alloc, quotes.syms)?)?;
+    columns.push(longs(alloc, LongKind::Long, quotes.bids)?)?;
+    columns.push(longs(alloc, LongKind::Long, quotes.asks)?)?;
+    columns.push(longs(alloc, LongKind::Long, quotes.sizes)?)?;
+    columns.push(longs(alloc, LongKind::Long, quotes.sizes)?)?;
     let texts: [&[u8]; 7] = [b"date", b"time", b"sym", b"bid", b"ask", b"bsize", b"asize"];
-    rows(rt, names(rt, alloc, &texts), columns)
+    rows(names(alloc, &texts)?, columns)
 }

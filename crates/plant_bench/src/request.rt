@@ -1,15 +1,9 @@
-//! The update that is logged, and when.
+//! The update that is logged.
 
 use day_rows::Entry;
 use plant_memory::UpdRequest;
 use q_values::{Column, Columns, LongKind, NoMemory, Sym, Symbols, Value, Values, Vector};
 use std::alloc::Global;
-
-/// The date of each plant: 2024.01.02, in days since 2000.01.01.
-pub const DATE: i32 = 8_767;
-
-/// 2024.01.02D09:30, in nanoseconds since 2000.01.01.
-pub const NOW: i64 = 757_503_000_000_000_000;
 
 fn longs(alloc: Global, kind: LongKind, item: i64, rows: usize) -> Result<Vector, NoMemory> {
     let items = vec![in alloc; item; rows]?;

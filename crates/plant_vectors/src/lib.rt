@@ -14,7 +14,7 @@
 //! end     Closed
 //! ```
 //!
-//! Sessions at real sizes and the order of their calls are in `session_cases`, queries in
+//! Sessions at real sizes are in `session_size_cases`, the order of their calls in `session_order_cases`, queries in
 //! `query_vectors`. The crate has no code outside its tests: so the crates that it tests are proved once, and not again with
 //! their tests.
 #![tactic(auto)]

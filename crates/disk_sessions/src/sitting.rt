@@ -1,0 +1,110 @@
+//! One session over a disk of which one call fails, and what a later load finds.
+ghost use Rattle.std.specs.Prelude.{◌≡◌, ◌≤ℤ◌, negsuc, pos};
+
+use outside_mem::{Callings, Leaving, MemClock, MemDisk, MemLink, MemRecorder, NoGate};
+use plant_core::{Plant, Solo};
+use q_values::{NoMemory, Turn};
+use session::{End, serve_session};
+use std::alloc::Global;
+use std::sync::Wait;
+use test_plants::{FIRST, are_longs, formatted, load, shown};
+use test_sessions::{Read, are_joined, clock_of, link_of};
+
+/// What is expected of a session, and of a load after it.
+#[derive(Clone, Copy)]
+pub struct Wanted<'a> {
+    /// What it sends, in parts.
+    pub sent: &'a [&'a [u8]],
+    /// The turns that it notes.
+    pub turns: &'a [Turn],
+    /// How many entries a load on the second date finds.
+    pub entries: u64,
+}
+
+/// 2024.01.03, in days since 2000.01.01.
+const SECOND: i32 = FIRST + 1;
+
+// The plant of a new disk whose calls go as these, if it is loaded.
+fn planned(alloc: Global, callings: Callings) -> Result<Option<Plant<MemDisk>>, NoMemory> {
+    match formatted(alloc)? {
+        Some(mut disk) => {
+            disk.plan(callings, None);
+            Ok(load(alloc, disk, FIRST).ok())
+        }
+        None => Ok(None),
+    }
+}
+
+// Serves the link over a plant which has logged nothing; the disk, if the input ends between messages.
+fn serve<R: Wait>(
+    rt: &R,
+    alloc: Global,
+    plant: Plant<MemDisk>,
+    clock: &mut MemClock,
+    link: &mut MemLink,
+    recorder: &mut MemRecorder,
+) -> Option<MemDisk> {
+    if plant.next_by() != 1 {
+        return None;
+    }
+    let limits = plant.limits();
+    let mut solo = Solo::new(plant);
+    let mut gate = NoGate;
+    let report = serve_session(
+        rt, alloc, &mut solo, link, clock, &mut gate, recorder, &limits,
+    );
+    (report.end == End::Closed).then_some(solo.into_plant().close())
+}
+
+// Whether the plant has this number of entries, and the sizes of the first date are those of one update.
+fn has_one(alloc: Global, plant: &Plant<MemDisk>, entries: u64) -> Result<bool, NoMemory> {
+    let snapshot = plant.snapshot(alloc)?;
+    match shown(alloc, &snapshot, plant.schema(), 0, 3)? {
+        Some(sizes) => Ok(plant.length() == entries && are_longs(&sizes, &[200])),
+        None => Ok(false),
+    }
+}
+
+// Whether a load on the second date, after a crash, finds one update and this number of entries.
+fn is_found(alloc: Global, disk: &MemDisk, entries: u64) -> Result<bool, NoMemory> {
+    match load(alloc, disk.restart(alloc, Leaving::Shortest)?, SECOND) {
+        Ok(plant) => has_one(alloc, &plant, entries),
+        Err(_) => Ok(false),
+    }
+}
+
+// Whether the session over this plant goes as expected, and one call of its disk failed.
+fn goes_on<R: Wait>(
+    rt: &R,
+    alloc: Global,
+    plant: Plant<MemDisk>,
+    clock: &mut MemClock,
+    link: &mut MemLink,
+    wanted: Wanted,
+) -> Result<bool, NoMemory> {
+    let mut recorder = MemRecorder::with_room(alloc, 16)?;
+    let Some(disk) = serve(rt, alloc, plant, clock, link, &mut recorder) else {
+        return Ok(false);
+    };
+    let told = recorder.turns() == wanted.turns && are_joined(link.taken(), wanted.sent);
+    Ok(told && disk.faults() == 1 && is_found(alloc, &disk, wanted.entries)?)
+}
+
+/// Whether a session goes as expected with these reads, these readings of the clock, and a disk whose calls go as these.
+pub fn goes<R: Wait>(
+    rt: &R,
+    alloc: Global,
+    callings: Callings,
+    readings: &[i64],
+    reads: &[Read],
+    wanted: Wanted,
+) -> Result<bool, NoMemory> {
+    let mut link = link_of(alloc, reads, &[])?;
+    let Some(mut clock) = clock_of(alloc, readings)? else {
+        return Ok(false);
+    };
+    match planned(alloc, callings)? {
+        Some(plant) => goes_on(rt, alloc, plant, &mut clock, &mut link, wanted),
+        None => Ok(false),
+    }
+}

@@ -1,5 +1,0 @@
-//! A disk that fails or goes down.
-
-mod faults;
-mod script;
-mod stops;

@@ -1,4 +1,0 @@
-//! Sessions whose disk fails.
-
-mod sessions;
-mod sitting;

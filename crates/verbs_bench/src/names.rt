@@ -1,0 +1,60 @@
+//! The verbs over columns of symbols, timed as `timed` does it.
+
+use crate::made;
+use crate::timed::{ROUNDS, columns_timed, in_timed, like_timed, one_timed};
+use anyhow::{Result, bail};
+use q_values::{Atom, Sym, Vector};
+use q_verbs::Verb;
+use std::alloc::Global;
+use std::rt::Clock;
+use std::time::Instant;
+
+// A number that every index of an order takes part in.
+fn number_of_order(order: &[usize]) -> i64 {
+    let mut number = 0u64;
+    for index in order {
+        number = number.wrapping_mul(31).wrapping_add(*index as u64);
+    }
+    number.cast_signed()
+}
+
+fn order_timed<R: Clock + Print>(rt: &R, alloc: Global, items: &Vector) -> Result<()> {
+    let start = Instant::now(rt)?;
+    let order = items.order(alloc)?;
+    let nanos = start.elapsed(rt)?.as_nanos();
+    let number = number_of_order(order.as_slice());
+    println!(rt; "symbols order {nanos} {number}")?;
+    Ok(())
+}
+
+fn names_timed<R: Clock + Print>(
+    rt: &R,
+    alloc: Global,
+    left: &Vector,
+    right: &Vector,
+    name: &Atom,
+) -> Result<()> {
+    let five = made::first_symbols(alloc, 5)?;
+    let fifty = made::first_symbols(alloc, 50)?;
+    for _ in 0..ROUNDS {
+        columns_timed(rt, alloc, "symbols equal", Verb::Eq, left, right)?;
+        one_timed(rt, alloc, "symbols equal_one", Verb::Eq, left, name)?;
+        in_timed(rt, alloc, "symbols in", left, &five)?;
+        in_timed(rt, alloc, "symbols in_50", left, &fifty)?;
+        like_timed(rt, alloc, left)?;
+        order_timed(rt, alloc, left)?;
+    }
+    Ok(())
+}
+
+/// Times the verbs over `count` symbols of four letters.
+pub fn report_symbols<R: Clock + Print + AllocGlobal>(rt: &R, count: u32) -> Result<()> {
+    let alloc = rt.alloc();
+    let left = made::symbols(alloc, count, made::STEP)?;
+    let right = made::symbols(alloc, count, made::OTHER_STEP)?;
+    if left.len() != right.len() {
+        bail!("no such columns");
+    }
+    let name = Atom::Symbol(Sym::of(alloc, b"S042")?);
+    names_timed(rt, alloc, &left, &right, &name)
+}
