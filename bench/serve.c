@@ -13,28 +13,13 @@
  * its Sync), `echo` (ten bytes; no hello).
  */
 #define _GNU_SOURCE
-#include <arpa/inet.h>
-#include <fcntl.h>
-#include <netinet/tcp.h>
-#include <poll.h>
+#include "port.h"
 #include <pthread.h>
-#include <stdint.h>
-#include <stdio.h>
-#include <stdlib.h>
 #include <string.h>
-#include <sys/socket.h>
-#include <sys/stat.h>
-#include <time.h>
-#include <unistd.h>
 
-enum { PIECE = 1 << 16, ECHO_REPLY = 10 };
+enum { ECHO_REPLY = 10 };
 
 typedef enum { KDB, REDIS, POSTGRES, ECHO } Kind;
-
-typedef struct {
-    char *bytes;
-    size_t length;
-} Bytes;
 
 /* What is read of replies: how many bytes are left of one whose length is known, and the header of one whose length isn't. */
 typedef struct {
@@ -56,50 +41,6 @@ typedef struct {
     int64_t began, ended;
     int64_t *waits;
 } Client;
-
-static void fail(const char *what) {
-    perror(what);
-    exit(1);
-}
-
-static int64_t now(void) {
-    struct timespec time;
-    clock_gettime(CLOCK_MONOTONIC, &time);
-    return time.tv_sec * 1000000000LL + time.tv_nsec;
-}
-
-static Bytes read_file(const char *path) {
-    struct stat about;
-    int from = open(path, O_RDONLY);
-    if (from < 0 || fstat(from, &about) < 0) fail(path);
-    Bytes file = {malloc((size_t)about.st_size + 1), (size_t)about.st_size};
-    if (!file.bytes || read(from, file.bytes, file.length) != (ssize_t)file.length) fail(path);
-    close(from);
-    return file;
-}
-
-static struct sockaddr_in loopback(int port) {
-    struct sockaddr_in at = {.sin_family = AF_INET, .sin_port = htons((uint16_t)port)};
-    at.sin_addr.s_addr = htonl(INADDR_LOOPBACK);
-    return at;
-}
-
-static int connected(int port) {
-    int link = socket(AF_INET, SOCK_STREAM, 0), one = 1;
-    struct sockaddr_in at = loopback(port);
-    if (link < 0 || connect(link, (struct sockaddr *)&at, sizeof at) < 0) fail("connect");
-    setsockopt(link, IPPROTO_TCP, TCP_NODELAY, &one, sizeof one);
-    return link;
-}
-
-static void send_whole(int link, const char *bytes, size_t count) {
-    while (count > 0) {
-        ssize_t sent = send(link, bytes, count, MSG_NOSIGNAL);
-        if (sent <= 0) fail("send");
-        bytes += sent;
-        count -= (size_t)sent;
-    }
-}
 
 static uint32_t little(const unsigned char *at) {
     return (uint32_t)at[0] | (uint32_t)at[1] << 8 | (uint32_t)at[2] << 16 | (uint32_t)at[3] << 24;
@@ -216,11 +157,6 @@ static void *run_client(void *given) {
     return NULL;
 }
 
-static int is_less(const void *a, const void *b) {
-    int64_t x = *(const int64_t *)a, y = *(const int64_t *)b;
-    return (x > y) - (x < y);
-}
-
 static Kind kind_of(const char *name) {
     static const char *const names[] = {"kdb", "redis", "postgres", "echo"};
     for (int i = 0; i < 4; i++)
@@ -241,10 +177,9 @@ static void print_results(Client *clients, long count) {
     long had = 0;
     for (long i = 0; i < count; i++)
         for (long j = 0; j < clients[i].answered; j++) waits[had++] = clients[i].waits[j];
-    qsort(waits, (size_t)had, sizeof *waits, is_less);
-    int64_t none = 0, *last = had ? &waits[had - 1] : &none;
-    printf("%ld %lld %lld %lld %lld\n", answered, (long long)(ended - began), (long long)(had ? waits[had / 2] : 0),
-           (long long)(had ? waits[had - 1 - had / 100] : 0), (long long)*last);
+    printf("%ld %lld", answered, (long long)(ended - began));
+    print_quantiles(waits, (size_t)had);
+    printf("\n");
 }
 
 static int ask(char **words) {

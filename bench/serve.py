@@ -4,15 +4,16 @@
 Updates of one row, in memory: one by one over one connection, beside a program that only echoes (what a round trip costs), and
 with many unanswered at once. Durable updates: one connection, and eight. Then `select last price by sym from trade` over rows
 of a hundred symbols from one and from four connections, alone and while one more feeds, and what the feed loses meanwhile;
-that beside PostgreSQL alone. At the end of each run the rows that a server has are counted and compared with what was
-answered, and the last prices with the rows that were sent.
+that beside PostgreSQL alone. Then subscribers, beside those of Redis (subscribers.py). At the end of each run the rows that a
+server has are counted and compared with what was answered, and the last prices with the rows that were sent.
 
 Redis appends a row as one string to a list (RPUSH), with appendfsync=always where it is durable. PostgreSQL inserts it by a
 prepared statement, into an unlogged table with fsync off, or where it is durable into a logged one with its standard
 settings. The plant is durable in a folder (`serve --dir`), and else in memory.
 
 Needs a C compiler, what `bin/plant` needs, redis-server and postgresql (Debian's packages of these names; what isn't there is
-left out, and said), and nothing else but Python 3. It installs nothing. --svg FILE draws the results.
+left out, and said), and nothing else but Python 3. It installs nothing. --svg FILE draws the results, --only PART measures
+one part: updates, queries or subscribers.
 """
 
 import argparse
@@ -33,7 +34,8 @@ sys.path[:0] = [HERE, os.path.join(ROOT, "clients", "python")]
 
 from bars import draw  # noqa: E402
 from durable import built, update  # noqa: E402
-from plant_client import MAX_MESSAGE, Client, Vector  # noqa: E402
+from plant_client import Client, Vector  # noqa: E402
+from subscribers import compare_subscribers  # noqa: E402
 
 SYMBOLS = 100
 BATCH = 1000
@@ -126,7 +128,8 @@ class Redis(Server):
 
     def start(self):
         synced = ["--appendonly", "yes", "--appendfsync", "always"] if self.durable else ["--appendonly", "no"]
-        words = ["--port", str(self.port), "--bind", "127.0.0.1", "--dir", self.folder, "--save", "", *synced]
+        unread = ["--client-output-buffer-limit", "pubsub", "0", "0", "0"]
+        words = ["--port", str(self.port), "--bind", "127.0.0.1", "--dir", self.folder, "--save", "", *synced, *unread]
         self.started([self.programs["redis"], *words])
 
     def update(self):
@@ -288,24 +291,33 @@ def found_programs(options):
     programs = {"plant": built(options.program), "redis": shutil.which("redis-server")}
     folders = sorted(glob.glob("/usr/lib/postgresql/*/bin"), key=lambda at: int(at.split("/")[4]))
     programs["postgres"] = folders[-1] if folders else None
-    programs["clients"] = os.path.join(options.scratch, "clients")
-    command = [os.environ.get("CC", "cc"), "-O2", "-pthread", "-o", programs["clients"], os.path.join(HERE, "serve.c")]
-    subprocess.run(command, check=True)
+    for name, source in (("clients", "serve.c"), ("subscribers", "subscribe.c")):
+        programs[name] = os.path.join(options.scratch, name)
+        command = [os.environ.get("CC", "cc"), "-O2", "-pthread", "-o", programs[name], os.path.join(HERE, source)]
+        subprocess.run(command, check=True)
     for name in ("redis", "postgres"):
         if programs[name] is None:
             print(f"{name} isn't there, and is left out")
     return programs
 
 
-def compare(options):
-    others = [kind for kind, name in ((Redis, "redis"), (Postgres, "postgres")) if options.programs[name]]
-    every, drawn = [Plant, *others], []
-    drawn += print_updates("in memory, one by one", best_updates([*every, Echo], options, False, 1, 1, options.updates))
+def compare_updates(every, options):
+    drawn = print_updates("in memory, one by one", best_updates([*every, Echo], options, False, 1, 1, options.updates))
     drawn += print_updates("in memory, 1,000 unanswered", best_updates([*every, Echo], options, False, 1, 1000, options.updates * 10))
     drawn += print_updates("durable, one connection", best_updates(every, options, True, 1, 1, options.durable))
     drawn += print_updates("durable, eight connections", best_updates(every, options, True, 8, 1, options.durable))
-    asked = [line for kind in (Plant, Postgres) if kind in every for line in queries(kind, options)]
-    drawn += print_queries(asked)
+    return drawn
+
+
+def compare(options):
+    every = [kind for kind, name in ((Plant, "plant"), (Redis, "redis"), (Postgres, "postgres")) if options.programs[name]]
+    drawn = []
+    if options.only in (None, "updates"):
+        drawn += compare_updates(every, options)
+    if options.only in (None, "queries"):
+        drawn += print_queries([line for kind in every if kind is not Redis for line in queries(kind, options)])
+    if options.only in (None, "subscribers"):
+        drawn += compare_subscribers([kind for kind in every if kind is not Postgres], options)
     if options.svg:
         draw(options.svg, drawn)
 
@@ -316,13 +328,17 @@ def main():
     parser.add_argument("--durable", type=int, default=3000, metavar="N", help="durable updates of each connection (3000)")
     parser.add_argument("--rows", type=int, default=1_000_000, metavar="N", help="rows that are asked about, in thousands (1000000)")
     parser.add_argument("--seconds", type=float, default=5, metavar="S", help="how long is asked (5)")
-    parser.add_argument("--runs", type=int, default=3, metavar="N", help="runs of the updates, of which the best counts (3)")
+    parser.add_argument("--told", type=int, default=100_000, metavar="N", help="updates that subscribers are told (100000)")
+    parser.add_argument("--runs", type=int, default=3, metavar="N", help="runs of updates and subscribers, of which the best counts (3)")
+    parser.add_argument("--only", choices=("updates", "queries", "subscribers"), help="the part that is measured, where not all are")
     parser.add_argument("--folder", default=None, help="where the files are made; it decides which disk is measured")
     parser.add_argument("--program", default=None, help="the plant, where it isn't the one that bin/plant builds")
     parser.add_argument("--svg", default=None, metavar="FILE", help="draws the results")
     options = parser.parse_args()
     if min(options.updates, options.durable, options.runs) < 1 or options.rows < BATCH or options.rows % BATCH:
         parser.error("N is at least 1, and the rows are whole thousands")
+    if options.told < 1000:
+        parser.error("subscribers are told at least 1000 updates")
     with tempfile.TemporaryDirectory() as options.scratch:
         options.programs = found_programs(options)
         compare(options)
