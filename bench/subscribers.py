@@ -9,7 +9,7 @@ price. Updates are sent
     1,000 unanswered     at most so many without their answers: how many messages a second reach the subscribers
     10,000 a second      whether those before are answered or not: how long after the answer a subscriber gets its message
 
-Redis keeps what a subscriber has not read yet without a limit, as the plant does.
+Redis is told to keep all that a subscriber hasn't read yet (client-output-buffer-limit pubsub 0 0 0).
 
 Then the processor time of the plant for updates of a thousand rows without, with 1 and with 10 subscribers of everything.
 """
