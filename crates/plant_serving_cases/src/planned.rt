@@ -1,6 +1,6 @@
 //! An outside whose port fails as planned, and whose first session is held where it evaluates a text.
 use outside_api::{Gate, Point};
-use plant_edge::StandardOutside;
+use plant_edge::{StandardOutside, Wakers};
 use program_outside::{Cause, FileRefusal, MakeFault, Outside, SayFault};
 use std::alloc::Global;
 use std::io::Write;
@@ -60,11 +60,11 @@ impl Write for Lines {
 pub type Machine<'a> = StandardOutside<'a, HostRuntime, Lines>;
 
 /// The devices of the machine, of which none was made.
-fn machine_of<'a>(rt: &'a HostRuntime) -> Machine<'a> {
+fn machine_of<'a>(rt: &'a HostRuntime, wakers: &'a Wakers) -> Machine<'a> {
     let errors = Lines {
         bytes: Vec::new(rt.alloc()),
     };
-    StandardOutside::new(rt, errors)
+    StandardOutside::new(rt, wakers, errors)
 }
 
 /// The machine's outside, but that its port gives a number of connections and then fails, and that the first session may be
@@ -82,9 +82,9 @@ pub struct PlannedOutside<'a> {
 
 impl<'a> PlannedOutside<'a> {
     /// An outside whose port gives each connection.
-    pub fn new(rt: &'a HostRuntime) -> PlannedOutside<'a> {
+    pub fn new(rt: &'a HostRuntime, wakers: &'a Wakers) -> PlannedOutside<'a> {
         PlannedOutside {
-            machine: machine_of(rt),
+            machine: machine_of(rt, wakers),
             left: u32::MAX,
             first: None,
             listen_faults: 0,
@@ -92,18 +92,26 @@ impl<'a> PlannedOutside<'a> {
     }
 
     /// The same, but its port fails after so many connections.
-    pub fn failing_after(rt: &'a HostRuntime, connections: u32) -> PlannedOutside<'a> {
+    pub fn failing_after(
+        rt: &'a HostRuntime,
+        wakers: &'a Wakers,
+        connections: u32,
+    ) -> PlannedOutside<'a> {
         PlannedOutside {
             left: connections,
-            ..PlannedOutside::new(rt)
+            ..PlannedOutside::new(rt, wakers)
         }
     }
 
     /// The same, but the first session is held until the flag is set.
-    pub fn holding_first(rt: &'a HostRuntime, flag: Arc<AtomicBool>) -> PlannedOutside<'a> {
+    pub fn holding_first(
+        rt: &'a HostRuntime,
+        wakers: &'a Wakers,
+        flag: Arc<AtomicBool>,
+    ) -> PlannedOutside<'a> {
         PlannedOutside {
             first: Some(flag),
-            ..PlannedOutside::new(rt)
+            ..PlannedOutside::new(rt, wakers)
         }
     }
 
