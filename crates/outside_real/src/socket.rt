@@ -82,10 +82,11 @@ impl<'a, R, S> SocketLink<'a, R, S> {
 }
 
 impl<'a, R: Wait, S> SocketLink<'a, R, S> {
-    /// Ends the link: others wake it no longer.
-    pub fn leave(mut self)
-    where
-        S: Drop,
+    ghost use Rattle.outside_real.specs.Socket.{socket_shown};
+
+    /// Takes the link from those that others wake. Who ends a connection does this.
+    pub fn leave(&mut self)
+        ensures shown { socket_shown self.new ≡ socket_shown self.old }
     {
         self.waiting.leave(self.rt);
     }

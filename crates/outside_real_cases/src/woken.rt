@@ -94,7 +94,7 @@ fn bytes_and_the_end_of_a_joined_connection(rt: HostRuntime) {
 #[test]
 fn one_of_two_leaves(rt: HostRuntime) {
     let wakers = Wakers::new(rt.alloc());
-    let (first, left) = told(&rt, &wakers).expect(&rt, "no port");
+    let (first, mut left) = told(&rt, &wakers).expect(&rt, "no port");
     let (second, mut link) = told(&rt, &wakers).expect(&rt, "no port");
     left.leave();
     drop(first);

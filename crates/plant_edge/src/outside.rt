@@ -238,10 +238,11 @@ where
         ensures { silent_outside self.new ≡ handed_back (silent_outside self.old) (option_map (λ l. machine_shown l) link.entry)
             (option_map (λ c. None) clock.entry) (option_map (λ r. silent_recorder r) recorder) }
     {
-        if let Some(MachineLink::Socket(link)) = link {
-            link.leave();
+        let mut link = link;
+        if let Some(MachineLink::Socket(socket)) = &mut link {
+            socket.leave();
         }
-        let _handed = (clock, recorder);
+        let _handed = (link, clock, recorder);
     }
 
     fn keep(&mut self, disk: Self::Disk) {
