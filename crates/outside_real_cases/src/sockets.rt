@@ -33,6 +33,7 @@ pub(crate) fn read_two<L: Link>(link: &mut L) -> (Got, [u8; 2]) {
 
 #[test]
 fn bytes_pass_and_a_read_times_out(rt: HostRuntime) {
+    let wakers = Wakers::new(rt.alloc());
     let (mut client, stream) = connected(&rt).expect(&rt, "no port");
     let mut link = sent(SocketLink::new(&rt, &wakers, stream));
     let start = Instant::now(&rt).expect(&rt, "failed");
@@ -67,6 +68,7 @@ fn read_all(mut stream: TcpStream) -> io::Result<u64> {
 
 #[test]
 fn ten_million_bytes_in_one_write(rt: HostRuntime) {
+    let wakers = Wakers::new(rt.alloc());
     let (client, stream) = connected(&rt).expect(&rt, "no port");
     let mut link = SocketLink::new(&rt, &wakers, stream);
     let mut bytes = Vec::new(rt.alloc());
@@ -83,6 +85,7 @@ fn ten_million_bytes_in_one_write(rt: HostRuntime) {
 // A client that closes without having read what it was sent resets the connection.
 #[test]
 fn a_client_that_vanishes_is_a_fault(rt: HostRuntime) {
+    let wakers = Wakers::new(rt.alloc());
     let (client, stream) = connected(&rt).expect(&rt, "no port");
     let mut link = SocketLink::new(&rt, &wakers, stream);
     assert!(rt; link.write(b"unread").is_ok());
@@ -96,6 +99,7 @@ fn a_client_that_vanishes_is_a_fault(rt: HostRuntime) {
 // Connections that are gone again before they are accepted are links that fail or end; the port goes on.
 #[test]
 fn clients_that_are_gone_before_they_are_accepted(rt: HostRuntime) {
+    let wakers = Wakers::new(rt.alloc());
     let open = OpenPort::listen(&rt, free_port(&rt).expect(&rt, "no port")).expect(&rt, "failed");
     for _ in 0..5u32 {
         let client = TcpStream::connect(&rt, ("127.0.0.1", open.port())).expect(&rt, "failed");
@@ -116,6 +120,7 @@ fn clients_that_are_gone_before_they_are_accepted(rt: HostRuntime) {
 // milliseconds.
 #[test]
 fn reads_time_out_soon_after_a_publication(rt: HostRuntime) {
+    let wakers = Wakers::new(rt.alloc());
     let (client, stream) = connected(&rt).expect(&rt, "no port");
     let mut link = SocketLink::new(&rt, &wakers, stream);
     assert!(rt; link.write(b"told").is_ok());
@@ -199,6 +204,7 @@ impl ReadTimeout for Planned {
 
 #[test]
 fn a_stream_that_fails_as_planned(rt: HostRuntime) {
+    let wakers = Wakers::new(rt.alloc());
     let planned = Planned {
         reads: 0,
         writes: 0,

@@ -4,21 +4,12 @@ use outside_api::{Got, Link};
 use outside_real::{SocketLink, Wakers};
 use std::io::Write;
 use std::net::{Shutdown, TcpStream};
+use std::process::Abort;
 use std::thread;
-use std::time::{Duration, Instant};
-
-type Socket<'a> = SocketLink<'a, HostRuntime, TcpStream>;
-
-/// A client, and the link that told it something without being asked.
-fn told<'a>(rt: &'a HostRuntime, wakers: &'a Wakers) -> Option<(TcpStream, Socket<'a>)> {
-    let (client, stream) = connected(rt)?;
-    let mut link = SocketLink::new(rt, wakers, stream);
-    link.write(b"told").ok()?;
-    Some((client, link))
-}
+use std::time::{Clock, Duration, Instant};
 
 /// Reads until the client wasn't told anything for more than a second, so that reads wait for 50 milliseconds again.
-fn calm_down(rt: &HostRuntime, link: &mut Socket<'_>) {
+fn calm_down<R: Clock + Abort, L: Link>(rt: &R, link: &mut L) {
     let start = Instant::now(rt).expect(rt, "failed");
     for _ in 0..u64::MAX {
         assert_eq!(rt; read_two(link), (Got::Idle, [0, 0]));
@@ -29,7 +20,7 @@ fn calm_down(rt: &HostRuntime, link: &mut Socket<'_>) {
 }
 
 /// How long this number of reads take, each of which times out.
-fn time_of(rt: &HostRuntime, link: &mut Socket<'_>, reads: u32) -> Duration {
+fn time_of<R: Clock + Abort, L: Link>(rt: &R, link: &mut L, reads: u32) -> Duration {
     let start = Instant::now(rt).expect(rt, "failed");
     for _ in 0..reads {
         assert_eq!(rt; read_two(link), (Got::Idle, [0, 0]));
@@ -37,10 +28,8 @@ fn time_of(rt: &HostRuntime, link: &mut Socket<'_>, reads: u32) -> Duration {
     start.elapsed(rt).expect(rt, "failed")
 }
 
-/// A link whose client sends a byte every two milliseconds: this number of bytes come, and each read but the first wakes others.
-fn act(rt: &HostRuntime, wakers: &Wakers, bytes: u32) {
-    let (mut client, stream) = connected(rt).expect(rt, "no port");
-    let mut link = SocketLink::new(rt, wakers, stream);
+/// A client that sends a byte every two milliseconds, and its link: each of its reads but the first wakes others.
+fn act<R: Clock + Abort, L: Link + Drop>(rt: &R, mut client: TcpStream, mut link: L, bytes: u32) {
     for _ in 0..bytes {
         client.write_all(b"x").expect(rt, "failed");
         assert_eq!(rt; read_two(&mut link), (Got::Bytes(1), *b"x\x00"));
@@ -53,13 +42,17 @@ fn act(rt: &HostRuntime, wakers: &Wakers, bytes: u32) {
 #[test]
 fn reads_end_where_another_connection_acts(rt: HostRuntime) {
     let wakers = Wakers::new(rt.alloc());
-    let (client, mut link) = told(&rt, &wakers).expect(&rt, "no port");
+    let (client, stream) = connected(&rt).expect(&rt, "no port");
+    let mut link = SocketLink::new(&rt, &wakers, stream);
+    assert!(rt; link.write(b"told").is_ok());
     calm_down(&rt, &mut link);
     let alone = time_of(&rt, &mut link, 4);
     assert!(rt; alone >= Duration::from_millis(180));
+    let (other, stream) = connected(&rt).expect(&rt, "no port");
+    let acting = SocketLink::new(&rt, &wakers, stream);
     let (_, woken) = thread::join(
         &rt,
-        || act(&rt, &wakers, 500),
+        || act(&rt, other, acting, 500),
         || time_of(&rt, &mut link, 100),
     );
     assert!(rt; woken < Duration::from_millis(2_500));
@@ -94,14 +87,20 @@ fn bytes_and_the_end_of_a_joined_connection(rt: HostRuntime) {
 #[test]
 fn one_of_two_leaves(rt: HostRuntime) {
     let wakers = Wakers::new(rt.alloc());
-    let (first, mut left) = told(&rt, &wakers).expect(&rt, "no port");
-    let (second, mut link) = told(&rt, &wakers).expect(&rt, "no port");
+    let (first, stream) = connected(&rt).expect(&rt, "no port");
+    let mut left = SocketLink::new(&rt, &wakers, stream);
+    assert!(rt; left.write(b"told").is_ok());
+    let (second, stream) = connected(&rt).expect(&rt, "no port");
+    let mut link = SocketLink::new(&rt, &wakers, stream);
+    assert!(rt; link.write(b"told").is_ok());
     left.leave();
     drop(first);
     calm_down(&rt, &mut link);
+    let (other, stream) = connected(&rt).expect(&rt, "no port");
+    let acting = SocketLink::new(&rt, &wakers, stream);
     let (_, woken) = thread::join(
         &rt,
-        || act(&rt, &wakers, 300),
+        || act(&rt, other, acting, 300),
         || time_of(&rt, &mut link, 50),
     );
     assert!(rt; woken < Duration::from_millis(1_250));
