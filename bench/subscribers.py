@@ -6,7 +6,7 @@ documents (docs/FORMATS.md), and from Redis (PUBLISH, SUBSCRIBE) a payload of ju
 price. Updates are sent
 
     one by one           the next when all subscribers have the last, for a second
-    1,000 unanswered     at most so many without their answers: how many messages a second reach the subscribers
+    1,000 unanswered     at most so many without their answers: how many messages a second reach the subscribers, also with none
     10,000 a second      whether those before are answered or not: how long after the answer a subscriber gets its message
 
 Redis is told to keep all that a subscriber hasn't read yet (client-output-buffer-limit pubsub 0 0 0).
@@ -15,6 +15,7 @@ Then the processor time of the plant for updates of a thousand rows without, wit
 """
 
 import os
+import statistics
 import subprocess
 import sys
 import tempfile
@@ -128,8 +129,8 @@ def best_told(servers, options, mode, number, subscribers, count):
 
 def print_told(title, best):
     for name, done in best.items():
-        delays = " ".join(f"{nanoseconds / 1e3:9,.1f}" for nanoseconds in done.sent[:2] + done.answered[:2])
-        print(f"  {title + ', ' + name:42} {done.rate:11,.0f} {done.delivered:12,.0f} {delays}", flush=True)
+        delays = " ".join(f"{nanoseconds / 1e3:9,.1f}" if done.delivered else "" for nanoseconds in done.sent[:2] + done.answered[:2])
+        print(f"  {title + ', ' + name:42} {done.rate:11,.0f} {done.delivered:12,.0f} {delays}".rstrip(), flush=True)
 
 
 def processor_seconds(process):
@@ -140,16 +141,14 @@ def processor_seconds(process):
 
 
 def cost_of(kind, options, subscribers, count):
-    """The least processor time, in microseconds, of an update of a thousand rows, and the bytes that each subscriber gets."""
-    least, told_bytes = None, 0
+    """The median processor time, in microseconds, of an update of a thousand rows, and the bytes that each subscriber gets."""
+    costs, told_bytes = [], 0
     for _ in range(options.runs):
         with tempfile.TemporaryDirectory(dir=options.folder) as folder, kind(folder, False, options.programs) as server:
             before = processor_seconds(server.process)
-            done = Told(server, options, "flood", 4, subscribers, count, ROWS)
-            used = (processor_seconds(server.process) - before) / count * 1e6
-        least = used if least is None else min(least, used)
-        told_bytes = done.told_bytes
-    return least, told_bytes
+            told_bytes = Told(server, options, "flood", 4, subscribers, count, ROWS).told_bytes
+            costs.append((processor_seconds(server.process) - before) / count * 1e6)
+    return statistics.median(costs), told_bytes
 
 
 def print_costs(kind, options, count):
@@ -176,13 +175,13 @@ def compare_subscribers(servers, options):
         ("flood", 1000, updates, "1,000 unanswered"),
         ("paced", RATE, updates // 4, f"{RATE:,} a second"),
     ):
-        for subscribers in (1, 10):
+        for subscribers in (0, 1, 10) if mode == "flood" else (1, 10):
             best = best_told(servers, options, mode, number, subscribers, count)
             print_told(f"{subscribers}, {what}", best)
-            if mode == "flood":
+            if mode == "flood" and subscribers:
                 drawn += [(f"messages to {subscribers} subscribers", name, done.delivered) for name, done in best.items()]
     print()
-    print_costs(servers[0], options, updates // 100)
+    print_costs(servers[0], options, updates // 50)
     print_load("after")
     print()
     return drawn
