@@ -112,11 +112,11 @@ class Told:
 
 
 def is_better(mode, done, other):
-    return done.answered < other.answered if mode == "paced" else done.rate > other.rate
+    return done.sent < other.sent if mode == "paced" else done.rate > other.rate
 
 
 def best_told(servers, options, mode, number, subscribers, count):
-    """The best run of each server: the most updates a second, or where they are paced the least delay."""
+    """The best run of each server: the most updates a second, or where they are paced the least median delay from sending."""
     best = {}
     for _ in range(options.runs):
         for kind in servers:
