@@ -1,10 +1,11 @@
 #!/usr/bin/env python3
-"""Counts how often the columns of an update of a thousand rows are encoded, by the plant on a port without, with 1 and with 10
-subscribers of everything: once for the log, and for each message.
+"""Counts how often an update of a thousand rows is encoded by a plant on a port, without, with 1 and with 10 subscribers of
+everything: once for the log, and once for each message.
 
-The plant runs under valgrind, whose callgrind counts the calls of `ipc_codec::writing::put_columns`, the function that encodes
-the columns of a table. The answer to a subscription has two empty tables; these calls are taken off. Each subscriber must get
-exactly what was fed (subscribers.py). Needs valgrind (Debian's package), a C compiler and what `bin/plant` needs.
+The plant runs under valgrind, whose callgrind counts the calls of `ipc_codec::writing::put_vector`, the function that encodes a
+column, less those of a plant that gets one update: so the plant's start and the answers to subscriptions don't count. Each
+subscriber must get exactly what was fed (subscribers.py). Needs valgrind (Debian's package), a C compiler and what `bin/plant`
+needs.
 """
 
 import argparse
@@ -16,10 +17,9 @@ import sys
 import tempfile
 
 import serve
-from subscribers import ROWS, Told
+from subscribers import COLUMNS, ROWS, Told
 
-ENCODER = "ipc_codec::writing::put_columns"
-TABLES = 2  # in the answer to a subscription to everything
+ENCODER = "ipc_codec::writing::put_vector"
 
 
 class Counted(serve.Plant):
@@ -41,15 +41,20 @@ class Counted(serve.Plant):
         return calls
 
 
-def encodings(options, subscribers):
-    """The encodings of each update."""
+def calls_for(options, subscribers, updates):
+    """The encoder's calls of a plant that gets this many updates."""
     with tempfile.TemporaryDirectory() as folder:
         with Counted(folder, False, options.programs) as server:
-            Told(server, options, "flood", 1, subscribers, options.updates, ROWS)
-        calls = server.calls()
+            Told(server, options, "flood", 1, subscribers, updates, ROWS)
+        return server.calls()
+
+
+def encodings(options, subscribers):
+    """The encodings of each update after the first."""
+    calls = calls_for(options, subscribers, options.updates + 1)
     if calls == 0:
         sys.exit(f"the program has no function of the name {ENCODER}")
-    return (calls - TABLES * subscribers) / options.updates
+    return (calls - calls_for(options, subscribers, 1)) / len(COLUMNS["trade"]) / options.updates
 
 
 def main():
