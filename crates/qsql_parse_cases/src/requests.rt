@@ -1,11 +1,10 @@
 //! Texts, and the requests or refusals that the language has for them.
 
-use q_values::{Atom, Names, NoMemory, Value, Vector};
+use q_values::{Atom, Names, Value, Vector};
 use q_verbs::{Verb, Verb1};
 use qsql_parse::{Col, Expr, ParseRefusal, Query, Request, Source, parse};
-use std::alloc::{AllocError, Global};
+use std::alloc::Global;
 use std::process::Abort;
-use std::test::Fail;
 
 fn verb_text(verb: Verb) -> &'static [u8] {
     match verb {
@@ -43,244 +42,228 @@ fn verb1_text(verb: Verb1) -> &'static [u8] {
     }
 }
 
-fn push_number(alloc: Global, out: &mut Vec<u8>, number: i64) -> Result<(), AllocError> {
-    let text = format!(in alloc; "{number}")?;
-    out.extend_from_slice(text.as_bytes())?;
-    Ok(())
+// Puts these bytes at the end of a text.
+fn put(rt: &impl Abort, out: &mut Vec<u8>, bytes: &[u8]) {
+    out.extend_from_slice(bytes).expect(rt, "memory");
+}
+
+fn push_number(rt: &impl Abort, alloc: Global, out: &mut Vec<u8>, number: i64) {
+    let text = format!(in alloc; "{number}").expect(rt, "memory");
+    put(rt, out, text.as_bytes());
 }
 
 // A number with the letter of its kind.
-fn push_tagged(
-    alloc: Global,
-    out: &mut Vec<u8>,
-    number: i64,
-    kind: &[u8],
-) -> Result<(), AllocError> {
-    push_number(alloc, out, number)?;
-    out.extend_from_slice(kind)
+fn push_tagged(rt: &impl Abort, alloc: Global, out: &mut Vec<u8>, number: i64, kind: &[u8]) {
+    push_number(rt, alloc, out, number);
+    put(rt, out, kind)
 }
 
-fn push_atom(alloc: Global, out: &mut Vec<u8>, atom: &Atom) -> Result<(), AllocError> {
+fn push_atom(rt: &impl Abort, alloc: Global, out: &mut Vec<u8>, atom: &Atom) {
     match atom {
-        Atom::Boolean(value) => push_tagged(alloc, out, i64::from(*value), b"b"),
-        Atom::Byte(value) => push_tagged(alloc, out, i64::from(*value), b"x"),
-        Atom::Short(value) => push_tagged(alloc, out, i64::from(*value), b"h"),
-        Atom::Integer(value) => push_tagged(alloc, out, i64::from(*value), b"i"),
-        Atom::Long(value) => push_number(alloc, out, *value),
-        Atom::Character(value) => push_tagged(alloc, out, i64::from(*value), b"c"),
+        Atom::Boolean(value) => push_tagged(rt, alloc, out, i64::from(*value), b"b"),
+        Atom::Byte(value) => push_tagged(rt, alloc, out, i64::from(*value), b"x"),
+        Atom::Short(value) => push_tagged(rt, alloc, out, i64::from(*value), b"h"),
+        Atom::Integer(value) => push_tagged(rt, alloc, out, i64::from(*value), b"i"),
+        Atom::Long(value) => push_number(rt, alloc, out, *value),
+        Atom::Character(value) => push_tagged(rt, alloc, out, i64::from(*value), b"c"),
         Atom::Symbol(name) => {
-            out.extend_from_slice(b"`")?;
-            out.extend_from_slice(name.bytes())
+            put(rt, out, b"`");
+            put(rt, out, name.bytes())
         }
-        Atom::Timestamp(value) => push_tagged(alloc, out, *value, b"p"),
-        Atom::Month(value) => push_tagged(alloc, out, i64::from(*value), b"m"),
-        Atom::Date(value) => push_tagged(alloc, out, i64::from(*value), b"d"),
-        Atom::Timespan(value) => push_tagged(alloc, out, *value, b"n"),
-        Atom::Minute(value) => push_tagged(alloc, out, i64::from(*value), b"u"),
-        Atom::Second(value) => push_tagged(alloc, out, i64::from(*value), b"v"),
-        Atom::Time(value) => push_tagged(alloc, out, i64::from(*value), b"t"),
+        Atom::Timestamp(value) => push_tagged(rt, alloc, out, *value, b"p"),
+        Atom::Month(value) => push_tagged(rt, alloc, out, i64::from(*value), b"m"),
+        Atom::Date(value) => push_tagged(rt, alloc, out, i64::from(*value), b"d"),
+        Atom::Timespan(value) => push_tagged(rt, alloc, out, *value, b"n"),
+        Atom::Minute(value) => push_tagged(rt, alloc, out, i64::from(*value), b"u"),
+        Atom::Second(value) => push_tagged(rt, alloc, out, i64::from(*value), b"v"),
+        Atom::Time(value) => push_tagged(rt, alloc, out, i64::from(*value), b"t"),
     }
 }
 
-fn push_vector(alloc: Global, out: &mut Vec<u8>, vector: &Vector) -> Result<(), AllocError> {
-    out.extend_from_slice(b"<")?;
+fn push_vector(rt: &impl Abort, alloc: Global, out: &mut Vec<u8>, vector: &Vector) {
+    put(rt, out, b"<");
     for place in 0..vector.len() {
         if place > 0 {
-            out.extend_from_slice(b" ")?;
+            put(rt, out, b" ");
         }
         match vector.at(alloc, place) {
-            Ok(atom) => push_atom(alloc, out, &atom)?,
-            Err(NoMemory) => out.extend_from_slice(b"?")?,
+            Ok(atom) => push_atom(rt, alloc, out, &atom),
+            Err(_) => put(rt, out, b"?"),
         }
     }
-    out.extend_from_slice(b">")
+    put(rt, out, b">")
 }
 
-fn push_value(alloc: Global, out: &mut Vec<u8>, value: &Value) -> Result<(), AllocError> {
+fn push_value(rt: &impl Abort, alloc: Global, out: &mut Vec<u8>, value: &Value) {
     match value {
-        Value::Atom(atom) => push_atom(alloc, out, atom),
-        Value::Vector(vector) => push_vector(alloc, out, vector),
-        _ => out.extend_from_slice(b"other"),
+        Value::Atom(atom) => push_atom(rt, alloc, out, atom),
+        Value::Vector(vector) => push_vector(rt, alloc, out, vector),
+        _ => put(rt, out, b"other"),
     }
 }
 
 // An expression with every pair of its parentheses.
-fn push_expr(alloc: Global, out: &mut Vec<u8>, expr: &Expr) -> Result<(), AllocError> {
+fn push_expr(rt: &impl Abort, alloc: Global, out: &mut Vec<u8>, expr: &Expr) {
     match expr {
-        Expr::Literal(value) => push_value(alloc, out, value),
-        Expr::Name(name) => out.extend_from_slice(name.bytes()),
+        Expr::Literal(value) => push_value(rt, alloc, out, value),
+        Expr::Name(name) => put(rt, out, name.bytes()),
         Expr::One(verb, side) => {
-            out.extend_from_slice(verb1_text(*verb))?;
-            out.extend_from_slice(b"[")?;
-            push_expr(alloc, out, side)?;
-            out.extend_from_slice(b"]")
+            put(rt, out, verb1_text(*verb));
+            put(rt, out, b"[");
+            push_expr(rt, alloc, out, side);
+            put(rt, out, b"]")
         }
         Expr::Two(verb, left, right) => {
-            out.extend_from_slice(b"(")?;
-            push_expr(alloc, out, left)?;
-            out.extend_from_slice(b" ")?;
-            out.extend_from_slice(verb_text(*verb))?;
-            out.extend_from_slice(b" ")?;
-            push_expr(alloc, out, right)?;
-            out.extend_from_slice(b")")
+            put(rt, out, b"(");
+            push_expr(rt, alloc, out, left);
+            put(rt, out, b" ");
+            put(rt, out, verb_text(*verb));
+            put(rt, out, b" ");
+            push_expr(rt, alloc, out, right);
+            put(rt, out, b")")
         }
     }
 }
 
-fn push_column(alloc: Global, out: &mut Vec<u8>, column: &Col) -> Result<(), AllocError> {
-    out.extend_from_slice(b" ")?;
+fn push_column(rt: &impl Abort, alloc: Global, out: &mut Vec<u8>, column: &Col) {
+    put(rt, out, b" ");
     if let Some(name) = &column.name {
-        out.extend_from_slice(name.bytes())?;
-        out.extend_from_slice(b":")?;
+        put(rt, out, name.bytes());
+        put(rt, out, b":");
     }
-    push_expr(alloc, out, &column.expr)
+    push_expr(rt, alloc, out, &column.expr)
 }
 
-fn push_columns(alloc: Global, out: &mut Vec<u8>, columns: &[Col]) -> Result<(), AllocError> {
+fn push_columns(rt: &impl Abort, alloc: Global, out: &mut Vec<u8>, columns: &[Col]) {
     for column in columns {
-        push_column(alloc, out, column)?;
+        push_column(rt, alloc, out, column);
     }
-    Ok(())
 }
 
-fn push_phrases(alloc: Global, out: &mut Vec<u8>, phrases: &[Expr]) -> Result<(), AllocError> {
+fn push_phrases(rt: &impl Abort, alloc: Global, out: &mut Vec<u8>, phrases: &[Expr]) {
     for phrase in phrases {
-        out.extend_from_slice(b" ")?;
-        push_expr(alloc, out, phrase)?;
+        put(rt, out, b" ");
+        push_expr(rt, alloc, out, phrase);
     }
-    Ok(())
 }
 
-fn push_head(alloc: Global, out: &mut Vec<u8>, query: &Query) -> Result<(), AllocError> {
+fn push_head(rt: &impl Abort, alloc: Global, out: &mut Vec<u8>, query: &Query) {
     let verb: &[u8] = if query.exec { b"exec" } else { b"select" };
-    out.extend_from_slice(verb)?;
+    put(rt, out, verb);
     if let Some(number) = query.first {
-        out.extend_from_slice(b" ")?;
-        push_number(alloc, out, number)?;
+        put(rt, out, b" ");
+        push_number(rt, alloc, out, number);
     }
-    Ok(())
 }
 
-fn push_query(alloc: Global, out: &mut Vec<u8>, query: &Query) -> Result<(), AllocError> {
-    push_head(alloc, out, query)?;
-    push_columns(alloc, out, query.columns.as_slice())?;
-    out.extend_from_slice(b" by")?;
-    push_columns(alloc, out, query.by.as_slice())?;
-    out.extend_from_slice(b" from ")?;
-    out.extend_from_slice(query.table.bytes())?;
-    out.extend_from_slice(b" where")?;
-    push_phrases(alloc, out, query.phrases.as_slice())
+fn push_query(rt: &impl Abort, alloc: Global, out: &mut Vec<u8>, query: &Query) {
+    push_head(rt, alloc, out, query);
+    push_columns(rt, alloc, out, query.columns.as_slice());
+    put(rt, out, b" by");
+    push_columns(rt, alloc, out, query.by.as_slice());
+    put(rt, out, b" from ");
+    put(rt, out, query.table.bytes());
+    put(rt, out, b" where");
+    push_phrases(rt, alloc, out, query.phrases.as_slice())
 }
 
-fn push_names(out: &mut Vec<u8>, names: &Names) -> Result<(), AllocError> {
+fn push_names(rt: &impl Abort, out: &mut Vec<u8>, names: &Names) {
     for name in names.as_slice() {
-        out.extend_from_slice(b"`")?;
-        out.extend_from_slice(name.bytes())?;
+        put(rt, out, b"`");
+        put(rt, out, name.bytes());
     }
-    Ok(())
 }
 
-fn push_source(alloc: Global, out: &mut Vec<u8>, source: &Source) -> Result<(), AllocError> {
-    out.extend_from_slice(b" ")?;
+fn push_source(rt: &impl Abort, alloc: Global, out: &mut Vec<u8>, source: &Source) {
+    put(rt, out, b" ");
     match source {
-        Source::All(name) => out.extend_from_slice(name.bytes()),
-        Source::Of(query) => push_query(alloc, out, query),
+        Source::All(name) => put(rt, out, name.bytes()),
+        Source::Of(query) => push_query(rt, alloc, out, query),
     }
 }
 
-fn push_request(alloc: Global, out: &mut Vec<u8>, request: &Request) -> Result<(), AllocError> {
+fn push_request(rt: &impl Abort, alloc: Global, out: &mut Vec<u8>, request: &Request) {
     match request {
-        Request::Query(query) => push_query(alloc, out, query),
+        Request::Query(query) => push_query(rt, alloc, out, query),
         Request::Aj(joined) => {
-            out.extend_from_slice(b"aj ")?;
-            push_names(out, &joined.keys)?;
-            push_source(alloc, out, &joined.left)?;
-            push_source(alloc, out, &joined.right)
+            put(rt, out, b"aj ");
+            push_names(rt, out, &joined.keys);
+            push_source(rt, alloc, out, &joined.left);
+            push_source(rt, alloc, out, &joined.right)
         }
-        Request::Count => out.extend_from_slice(b"count"),
-        Request::Day => out.extend_from_slice(b"day"),
+        Request::Count => put(rt, out, b"count"),
+        Request::Day => put(rt, out, b"day"),
         Request::Sub(sub) => {
-            out.extend_from_slice(b"sub ")?;
-            push_names(out, &sub.tables)?;
+            put(rt, out, b"sub ");
+            push_names(rt, out, &sub.tables);
             let all: &[u8] = if sub.all { b" all " } else { b" only " };
-            out.extend_from_slice(all)?;
-            push_names(out, &sub.names)
+            put(rt, out, all);
+            push_names(rt, out, &sub.names)
         }
     }
 }
 
-fn push_refusal(alloc: Global, out: &mut Vec<u8>, refusal: ParseRefusal) -> Result<(), AllocError> {
+fn push_refusal(rt: &impl Abort, alloc: Global, out: &mut Vec<u8>, refusal: ParseRefusal) {
     match refusal {
-        ParseRefusal::Limit => out.extend_from_slice(b"limit"),
+        ParseRefusal::Limit => put(rt, out, b"limit"),
         ParseRefusal::Parse(at) => {
-            let text = format!(in alloc; "parse {at}")?;
-            out.extend_from_slice(text.as_bytes())
+            let text = format!(in alloc; "parse {at}").expect(rt, "memory");
+            put(rt, out, text.as_bytes())
         }
-        ParseRefusal::Nyi => out.extend_from_slice(b"nyi"),
-        ParseRefusal::NoMemory => out.extend_from_slice(b"wsfull"),
+        ParseRefusal::Nyi => put(rt, out, b"nyi"),
+        ParseRefusal::NoMemory => put(rt, out, b"wsfull"),
     }
 }
 
 // The request or the refusal of a text, as text.
-fn shown(alloc: Global, text: &[u8]) -> Result<Vec<u8>, AllocError> {
+fn shown(rt: &impl Abort, alloc: Global, text: &[u8]) -> Vec<u8> {
     let mut out = Vec::new(alloc);
     match parse(alloc, text) {
-        Ok(request) => push_request(alloc, &mut out, &request)?,
-        Err(refusal) => push_refusal(alloc, &mut out, refusal)?,
+        Ok(request) => push_request(rt, alloc, &mut out, &request),
+        Err(refusal) => push_refusal(rt, alloc, &mut out, refusal),
     }
-    Ok(out)
+    out
 }
 
-fn assert_shown(
-    rt: &impl Abort,
-    alloc: Global,
-    text: &[u8],
-    wanted: &[u8],
-    row: usize,
-) -> Result<(), AllocError> {
-    let shown = shown(alloc, text)?;
+fn assert_shown(rt: &impl Abort, alloc: Global, text: &[u8], wanted: &[u8], row: usize) {
+    let shown = shown(rt, alloc, text);
     assert!(rt; shown.as_slice() == wanted, "row {row}");
-    Ok(())
 }
 
-fn assert_rows(rt: &impl Abort, alloc: Global, rows: &[(&[u8], &[u8])]) -> Result<(), AllocError> {
+fn assert_rows(rt: &impl Abort, alloc: Global, rows: &[(&[u8], &[u8])]) {
     let mut row = 0usize;
     for (text, wanted) in rows {
-        assert_shown(rt, alloc, text, wanted, row)?;
+        assert_shown(rt, alloc, text, wanted, row);
         row = row.saturating_add(1);
     }
-    Ok(())
 }
 
 #[test]
-fn parse_place(rt: HostRuntime) -> Result<(), Fail> {
+fn parse_place(rt: HostRuntime) {
     let rows: [(&[u8], &[u8]); 1] = [(b"select size -1 from trade", b"parse 12")];
-    assert_rows(&rt, rt.alloc(), &rows)?;
-    Ok(())
+    assert_rows(&rt, rt.alloc(), &rows);
 }
 
 #[test]
-fn query_tree(rt: HostRuntime) -> Result<(), Fail> {
+fn query_tree(rt: HostRuntime) {
     let rows: [(&[u8], &[u8]); 1] = [(
         b"select max price by sym from trade where i<2",
         b"select max[price] by sym from trade where (i < 2)",
     )];
-    assert_rows(&rt, rt.alloc(), &rows)?;
-    Ok(())
+    assert_rows(&rt, rt.alloc(), &rows);
 }
 
 #[test]
-fn refused_texts(rt: HostRuntime) -> Result<(), Fail> {
+fn refused_texts(rt: HostRuntime) {
     let rows: [(&[u8], &[u8]); 4] = [
         (b"select from", b"parse 11"),
         (b"select price,price from trade", b"nyi"),
         (b"select price+sym from trade", b"nyi"),
         (b"select foo,foo from bar", b"nyi"),
     ];
-    assert_rows(&rt, rt.alloc(), &rows)?;
-    let spaces = Vec::from_elem(rt.alloc(), b' ', 65_537)?;
-    assert_shown(&rt, rt.alloc(), &spaces, b"limit", 0)?;
-    Ok(())
+    assert_rows(&rt, rt.alloc(), &rows);
+    let spaces = Vec::from_elem(rt.alloc(), b' ', 65_537).expect(&rt, "memory");
+    assert_shown(&rt, rt.alloc(), &spaces, b"limit", 0);
 }
 
 const REQUESTS: [(&[u8], &[u8]); 34] = [
@@ -626,42 +609,41 @@ const UNBUILT: [(&[u8], &[u8]); 47] = [
 ];
 
 #[test]
-fn texts_and_their_requests(rt: HostRuntime) -> Result<(), Fail> {
+fn texts_and_their_requests(rt: HostRuntime) {
     let alloc = rt.alloc();
-    assert_rows(&rt, alloc, &REQUESTS)?;
-    assert_rows(&rt, alloc, &EXPRESSIONS)?;
-    assert_rows(&rt, alloc, &MINUS)?;
-    assert_rows(&rt, alloc, &LITERALS)?;
-    assert_rows(&rt, alloc, &FAULTS)?;
-    assert_rows(&rt, alloc, &UNBUILT)?;
-    Ok(())
+    assert_rows(&rt, alloc, &REQUESTS);
+    assert_rows(&rt, alloc, &EXPRESSIONS);
+    assert_rows(&rt, alloc, &MINUS);
+    assert_rows(&rt, alloc, &LITERALS);
+    assert_rows(&rt, alloc, &FAULTS);
+    assert_rows(&rt, alloc, &UNBUILT);
 }
 
 // A `select` with a sum of this many signs.
-fn long_text(alloc: Global, verbs: usize, table: &[u8]) -> Result<Vec<u8>, AllocError> {
+fn long_text(rt: &impl Abort, alloc: Global, verbs: usize, table: &[u8]) -> Vec<u8> {
     let mut text = Vec::new(alloc);
-    text.extend_from_slice(b"select a")?;
+    put(rt, &mut text, b"select a");
     for _ in 0..verbs {
-        text.extend_from_slice(b"+a")?;
+        put(rt, &mut text, b"+a");
     }
-    text.extend_from_slice(b" from ")?;
-    text.extend_from_slice(table)?;
-    Ok(text)
+    put(rt, &mut text, b" from ");
+    put(rt, &mut text, table);
+    text
 }
 
 // A `select` of a name within this many parentheses.
-fn deep_text(alloc: Global, depth: usize) -> Result<Vec<u8>, AllocError> {
+fn deep_text(rt: &impl Abort, alloc: Global, depth: usize) -> Vec<u8> {
     let mut text = Vec::new(alloc);
-    text.extend_from_slice(b"select ")?;
+    put(rt, &mut text, b"select ");
     for _ in 0..depth {
-        text.push(b'(')?;
+        put(rt, &mut text, b"(");
     }
-    text.push(b'a')?;
+    put(rt, &mut text, b"a");
     for _ in 0..depth {
-        text.push(b')')?;
+        put(rt, &mut text, b")");
     }
-    text.extend_from_slice(b" from t")?;
-    Ok(text)
+    put(rt, &mut text, b" from t");
+    text
 }
 
 fn is_read(alloc: Global, text: &[u8]) -> bool {
@@ -672,17 +654,16 @@ fn is_read(alloc: Global, text: &[u8]) -> bool {
 }
 
 #[test]
-fn limits_of_texts(rt: HostRuntime) -> Result<(), Fail> {
+fn limits_of_texts(rt: HostRuntime) {
     let alloc = rt.alloc();
     // 1,024 tokens, then 1,025.
-    assert!(rt; is_read(alloc, &long_text(alloc, 510, b"t")?));
-    let most = long_text(alloc, 510, b"t where")?;
-    assert_shown(&rt, alloc, &most, b"limit", 0)?;
-    assert!(rt; is_read(alloc, &deep_text(alloc, 64)?));
-    let deep = deep_text(alloc, 65)?;
-    assert_shown(&rt, alloc, &deep, b"limit", 1)?;
+    assert!(rt; is_read(alloc, &long_text(&rt, alloc, 510, b"t")));
+    let most = long_text(&rt, alloc, 510, b"t where");
+    assert_shown(&rt, alloc, &most, b"limit", 0);
+    assert!(rt; is_read(alloc, &deep_text(&rt, alloc, 64)));
+    let deep = deep_text(&rt, alloc, 65);
+    assert_shown(&rt, alloc, &deep, b"limit", 1);
     // A token fault comes before the number of tokens, and that before the grammar.
-    let fault = long_text(alloc, 600, b"#")?;
-    assert_shown(&rt, alloc, &fault, b"parse 1214", 2)?;
-    Ok(())
+    let fault = long_text(&rt, alloc, 600, b"#");
+    assert_shown(&rt, alloc, &fault, b"parse 1214", 2);
 }

@@ -1,10 +1,9 @@
 //! The chunk of an update, and chunks in which one rule is broken.
 
 use crate::update::{CHUNK, Found, changed, counts, file_with, found_in, trades};
-use q_values::NoMemory;
 use schema_text::built_in_schema;
 use std::alloc::Global;
-use std::test::Fail;
+use std::process::Abort;
 use tick_log::{chunk_of, is_loggable};
 
 // What is broken, and the bytes that stand at an offset of the chunk in place of its own.
@@ -29,92 +28,81 @@ const BROKEN: [(&str, usize, &[u8]); 14] = [
     ("floats in place of longs", 69, b"\x09"),
 ];
 
-fn first_read(alloc: Global) -> Result<Option<&'static str>, NoMemory> {
-    for (name, at, with) in &BROKEN {
-        let file = file_with(alloc, &changed(alloc, *at, with)?, b"\0")?;
-        let refused = found_in(alloc, &file)? == Found::NoChunk(1, 96);
-        if !refused || !counts(alloc, &file, 1, 96, true)? {
-            return Ok(Some(*name));
-        }
-    }
-    Ok(None)
+// Whether the chunk with these bytes at an offset is refused, and ends a count.
+fn is_refused(rt: &impl Abort, alloc: Global, at: usize, with: &[u8]) -> bool {
+    let chunk = changed(rt, alloc, at, with);
+    let file = file_with(rt, alloc, &chunk, b"\0");
+    found_in(rt, alloc, &file) == Found::NoChunk(1, 96) && counts(rt, alloc, &file, 1, 96, true)
 }
 
 #[test]
-fn each_rule_of_a_chunk_broken_once(rt: HostRuntime) -> Result<(), Fail> {
-    assert_eq!(rt; first_read(rt.alloc())?, None);
-    Ok(())
+fn each_rule_of_a_chunk_broken_once(rt: HostRuntime) {
+    for (name, at, with) in &BROKEN {
+        assert!(rt; is_refused(&rt, rt.alloc(), *at, with), "{name}");
+    }
 }
 
 // A chunk with a symbol of this many bytes.
-fn with_symbol(alloc: Global, size: usize) -> Result<Vec<u8>, NoMemory> {
-    let mut chunk = Vec::from_slice(alloc, &CHUNK[..52])?;
-    chunk.extend_from_slice(&vec![in alloc; b'a'; size]?)?;
-    chunk.extend_from_slice(&CHUNK[54..])?;
-    Ok(chunk)
+fn with_symbol(rt: &impl Abort, alloc: Global, size: usize) -> Vec<u8> {
+    let mut chunk = Vec::from_slice(alloc, &CHUNK[..52]).expect(rt, "memory");
+    for _ in 0..size {
+        chunk.push(b'a').expect(rt, "memory");
+    }
+    chunk.extend_from_slice(&CHUNK[54..]).expect(rt, "memory");
+    chunk
 }
 
-fn found_with_symbol(alloc: Global, size: usize) -> Result<Found, NoMemory> {
-    let chunk = with_symbol(alloc, size)?;
-    let file = file_with(alloc, &chunk, b"\0")?;
-    found_in(alloc, &file)
-}
-
-#[test]
-fn symbols_of_256_bytes(rt: HostRuntime) -> Result<(), Fail> {
-    assert_eq!(rt; found_with_symbol(rt.alloc(), 0)?, Found::Entries(2));
-    assert_eq!(rt; found_with_symbol(rt.alloc(), 256)?, Found::Entries(2));
-    assert_eq!(rt; found_with_symbol(rt.alloc(), 257)?, Found::NoChunk(1, 96));
-    Ok(())
-}
-
-fn found_with_end(alloc: Global, payload: &[u8], end: &[u8]) -> Result<Found, NoMemory> {
-    let mut chunk = Vec::from_slice(alloc, payload)?;
-    chunk.extend_from_slice(end)?;
-    let file = file_with(alloc, &chunk, b"\0")?;
-    found_in(alloc, &file)
+fn found_with_symbol(rt: &impl Abort, alloc: Global, size: usize) -> Found {
+    let chunk = with_symbol(rt, alloc, size);
+    found_in(rt, alloc, &file_with(rt, alloc, &chunk, b"\0"))
 }
 
 #[test]
-fn a_chunk_is_whole(rt: HostRuntime) -> Result<(), Fail> {
+fn symbols_of_256_bytes(rt: HostRuntime) {
     let alloc = rt.alloc();
-    assert_eq!(rt; found_with_end(alloc, &CHUNK, b"")?, Found::Entries(2));
-    assert_eq!(rt;
-        found_with_end(alloc, &CHUNK, b"\0")?,
-        Found::NoChunk(1, 96)
-    );
-    assert_eq!(rt;
-        found_with_end(alloc, &CHUNK[..82], b"")?,
-        Found::NoChunk(1, 96)
-    );
-    assert_eq!(rt;
-        found_with_end(alloc, &CHUNK[..8], b"")?,
-        Found::NoChunk(1, 96)
-    );
-    assert_eq!(rt;
-        found_with_end(alloc, &CHUNK[..7], b"")?,
-        Found::NoChunk(1, 96)
-    );
-    Ok(())
+    let cases = [
+        (0, Found::Entries(2)),
+        (256, Found::Entries(2)),
+        (257, Found::NoChunk(1, 96)),
+    ];
+    for (size, wanted) in cases {
+        assert!(rt; found_with_symbol(&rt, alloc, size) == wanted, "{size}");
+    }
+}
+
+fn found_with_end(rt: &impl Abort, alloc: Global, payload: &[u8], end: &[u8]) -> Found {
+    let mut chunk = Vec::from_slice(alloc, payload).expect(rt, "memory");
+    chunk.extend_from_slice(end).expect(rt, "memory");
+    found_in(rt, alloc, &file_with(rt, alloc, &chunk, b"\0"))
+}
+
+#[test]
+fn a_chunk_is_whole(rt: HostRuntime) {
+    let alloc = rt.alloc();
+    assert!(rt; found_with_end(&rt, alloc, &CHUNK, b"") == Found::Entries(2));
+    assert!(rt; found_with_end(&rt, alloc, &CHUNK, b"\0") == Found::NoChunk(1, 96));
+    for size in [82usize, 8, 7] {
+        let found = found_with_end(&rt, alloc, &CHUNK[..size], b"");
+        assert!(rt; found == Found::NoChunk(1, 96), "{size}");
+    }
 }
 
 // Whether the chunk of one row is these bytes.
-fn is_written_so(alloc: Global) -> Result<bool, NoMemory> {
-    let schema = built_in_schema(alloc)?;
-    let entry = trades(alloc, 1)?;
+fn is_written_so(rt: &impl Abort, alloc: Global) -> bool {
+    let schema = built_in_schema(alloc).expect(rt, "memory");
+    let entry = trades(rt, alloc, 1);
     if !is_loggable(&schema, &entry) {
-        return Ok(false);
+        return false;
     }
-    let chunk = chunk_of(alloc, &schema, &entry)?;
+    let chunk = chunk_of(alloc, &schema, &entry).expect(rt, "memory");
     if chunk.is_empty() {
-        return Ok(false);
+        return false;
     }
     let body = chunk.body();
-    Ok(body.starts_with(b"\x53\0\0\0") && body.len() == 88 && body[4..].starts_with(&CHUNK))
+    body.starts_with(b"\x53\0\0\0") && body.len() == 88 && body[4..].starts_with(&CHUNK)
 }
 
 #[test]
-fn an_update_is_written_so(rt: HostRuntime) -> Result<(), Fail> {
-    assert!(rt; is_written_so(rt.alloc())?);
-    Ok(())
+fn an_update_is_written_so(rt: HostRuntime) {
+    assert!(rt; is_written_so(&rt, rt.alloc()));
 }

@@ -5,4 +5,4 @@ use Rattle.outside_mem.specs.MemDisk.{shown_by}
 use Rattle.tick_log_cases.proofs.sizes.log_all.Given as goal
 
 abbrev pub invariant-loop : goal.invariant-loop
-invariant-loop l = record { clean : l.journal.state ≡ Clean; has_gate : HasLastGate (shown_by l.disk) l.journal }
+invariant-loop g l = record { clean : l.journal.state ≡ Clean; has_gate : HasLastGate (shown_by l.disk) l.journal }
