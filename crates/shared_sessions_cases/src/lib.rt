@@ -9,8 +9,8 @@
 //! The clients of `threads` check their own sessions from their turns: each message had its response, each text is answered
 //! with the number of rows of the chronicle's beginning that its turn names, these never get shorter, and each has all that
 //! the session had been told. Those of the others, in `meeting`, wait for one another between their messages, and are checked
-//! once all have ended: what each was sent is compared byte by byte, for subscribers with the log of the closed plant. The
-//! expected bytes are those of the IPC reference, written out in `bytes` and put together in `trades`.
+//! once all have ended: what each was sent is compared byte by byte, for subscribers with what the log of the closed plant has
+//! (`marks`, `checks`). The expected bytes are those of the IPC reference, written out in `bytes` and put together in `trades`.
 //!
 //! The crate has no code outside its tests. What one session answers is in `plant_vectors`, and what the calls of `Shared`
 //! answer is in `plant_shared_cases`.
@@ -19,7 +19,11 @@
 #[cfg(test)]
 mod bytes;
 #[cfg(test)]
+mod checks;
+#[cfg(test)]
 mod clients;
+#[cfg(test)]
+mod marks;
 #[cfg(test)]
 mod meeting;
 #[cfg(test)]

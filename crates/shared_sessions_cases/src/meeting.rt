@@ -2,6 +2,7 @@
 ghost use Rattle.std.specs.Prelude.{◌≡◌};
 ghost use Rattle.shared_sessions.specs.Sessions.{MayServe};
 
+use crate::checks::Heard;
 use crate::plants::{NOW, branch};
 use crate::trades::{Feed, update_of};
 use day_rows::Schema;
@@ -62,15 +63,6 @@ impl<'a> Client<'a> {
             barrier,
         }
     }
-}
-
-/// What came of a client's session, whose input was served to its end.
-#[derive(Drop)]
-pub(crate) struct Heard {
-    /// The turns that were noted.
-    pub(crate) turns: Vec<Turn>,
-    /// The bytes that the client was sent.
-    pub(crate) sent: Vec<u8>,
 }
 
 // What each read of a client gives, and before which of them it waits, each time that its index is there.

@@ -1,6 +1,7 @@
 //! A session that asks again once another's update was answered, and one that is told of it without asking.
 use crate::bytes::{BOTH, COUNT, DONE, GREETED, GREETING, TO_ALL, TOLD, UPDATE};
-use crate::meeting::{Client, Heard, Part, serve_three};
+use crate::checks::Heard;
+use crate::meeting::{Client, Part, serve_three};
 use crate::plants::{NOW, opened};
 use q_values::Turn;
 use std::alloc::Global;
