@@ -4,7 +4,8 @@
 //!   files: the file of the number 7 is `f7`.
 //! - [`RealClock`] is the machine's `Clock`, in nanoseconds since 2000.01.01.
 //! - [`read_file`] reads a file whole, up to a size.
-//! - [`OpenPort`] is a port of this machine that connections come to, and [`SocketLink`] the `Link` of one.
+//! - [`OpenPort`] is a port of this machine that connections come to, and [`SocketLink`] the `Link` of one; the links of the
+//!   same [`Wakers`] end each other's reads.
 //! - [`read_waiting`], [`write_waiting`] and [`got_of`] are what links of other readers and writers are made of.
 //!
 //! ```text
@@ -13,8 +14,9 @@
 //! disk.write_at(7, 0, b"abc")?;                           // makes plant/f7
 //! disk.sync(7)?;                                          // a power cut leaves f7 there, with its three bytes
 //! let port = OpenPort::listen(rt, 5010)?;                 // Err(InUse) while another process listens on it
+//! let wakers = Wakers::new(alloc);
 //! if let Some(stream) = port.accept(rt)? {
-//!     let mut link = SocketLink::new(rt, stream);
+//!     let mut link = SocketLink::new(rt, &wakers, stream);
 //! }
 //! ```
 //!
@@ -35,6 +37,7 @@ mod port;
 mod reading;
 mod retry;
 mod socket;
+mod wake;
 
 pub use clock::RealClock;
 pub use folder::{Folder, FolderFile};
@@ -44,3 +47,4 @@ pub use port::{OpenPort, PortRefusal};
 pub use reading::{ReadRefusal, read_file, read_whole};
 pub use retry::{got_of, read_waiting, write_waiting};
 pub use socket::{ReadTimeout, SocketLink, set_options};
+pub use wake::Wakers;

@@ -1,6 +1,6 @@
 //! The link and the devices of the runtime.
 use outside_api::{Clock as _, Disk, Got, Link, LinkFault, Recorder};
-use plant_edge::{StandardLink, StandardOutside};
+use plant_edge::{StandardLink, StandardOutside, Wakers};
 use program_outside::{Cause, FileRefusal, MakeFault, Outside};
 use q_values::Turn;
 use std::alloc::Global;
@@ -202,7 +202,8 @@ fn warnings_are_lines(rt: HostRuntime) {
     let errors = Kept {
         bytes: Vec::new(rt.alloc()),
     };
-    let mut outside = StandardOutside::new(&rt, errors);
+    let wakers = Wakers::new(rt.alloc());
+    let mut outside = StandardOutside::new(&rt, &wakers, errors);
     outside.warn(b"plant: idle");
     outside.warn(b"plant: usage");
     assert_eq!(rt;
@@ -213,7 +214,8 @@ fn warnings_are_lines(rt: HostRuntime) {
 
 #[test]
 fn standard_output_takes_bytes(rt: HostRuntime) {
-    let mut outside = StandardOutside::new(&rt, FullWriter);
+    let wakers = Wakers::new(rt.alloc());
+    let mut outside = StandardOutside::new(&rt, &wakers, FullWriter);
     assert!(rt; use_once(&mut outside));
 }
 
@@ -240,7 +242,8 @@ fn cause_at<O: Outside>(outside: &mut O, alloc: Global, path: &str) -> Option<Ca
 fn folders_are_made_opened_and_locked(rt: HostRuntime) {
     let path = fresh_path(&rt, "folder").expect(&rt, "failed");
     let alloc = rt.alloc();
-    let mut outside = StandardOutside::new(&rt, FullWriter);
+    let wakers = Wakers::new(rt.alloc());
+    let mut outside = StandardOutside::new(&rt, &wakers, FullWriter);
     assert_eq!(rt;
         cause_at(&mut outside, alloc, path.as_str()),
         Some(Cause::Missing)
@@ -280,9 +283,10 @@ fn free_port(rt: &HostRuntime) -> io::Result<u16> {
 #[test]
 fn a_port_is_listened_on_once(rt: HostRuntime) {
     let port = free_port(&rt).expect(&rt, "failed");
-    let mut outside = StandardOutside::new(&rt, FullWriter);
+    let wakers = Wakers::new(rt.alloc());
+    let mut outside = StandardOutside::new(&rt, &wakers, FullWriter);
     outside.listen(port).expect(&rt, "failed");
-    let mut other = StandardOutside::new(&rt, FullWriter);
+    let mut other = StandardOutside::new(&rt, &wakers, FullWriter);
     let refused = MakeFault {
         cause: Cause::PortInUse,
     };
@@ -296,7 +300,8 @@ fn a_port_is_listened_on_once(rt: HostRuntime) {
 #[test]
 fn a_connection_is_a_link(rt: HostRuntime) {
     let port = free_port(&rt).expect(&rt, "failed");
-    let mut outside = StandardOutside::new(&rt, FullWriter);
+    let wakers = Wakers::new(rt.alloc());
+    let mut outside = StandardOutside::new(&rt, &wakers, FullWriter);
     outside.listen(port).expect(&rt, "failed");
     let mut client = TcpStream::connect(&rt, ("127.0.0.1", port)).expect(&rt, "failed");
     let Some(mut link) = outside.accept().expect(&rt, "failed") else {

@@ -11,6 +11,7 @@
 //! a file             read whole, and refused
 //! a port             in use; no connection for a while
 //! a connection       what passes; a timeout; the end; a client that vanishes; a stream that fails as planned
+//! woken reads        a read that another connection ends; bytes and the end on a connection whose reads may be woken
 //! ```
 //!
 //! `edge` uses the real link over a reader and a writer that fail, and the real outside over a runtime whose standard error is
@@ -40,3 +41,5 @@ mod readings;
 mod real;
 #[cfg(test)]
 mod sockets;
+#[cfg(test)]
+mod woken;

@@ -1,8 +1,9 @@
 //! The port and the link of a connection, on real sockets of this machine, and the link over a stream that fails as planned.
 use outside_api::{Got, Link};
-use outside_real::{OpenPort, PortRefusal, ReadTimeout, SocketLink};
+use outside_real::{OpenPort, PortRefusal, ReadTimeout, SocketLink, Wakers};
 use std::io::{ErrorKind, Read, Write};
 use std::net::{Shutdown, TcpListener, TcpStream};
+use std::os::fd::{AsRawFd, RawFd};
 use std::time::{Duration, Instant};
 use std::{io, thread};
 
@@ -13,7 +14,7 @@ fn free_port(rt: &HostRuntime) -> Option<u16> {
 }
 
 /// Both ends of a new connection: the client's, and the one that was accepted.
-fn connected(rt: &HostRuntime) -> Option<(TcpStream, TcpStream)> {
+pub(crate) fn connected(rt: &HostRuntime) -> Option<(TcpStream, TcpStream)> {
     let open = OpenPort::listen(rt, free_port(rt)?).ok()?;
     let client = TcpStream::connect(rt, ("127.0.0.1", open.port())).ok()?;
     Some((client, open.accept(rt).ok()??))
@@ -24,7 +25,7 @@ fn sent<T: Send + Drop>(value: T) -> T {
     value
 }
 
-fn read_two<L: Link>(link: &mut L) -> (Got, [u8; 2]) {
+pub(crate) fn read_two<L: Link>(link: &mut L) -> (Got, [u8; 2]) {
     let mut buf = [0; 2];
     let got = link.read(&mut buf);
     (got, buf)
@@ -32,8 +33,9 @@ fn read_two<L: Link>(link: &mut L) -> (Got, [u8; 2]) {
 
 #[test]
 fn bytes_pass_and_a_read_times_out(rt: HostRuntime) {
+    let wakers = Wakers::new(rt.alloc());
     let (mut client, stream) = connected(&rt).expect(&rt, "no port");
-    let mut link = sent(SocketLink::new(&rt, stream));
+    let mut link = sent(SocketLink::new(&rt, &wakers, stream));
     let start = Instant::now(&rt).expect(&rt, "failed");
     assert_eq!(rt; read_two(&mut link), (Got::Idle, [0, 0]));
     let waited = start.elapsed(&rt).expect(&rt, "failed");
@@ -66,8 +68,9 @@ fn read_all(mut stream: TcpStream) -> io::Result<u64> {
 
 #[test]
 fn ten_million_bytes_in_one_write(rt: HostRuntime) {
+    let wakers = Wakers::new(rt.alloc());
     let (client, stream) = connected(&rt).expect(&rt, "no port");
-    let mut link = SocketLink::new(&rt, stream);
+    let mut link = SocketLink::new(&rt, &wakers, stream);
     let mut bytes = Vec::new(rt.alloc());
     bytes.resize(10_000_000, 7).expect(&rt, "failed");
     let reader = match thread::spawn(&rt, move || read_all(client)) {
@@ -82,8 +85,9 @@ fn ten_million_bytes_in_one_write(rt: HostRuntime) {
 // A client that closes without having read what it was sent resets the connection.
 #[test]
 fn a_client_that_vanishes_is_a_fault(rt: HostRuntime) {
+    let wakers = Wakers::new(rt.alloc());
     let (client, stream) = connected(&rt).expect(&rt, "no port");
-    let mut link = SocketLink::new(&rt, stream);
+    let mut link = SocketLink::new(&rt, &wakers, stream);
     assert!(rt; link.write(b"unread").is_ok());
     thread::sleep(&rt, Duration::from_millis(20));
     drop(client);
@@ -95,6 +99,7 @@ fn a_client_that_vanishes_is_a_fault(rt: HostRuntime) {
 // Connections that are gone again before they are accepted are links that fail or end; the port goes on.
 #[test]
 fn clients_that_are_gone_before_they_are_accepted(rt: HostRuntime) {
+    let wakers = Wakers::new(rt.alloc());
     let open = OpenPort::listen(&rt, free_port(&rt).expect(&rt, "no port")).expect(&rt, "failed");
     for _ in 0..5u32 {
         let client = TcpStream::connect(&rt, ("127.0.0.1", open.port())).expect(&rt, "failed");
@@ -103,7 +108,7 @@ fn clients_that_are_gone_before_they_are_accepted(rt: HostRuntime) {
     let mut accepted = 0u32;
     for _ in 0..5u32 {
         if let Some(stream) = open.accept(&rt).expect(&rt, "failed") {
-            let mut link = SocketLink::new(&rt, stream);
+            let mut link = SocketLink::new(&rt, &wakers, stream);
             assert_eq!(rt; read_two(&mut link), (Got::End, [0, 0]));
             accepted = accepted.wrapping_add(1);
         }
@@ -115,8 +120,9 @@ fn clients_that_are_gone_before_they_are_accepted(rt: HostRuntime) {
 // milliseconds.
 #[test]
 fn reads_time_out_soon_after_a_publication(rt: HostRuntime) {
+    let wakers = Wakers::new(rt.alloc());
     let (client, stream) = connected(&rt).expect(&rt, "no port");
-    let mut link = SocketLink::new(&rt, stream);
+    let mut link = SocketLink::new(&rt, &wakers, stream);
     assert!(rt; link.write(b"told").is_ok());
     let start = Instant::now(&rt).expect(&rt, "failed");
     for _ in 0..20u32 {
@@ -184,6 +190,12 @@ impl Write for Planned {
     }
 }
 
+impl AsRawFd for Planned {
+    fn as_raw_fd(&self) -> RawFd {
+        -1
+    }
+}
+
 impl ReadTimeout for Planned {
     fn wait_at_most(&self, _milliseconds: u64) -> io::Result<()> {
         Ok(())
@@ -192,11 +204,12 @@ impl ReadTimeout for Planned {
 
 #[test]
 fn a_stream_that_fails_as_planned(rt: HostRuntime) {
+    let wakers = Wakers::new(rt.alloc());
     let planned = Planned {
         reads: 0,
         writes: 0,
     };
-    let mut link = SocketLink::new(&rt, planned);
+    let mut link = SocketLink::new(&rt, &wakers, planned);
     let wanted = [
         (Got::Idle, [0, 0]),
         (Got::Idle, [0, 0]),

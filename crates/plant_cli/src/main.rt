@@ -13,7 +13,7 @@
 //! The exit statuses and the lines on standard error are those that `plant_run` lists.
 #![tactic(auto)]
 
-use plant_edge::StandardOutside;
+use plant_edge::{StandardOutside, Wakers};
 use plant_run::{run, warn_of_usage};
 use program_outside::Outside;
 use std::io::ErrorKind;
@@ -21,7 +21,8 @@ use std::process::ExitCode;
 use std::{env, io};
 
 fn main(rt: HostRuntime) -> io::Result<ExitCode> {
-    let mut outside = StandardOutside::new(&rt, rt.stderr());
+    let wakers = Wakers::new(rt.alloc());
+    let mut outside = StandardOutside::new(&rt, &wakers, rt.stderr());
     match arguments_of(&rt) {
         Ok(arguments) => { Ok(ExitCode::from(run(&rt, rt.alloc(), &arguments, &mut outside))) }
         Err(error) if error.kind() == ErrorKind::OutOfMemory => {

@@ -7,7 +7,8 @@
 //!   while it is open, and its clock is the machine's. Warnings go to standard error.
 //!
 //! ```text
-//! let mut outside = StandardOutside::new(&rt, rt.stderr());
+//! let wakers = Wakers::new(rt.alloc());
+//! let mut outside = StandardOutside::new(&rt, &wakers, rt.stderr());
 //! let disk = outside.folder(rt.alloc(), "plant");    // Err(MakeFault { cause: Cause::InUse }) where another has it open
 //! ```
 //!
@@ -26,4 +27,5 @@ pub use link::StandardLink;
 pub use machine_link::MachineLink;
 pub use outside::StandardOutside;
 pub use outside_mem::NoGate;
+pub use outside_real::Wakers;
 pub use recorder::SilentRecorder;

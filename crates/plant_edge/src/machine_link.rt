@@ -5,6 +5,9 @@ use crate::link::StandardLink;
 use outside_api::{Got, Link, LinkFault};
 use outside_real::{ReadTimeout, SocketLink};
 use std::io::{Read, Write};
+use std::net::Net;
+use std::os::fd::AsRawFd;
+use std::sync::Wait;
 use std::time::Clock;
 
 /// A link of a program.
@@ -16,8 +19,13 @@ pub enum MachineLink<'a, R, I, O, S> {
     Socket(SocketLink<'a, R, S>),
 }
 
-impl<'a, R: Clock, I: Read, O: Write, S: Read + Write + ReadTimeout> Link
-    for MachineLink<'a, R, I, O, S> {
+impl<
+    'a,
+    R: Clock + Wait + Net + AllocGlobal,
+    I: Read,
+    O: Write,
+    S: Read + Write + ReadTimeout + AsRawFd,
+> Link for MachineLink<'a, R, I, O, S> {
     ghost use Rattle.outside_api.specs.Link.{Reads, Writes};
     ghost use Rattle.plant_edge.specs.Link.{machine_shown};
 

@@ -5,7 +5,7 @@ use crate::machine_link::MachineLink;
 use crate::recorder::SilentRecorder;
 use outside_mem::NoGate;
 use outside_real::{
-    FolderDisk, FolderRefusal, LockedFolder, OpenPort, PortRefusal, RealClock, SocketLink,
+    FolderDisk, FolderRefusal, LockedFolder, OpenPort, PortRefusal, RealClock, SocketLink, Wakers,
     read_file,
 };
 use program_outside::{FileRefusal, MakeFault, Outside, SayFault};
@@ -15,6 +15,7 @@ use std::io;
 use std::io::{Input, Printer, Write};
 use std::net::{Net, TcpListener, TcpStream};
 use std::rt::Files;
+use std::sync::Wait;
 use std::time::Clock;
 
 /// The greatest number of bytes of a file that is read whole, such as a schema.
@@ -27,6 +28,8 @@ const FILE_LIMIT: u64 = 1 << 20;
 pub struct StandardOutside<'a, R, E> {
     /// The runtime, whose standard input and output are the link.
     rt: &'a R,
+    /// The connections that wake each other.
+    wakers: &'a Wakers,
     /// Where warnings go.
     errors: E,
     /// How many devices could not be made, and files not read; saturates.
@@ -43,12 +46,14 @@ impl<'a, R, E> StandardOutside<'a, R, E> {
     ghost use Rattle.std.specs.Prelude.{◌≡◌};
     ghost use Rattle.plant_edge.specs.Outside.{silent_outside, unused_outside};
 
-    /// The outside of a runtime, which has made nothing. Warnings go to this writer.
-    pub fn new(rt: &'a R, errors: E) -> StandardOutside<'a, R, E>
+    /// The outside of a runtime, which has made nothing. The connections that it accepts are of these `Wakers`, and warnings go to
+    /// this writer.
+    pub fn new(rt: &'a R, wakers: &'a Wakers, errors: E) -> StandardOutside<'a, R, E>
         ensures { silent_outside result ≡ unused_outside }
     {
         StandardOutside {
             rt,
+            wakers,
             errors,
             faults: 0,
             port: None,
@@ -122,6 +127,8 @@ impl<
         + Clock
         + Files<File = File>
         + Net<Listener = TcpListener, Stream = TcpStream>
+        + AllocGlobal
+        + Wait
         + Sync,
     E: Write + Drop,
 > Outside for StandardOutside<'a, R, E>
@@ -166,7 +173,7 @@ where
         };
         match port.accept(self.rt) {
             Ok(Some(stream)) => {
-                let link = SocketLink::new(self.rt, stream);
+                let link = SocketLink::new(self.rt, self.wakers, stream);
                 Ok(Some(MachineLink::Socket(link)))
             }
             Ok(None) => Ok(None),
@@ -231,6 +238,10 @@ where
         ensures { silent_outside self.new ≡ handed_back (silent_outside self.old) (option_map (λ l. machine_shown l) link.entry)
             (option_map (λ c. None) clock.entry) (option_map (λ r. silent_recorder r) recorder) }
     {
+        let mut link = link;
+        if let Some(MachineLink::Socket(socket)) = &mut link {
+            socket.leave();
+        }
         let _handed = (link, clock, recorder);
     }
 

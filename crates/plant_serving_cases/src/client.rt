@@ -1,6 +1,6 @@
 //! A client of a plant on a port, the bytes of its messages (KX, IPC reference), and the program that serves it.
-use crate::planned::PlannedOutside;
 use plant_run::run;
+use program_outside::Outside;
 use std::alloc::Global;
 use std::io::{ErrorKind, Read, Write};
 use std::net::{TcpListener, TcpStream};
@@ -37,12 +37,12 @@ pub fn free_port(rt: &HostRuntime) -> io::Result<u16> {
 }
 
 /// Runs the program as `serve` of this many sessions on the port, over a plant in memory; gives its exit status.
-pub fn serve<R: Threads + Wait + Sync>(
+pub fn serve<R: Threads + Wait + Sync, O: Outside>(
     rt: &R,
     alloc: Global,
     port: u16,
     sessions: u32,
-    outside: &mut PlannedOutside,
+    outside: &mut O,
 ) -> Result<u8, Fail> {
     let mut words = Vec::new(alloc);
     for word in ["serve", "--port"] {

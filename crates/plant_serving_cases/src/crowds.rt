@@ -1,6 +1,7 @@
 //! Many clients at once, and many one after the other.
 use crate::client::{count, free_port, greeted, serve, update};
 use crate::planned::PlannedOutside;
+use plant_edge::Wakers;
 use std::alloc::Global;
 use std::test::Fail;
 use std::thread::{JoinHandle, Threads};
@@ -45,7 +46,8 @@ fn crowd<R: Threads>(
 fn fifty_clients_at_once(rt: HostRuntime) -> Result<(), Fail> {
     let (theirs, alloc, port) = (rt.clone()?, rt.alloc(), free_port(&rt)?);
     let clients = thread::spawn(&rt, move || crowd(&theirs, &theirs, alloc, port))?;
-    let mut outside = PlannedOutside::new(&rt);
+    let wakers = Wakers::new(rt.alloc());
+    let mut outside = PlannedOutside::new(&rt, &wakers);
     assert_eq!(rt; serve(&rt, alloc, port, 51, &mut outside)?, 0);
     let (least, last) = clients.join(&rt)?;
     assert!(rt; least >= u64::from(UPDATES), "{least} rows");
@@ -69,7 +71,8 @@ fn queue(rt: &HostRuntime, alloc: Global, port: u16) -> io::Result<u64> {
 fn three_hundred_clients_one_after_the_other(rt: HostRuntime) -> Result<(), Fail> {
     let (theirs, alloc, port) = (rt.clone()?, rt.alloc(), free_port(&rt)?);
     let clients = thread::spawn(&rt, move || queue(&theirs, alloc, port))?;
-    let mut outside = PlannedOutside::new(&rt);
+    let wakers = Wakers::new(rt.alloc());
+    let mut outside = PlannedOutside::new(&rt, &wakers);
     assert_eq!(rt; serve(&rt, alloc, port, 300, &mut outside)?, 0);
     assert_eq!(rt; clients.join(&rt)?, 300);
     Ok(())

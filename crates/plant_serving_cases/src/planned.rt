@@ -1,11 +1,15 @@
 //! An outside whose port fails as planned, and whose first session is held where it evaluates a text.
 use outside_api::{Gate, Point};
-use plant_edge::StandardOutside;
+use plant_edge::{StandardOutside, Wakers};
 use program_outside::{Cause, FileRefusal, MakeFault, Outside, SayFault};
 use std::alloc::Global;
-use std::io::Write;
-use std::sync::Arc;
+use std::fs::File;
+use std::io::{Input, Write};
+use std::net::{Net, TcpListener, TcpStream};
+use std::rt::Files;
 use std::sync::atomic::{AtomicBool, Ordering};
+use std::sync::{Arc, Wait};
+use std::time::Clock;
 use std::{io, thread};
 
 /// How often a gate looks whether it was opened, before it lets its session go on.
@@ -57,21 +61,21 @@ impl Write for Lines {
 }
 
 /// The devices of the machine, but for standard error.
-pub type Machine<'a> = StandardOutside<'a, HostRuntime, Lines>;
+pub type Machine<'a, R> = StandardOutside<'a, R, Lines>;
 
 /// The devices of the machine, of which none was made.
-fn machine_of<'a>(rt: &'a HostRuntime) -> Machine<'a> {
+fn machine_of<'a, R: AllocGlobal>(rt: &'a R, wakers: &'a Wakers) -> Machine<'a, R> {
     let errors = Lines {
         bytes: Vec::new(rt.alloc()),
     };
-    StandardOutside::new(rt, errors)
+    StandardOutside::new(rt, wakers, errors)
 }
 
 /// The machine's outside, but that its port gives a number of connections and then fails, and that the first session may be
 /// held.
 #[derive(Drop)]
-pub struct PlannedOutside<'a> {
-    machine: Machine<'a>,
+pub struct PlannedOutside<'a, R> {
+    machine: Machine<'a, R>,
     // how many connections its port still gives
     left: u32,
     // the first session's gate, until it is given
@@ -80,11 +84,11 @@ pub struct PlannedOutside<'a> {
     listen_faults: u64,
 }
 
-impl<'a> PlannedOutside<'a> {
+impl<'a, R: AllocGlobal> PlannedOutside<'a, R> {
     /// An outside whose port gives each connection.
-    pub fn new(rt: &'a HostRuntime) -> PlannedOutside<'a> {
+    pub fn new(rt: &'a R, wakers: &'a Wakers) -> PlannedOutside<'a, R> {
         PlannedOutside {
-            machine: machine_of(rt),
+            machine: machine_of(rt, wakers),
             left: u32::MAX,
             first: None,
             listen_faults: 0,
@@ -92,18 +96,22 @@ impl<'a> PlannedOutside<'a> {
     }
 
     /// The same, but its port fails after so many connections.
-    pub fn failing_after(rt: &'a HostRuntime, connections: u32) -> PlannedOutside<'a> {
+    pub fn failing_after(rt: &'a R, wakers: &'a Wakers, connections: u32) -> PlannedOutside<'a, R> {
         PlannedOutside {
             left: connections,
-            ..PlannedOutside::new(rt)
+            ..PlannedOutside::new(rt, wakers)
         }
     }
 
     /// The same, but the first session is held until the flag is set.
-    pub fn holding_first(rt: &'a HostRuntime, flag: Arc<AtomicBool>) -> PlannedOutside<'a> {
+    pub fn holding_first(
+        rt: &'a R,
+        wakers: &'a Wakers,
+        flag: Arc<AtomicBool>,
+    ) -> PlannedOutside<'a, R> {
         PlannedOutside {
             first: Some(flag),
-            ..PlannedOutside::new(rt)
+            ..PlannedOutside::new(rt, wakers)
         }
     }
 
@@ -113,22 +121,35 @@ impl<'a> PlannedOutside<'a> {
     }
 }
 
-impl<'a> Outside for PlannedOutside<'a> {
+impl<
+    'a,
+    R: Input
+        + Print
+        + Clock
+        + Files<File = File>
+        + Net<Listener = TcpListener, Stream = TcpStream>
+        + AllocGlobal
+        + Wait
+        + Sync,
+> Outside for PlannedOutside<'a, R>
+where
+    R::Reader: Send,
+{
     ghost use Rattle.std.specs.Prelude.{◌≡◌};
     ghost use Rattle.std.specs.Option.{option_map};
     ghost use Rattle.program_outside.specs.Outside.{handed_back};
     ghost use Rattle.plant_edge.specs.Link.{machine_shown};
     ghost use Rattle.plant_edge.specs.Outside.{silent_outside, silent_recorder};
 
-    type Link = <Machine<'a> as Outside>::Link;
+    type Link = <Machine<'a, R> as Outside>::Link;
 
-    type Disk = <Machine<'a> as Outside>::Disk;
+    type Disk = <Machine<'a, R> as Outside>::Disk;
 
-    type Clock = <Machine<'a> as Outside>::Clock;
+    type Clock = <Machine<'a, R> as Outside>::Clock;
 
     type Gate = HoldingGate;
 
-    type Recorder = <Machine<'a> as Outside>::Recorder;
+    type Recorder = <Machine<'a, R> as Outside>::Recorder;
 
     // What the machine's shows, but for the faults of the port, which it counts itself.
     ghost seen = { λ outside. record (silent_outside outside.machine) { listen_faults = outside.listen_faults } };

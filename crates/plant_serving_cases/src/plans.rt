@@ -1,6 +1,7 @@
 //! Runs of the program with a port that fails, and with a session that is held.
 use crate::client::{count, free_port, greeted, serve, update};
 use crate::planned::PlannedOutside;
+use plant_edge::Wakers;
 use std::alloc::Global;
 use std::sync::Arc;
 use std::sync::atomic::{AtomicBool, Ordering};
@@ -23,7 +24,8 @@ fn two(rt: &HostRuntime, alloc: Global, port: u16) -> io::Result<u64> {
 fn sessions_go_on_after_the_port_failed(rt: HostRuntime) -> Result<(), Fail> {
     let (theirs, alloc, port) = (rt.clone()?, rt.alloc(), free_port(&rt)?);
     let clients = thread::spawn(&rt, move || two(&theirs, alloc, port))?;
-    let mut outside = PlannedOutside::failing_after(&rt, 2);
+    let wakers = Wakers::new(rt.alloc());
+    let mut outside = PlannedOutside::failing_after(&rt, &wakers, 2);
     assert_eq!(rt; serve(&rt, alloc, port, 3, &mut outside)?, 9);
     assert_eq!(rt; clients.join(&rt)?, 200);
     let line = format!(in alloc;
@@ -79,7 +81,8 @@ fn gates_run_beside(rt: HostRuntime) -> Result<(), Fail> {
     let has_connected = Arc::new(alloc, AtomicBool::new(false))?;
     let was_answered = Arc::new(alloc, AtomicBool::new(false))?;
     let (connected, answered) = (has_connected.clone()?, was_answered.clone()?);
-    let mut outside = PlannedOutside::holding_first(&rt, was_answered);
+    let wakers = Wakers::new(rt.alloc());
+    let mut outside = PlannedOutside::holding_first(&rt, &wakers, was_answered);
     let first = thread::spawn(&rt, move || ask_held(&asks, alloc, port, &has_connected))?;
     let second = thread::spawn(&rt, move || {
         feed_beside(&feeds, alloc, port, &connected, &answered)

@@ -3,6 +3,7 @@ use crate::client::{
     GREETING, SELECT, UPDATE, connected, count, free_port, greeted, hangs_up, serve, update,
 };
 use crate::planned::PlannedOutside;
+use plant_edge::Wakers;
 use std::alloc::Global;
 use std::io::{ErrorKind, Write};
 use std::net::TcpStream;
@@ -39,7 +40,8 @@ fn vanishing(rt: &HostRuntime, alloc: Global, port: u16) -> io::Result<u64> {
 fn clients_that_vanish_end_their_own_sessions_alone(rt: HostRuntime) -> Result<(), Fail> {
     let (theirs, alloc, port) = (rt.clone()?, rt.alloc(), free_port(&rt)?);
     let clients = thread::spawn(&rt, move || vanishing(&theirs, alloc, port))?;
-    let mut outside = PlannedOutside::new(&rt);
+    let wakers = Wakers::new(rt.alloc());
+    let mut outside = PlannedOutside::new(&rt, &wakers);
     assert_eq!(rt; serve(&rt, alloc, port, 5, &mut outside)?, 0);
     let rows = clients.join(&rt)?;
     assert!(rt; rows >= 10 && rows <= 110, "{rows} rows");
@@ -77,7 +79,8 @@ fn rubbish(rt: &HostRuntime, alloc: Global, port: u16) -> io::Result<(u32, u64)>
 fn rubbish_is_hung_up(rt: HostRuntime) -> Result<(), Fail> {
     let (theirs, alloc, port) = (rt.clone()?, rt.alloc(), free_port(&rt)?);
     let clients = thread::spawn(&rt, move || rubbish(&theirs, alloc, port))?;
-    let mut outside = PlannedOutside::new(&rt);
+    let wakers = Wakers::new(rt.alloc());
+    let mut outside = PlannedOutside::new(&rt, &wakers);
     assert_eq!(rt; serve(&rt, alloc, port, 6, &mut outside)?, 0);
     assert_eq!(rt; clients.join(&rt)?, (5, 4));
     Ok(())
@@ -118,7 +121,8 @@ fn deaf(rt: &HostRuntime, alloc: Global, port: u16) -> io::Result<(bool, u64)> {
 fn a_client_that_never_reads_holds_up_nobody_else(rt: HostRuntime) -> Result<(), Fail> {
     let (theirs, alloc, port) = (rt.clone()?, rt.alloc(), free_port(&rt)?);
     let clients = thread::spawn(&rt, move || deaf(&theirs, alloc, port))?;
-    let mut outside = PlannedOutside::new(&rt);
+    let wakers = Wakers::new(rt.alloc());
+    let mut outside = PlannedOutside::new(&rt, &wakers);
     assert_eq!(rt; serve(&rt, alloc, port, 2, &mut outside)?, 0);
     assert_eq!(rt; clients.join(&rt)?, (true, 3_000));
     Ok(())
@@ -140,7 +144,8 @@ fn silent(rt: &HostRuntime, alloc: Global, port: u16) -> io::Result<u64> {
 fn a_silent_client_is_waited_for(rt: HostRuntime) -> Result<(), Fail> {
     let (theirs, alloc, port) = (rt.clone()?, rt.alloc(), free_port(&rt)?);
     let clients = thread::spawn(&rt, move || silent(&theirs, alloc, port))?;
-    let mut outside = PlannedOutside::new(&rt);
+    let wakers = Wakers::new(rt.alloc());
+    let mut outside = PlannedOutside::new(&rt, &wakers);
     assert_eq!(rt; serve(&rt, alloc, port, 2, &mut outside)?, 0);
     assert_eq!(rt; clients.join(&rt)?, 2);
     Ok(())

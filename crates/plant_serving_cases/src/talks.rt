@@ -4,6 +4,7 @@ use crate::client::{
     serve, update,
 };
 use crate::planned::PlannedOutside;
+use plant_edge::Wakers;
 use std::alloc::Global;
 use std::io::{Read, Write};
 use std::net::Shutdown;
@@ -25,7 +26,8 @@ fn asks_and_asks(rt: &HostRuntime, alloc: Global, port: u16) -> io::Result<[u64;
 fn told_before_asked(rt: HostRuntime) -> Result<(), Fail> {
     let (theirs, alloc, port) = (rt.clone()?, rt.alloc(), free_port(&rt)?);
     let clients = thread::spawn(&rt, move || asks_and_asks(&theirs, alloc, port))?;
-    let mut outside = PlannedOutside::new(&rt);
+    let wakers = Wakers::new(rt.alloc());
+    let mut outside = PlannedOutside::new(&rt, &wakers);
     assert_eq!(rt; serve(&rt, alloc, port, 2, &mut outside)?, 0);
     assert_eq!(rt; clients.join(&rt)?, [0, 1, 1]);
     assert_eq!(rt; outside.errors(), b"".as_slice());
@@ -61,7 +63,8 @@ fn single_bytes_and_a_half_closed_connection(rt: HostRuntime) -> Result<(), Fail
         talks.1 = count(alloc, &mut last)?;
         io::Result::Ok(talks)
     })?;
-    let mut outside = PlannedOutside::new(&rt);
+    let wakers = Wakers::new(rt.alloc());
+    let mut outside = PlannedOutside::new(&rt, &wakers);
     assert_eq!(rt; serve(&rt, alloc, port, 2, &mut outside)?, 0);
     assert_eq!(rt; clients.join(&rt)?, (10, 1, true));
     Ok(())
@@ -91,7 +94,8 @@ fn pipelined(rt: &HostRuntime, alloc: Global, port: u16) -> io::Result<(u64, boo
 fn a_thousand_updates_in_one_write(rt: HostRuntime) -> Result<(), Fail> {
     let (theirs, alloc, port) = (rt.clone()?, rt.alloc(), free_port(&rt)?);
     let clients = thread::spawn(&rt, move || pipelined(&theirs, alloc, port))?;
-    let mut outside = PlannedOutside::new(&rt);
+    let wakers = Wakers::new(rt.alloc());
+    let mut outside = PlannedOutside::new(&rt, &wakers);
     assert_eq!(rt; serve(&rt, alloc, port, 1, &mut outside)?, 0);
     assert_eq!(rt; clients.join(&rt)?, (1_000, true));
     Ok(())

@@ -29,7 +29,8 @@ fn fitting_length(value: &Value) -> Option<usize>
 
 // The number of bytes of all messages, for making room, or `None` where one is too long.
 fn total_length(values: &Values) -> Option<usize>
-    ensures { MatchOption result (Any (λ t. 4294967295 < length (notice t)) (trees values.now)) (λ n. All (λ t. length (notice t) ≤ 4294967295) (trees values.now)) }
+    ensures { MatchOption result (Any (λ t. 4294967295 < length (notice t)) (trees values.now))
+        (λ n. All (λ t. length (notice t) ≤ 4294967295) (trees values.now)) }
 {
     let mut total = 0usize;
     for i in 0..values.len() {

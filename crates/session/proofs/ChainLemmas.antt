@@ -7,7 +7,7 @@ use Rattle.pubsub.specs.declared.request.SubRequest.{SubRequest}
 use Rattle.q_values.specs.declared.turn.Turn.{Turn}
 use Rattle.session.specs.Lawful.{AreLengths, last_length, length_after}
 use Rattle.session.specs.Owing.{FitsPlant}
-use Rattle.session.specs.Request.{Request, update, subscribe, mistyped, text, other, request_of, subscription_in}
+use Rattle.session_requests.specs.Request.{Request, update, subscribe, mistyped, text, other, request_of, subscription_in}
 use Rattle.session.specs.Served.{Event, greeted, asked, idled, published, Deed, Step}
 use Rattle.session.specs.State.{State, Chain}
 use Rattle.session.specs.Steps.{Serves, ServesAsked, ServesContent, IsStep}

@@ -11,14 +11,14 @@ use Rattle.q_values.specs.declared.limits.Limits.{Limits}
 use Rattle.q_values.specs.declared.turn.Turn.{Turn}
 use Rattle.q_values.specs.declared.turn.Turn.TheVariants as t
 use Rattle.session.specs.Acting.{Finishes, ServesHeard}
-use Rattle.session.specs.Arrival.{ReaderView, Arrives, HoldsMessage, heard_by}
+use Rattle.link_reader.specs.Arrival.{ReaderView, Arrives, HoldsMessage, heard_by}
 use Rattle.session.specs.Ended.{Goes}
 use Rattle.session.specs.Heard.{Hears}
 use Rattle.session.specs.Run.{world}
 use Rattle.session.specs.Served.{greeted, asked, Deed}
 use Rattle.session.specs.State.{State}
 use Rattle.session.specs.declared.end.End.{End}
-use Rattle.session.specs.declared.reader.Arrival.TheVariants as r
+use Rattle.link_reader.specs.declared.reader.Arrival.TheVariants as r
 use Rattle.session.proofs.PerformLemmas.{performs-one}
 use Rattle.session.proofs.ServedLemmas.{advances_idle}
 use Rattle.session.proofs.StepLemmas.{heard_step, served_step}

@@ -12,7 +12,7 @@ use Rattle.q_values.specs.declared.turn.Turn.{Turn}
 use Rattle.session.specs.Chronicle.{IsFront}
 use Rattle.session.specs.Heard.{Hears, idles_heard}
 use Rattle.session.specs.Lawful.{AllGoOn, length_after, last_length}
-use Rattle.session.specs.Request.{Request, update, subscribe, mistyped, text, other, request_of, subscription_in}
+use Rattle.session_requests.specs.Request.{Request, update, subscribe, mistyped, text, other, request_of, subscription_in}
 use Rattle.session.specs.Run.{World, Works, Advances, turns_of, made_in, snapshots_in, ticks_in}
 use Rattle.session.specs.Served.{Event, greeted, asked, idled, published, Deed, Step, StandsAfter, ServesRequest, ServesText, ServesIdle, IsIdle}
 use Rattle.session.specs.State.{State, Chain}

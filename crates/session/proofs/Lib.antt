@@ -8,10 +8,8 @@ pub mod JoinLemmas
 pub mod MadeLemmas
 pub mod PartLemmas
 pub mod PerformLemmas
+pub mod PlainLemmas
 pub mod PublishLemmas
-pub mod ReaderLemmas
-pub mod ReplyLemmas
-pub mod RequestLemmas
 pub mod RunLemmas
 pub mod ServedLemmas
 pub mod ServingLemmas

@@ -15,7 +15,7 @@ use Rattle.q_values.specs.declared.turn.Turn.{Turn}
 use Rattle.session.specs.Acting.{Finishes, FinishesAll, Performs, ServesHeard, heard_of}
 use Rattle.session.specs.Answering.{Does, ServesValue, turns_by, sent_by, deed_of}
 use Rattle.session.specs.Devices.{OnlyAsks, KeepsSubscriber, world_of, state_of, served_of}
-use Rattle.session.specs.Request.{Request, update, subscribe, mistyped, text, other, request_of}
+use Rattle.session_requests.specs.Request.{Request, update, subscribe, mistyped, text, other, request_of}
 use Rattle.session.specs.Run.{World, Works, Advances}
 use Rattle.session.specs.Served.{Event, asked, Deed, Step}
 use Rattle.session.specs.State.{State}

@@ -4,11 +4,12 @@ use Rattle.std.specs.List.{flat_map}
 use Rattle.std.proofs.lemmas.List.{length-append, map-append, append-nil}
 use Rattle.std.proofs.lemmas.List.Concat.{flat_map-append}
 use Rattle.ipc_frame.specs.View.{told_place}
+use Rattle.link_reader.specs.Moved.{moved}
 use Rattle.outside_api.specs.Link.{LinkView}
 use Rattle.q_values.specs.declared.limits.Limits.{Limits}
-use Rattle.session.specs.Arrival.{ReaderView, unheard}
+use Rattle.link_reader.specs.Arrival.{ReaderView, unheard}
 use Rattle.session.specs.Ended.{Runs, Converses, Rests, IsSent, SpendsIdles, WasOpenAt, NeedsNoRead, ended_link}
-use Rattle.session.specs.Run.{World, world, moved, sent_in}
+use Rattle.session.specs.Run.{World, world, sent_in}
 use Rattle.session.specs.State.{State}
 use Rattle.session.specs.declared.end.End.{End}
 use Rattle.session.specs.declared.end.End.TheVariants as e

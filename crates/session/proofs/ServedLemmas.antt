@@ -22,14 +22,14 @@ use Rattle.q_values.specs.declared.turn.Turn.{Turn}
 use Rattle.q_values.specs.declared.turn.Turn.TheVariants as t
 use Rattle.session.specs.Answering.{Does, ServesValue, AnswersRefusal, turns_by, roll_turn, sent_by, deed_of}
 use Rattle.session.specs.Lawful.{AllGoOn, last_length}
-use Rattle.session.specs.Replies.{reply_bytes}
-use Rattle.session.specs.Replies as replies
-use Rattle.session.specs.Reply.{response, reply, replied, refusal_text}
-use Rattle.session.specs.Request.{Request, update, mistyped, text, other}
+use Rattle.session_replies.specs.Replies.{reply_bytes}
+use Rattle.session_replies.specs.Replies as replies
+use Rattle.session_replies.specs.Reply.{response, reply, replied, refusal_text}
+use Rattle.session_requests.specs.Request.{Request, update, mistyped, text, other}
 use Rattle.session.specs.Run.{Advances, advanced}
 use Rattle.session.specs.Served.{Deed, IsDeclined, IsUnserved, entry_turns}
 use Rattle.session.specs.declared.answer.Answer.{Answer}
-use Rattle.session.specs.declared.reply.Reply.{Reply}
+use Rattle.session_replies.specs.declared.reply.Reply.{Reply}
 use Rattle.session.proofs.GoingLemmas.{advances, just}
 use Rattle.session.proofs.MadeLemmas.{AreAt, accepted_at, AreBefore, failed_at}
 use Rattle.session.proofs.ToldLemmas.{told-nil}

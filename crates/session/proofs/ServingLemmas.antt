@@ -15,8 +15,8 @@ use Rattle.session.specs.Acting.{Finishes, IdlesBy, Performs, ServesHeard, Times
 use Rattle.session.specs.Answering.{turns_by, sent_by}
 use Rattle.session.specs.Devices.{OnlyAsks, KeepsSubscriber, world_of, state_of, served_of}
 use Rattle.session.specs.Owing.{FitsPlant, IsTextOf}
-use Rattle.session.specs.Reply.{reply, replied}
-use Rattle.session.specs.Request.{request_of, subscription_in}
+use Rattle.session_replies.specs.Reply.{reply, replied}
+use Rattle.session_requests.specs.Request.{request_of, subscription_in}
 use Rattle.session.specs.Run.{World, Advances}
 use Rattle.session.specs.Served.{Deed, Event, asked, idled, IsDeclined, IsUnserved}
 use Rattle.session.specs.State.{State}

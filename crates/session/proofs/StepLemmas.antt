@@ -3,6 +3,7 @@ use Rattle.std.proofs.Common.{◌≡◌, ◌<◌, ◌+◌, ℕ, ℤ, Bool, true,
 use Rattle.std.specs.List.{flat_map}
 use Rattle.std.proofs.lemmas.List.{append-nil, length-append}
 use Rattle.std.specs.Prelude.{IsTrue, ◌↔◌}
+use Rattle.link_reader.specs.Moved.{moved}
 use Rattle.outside_api.specs.Counts.{counted}
 use Rattle.outside_api.specs.Link.{LinkView, HasGivenAll}
 use Rattle.outside_api.specs.Told.{told, Tells}
@@ -16,10 +17,10 @@ use Rattle.ipc_frame.proofs.RunLemmas.{too_long}
 use Rattle.ipc_frame.proofs.UniqueLemmas.{front_stays}
 use Rattle.ipc_frame.specs.Stream.{fault}
 use Rattle.ipc_frame.specs.declared.bad.Bad.{Bad}
-use Rattle.session.specs.Arrival.{ReaderView, Gathers, Waits, HoldsFault, heard_by, unheard}
+use Rattle.link_reader.specs.Arrival.{ReaderView, Gathers, Waits, HoldsFault, heard_by, unheard}
 use Rattle.session.specs.Ended.{Runs, Converses, Goes, IsBad}
 use Rattle.session.specs.Heard.{Hears, idles_heard}
-use Rattle.session.specs.Run.{World, world, Works, Advances, moved, sent_in}
+use Rattle.session.specs.Run.{World, world, Works, Advances, sent_in}
 use Rattle.session.specs.Lawful.{AreLengths}
 use Rattle.session.specs.Served.{Event, idled, Step}
 use Rattle.session.specs.State.{State}

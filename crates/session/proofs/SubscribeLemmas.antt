@@ -20,8 +20,8 @@ use Rattle.session.specs.Acting.{Finishes, Performs, ServesHeard}
 use Rattle.session.specs.Answering.{Does, ServesValue, AnswersUnknown, turns_by, sent_by}
 use Rattle.session.specs.Devices.{OnlyAsks, KeepsSubscriber, world_of, state_of, served_of}
 use Rattle.session.specs.Owing.{FitsPlant, OwesMessages, OwesTooMuch, told_up_to, IsSubscriptionTo}
-use Rattle.session.specs.Reply.{reply, replied, response}
-use Rattle.session.specs.Request.{Request, request_of}
+use Rattle.session_replies.specs.Reply.{reply, replied, response}
+use Rattle.session_requests.specs.Request.{Request, request_of}
 use Rattle.session.specs.Run.{Advances}
 use Rattle.session.specs.Served.{asked, Deed, IsShort}
 use Rattle.session.specs.Steps.{ServesContent}

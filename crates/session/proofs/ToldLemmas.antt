@@ -1,10 +1,10 @@
 -- What devices tell in two parts, and counts that rise in two steps.
 use Rattle.std.proofs.Common.{◌≡◌, ◌+◌, ℕ, zero, suc, List, [], ◌++◌, refl, sym, ap, ◌∙◌, arith, Option, Some, None, append_assoc}
 use Rattle.std.proofs.lemmas.List.{append-nil}
+use Rattle.link_reader.specs.Moved.{moved}
 use Rattle.outside_api.specs.Counts.{counted, next_count}
 use Rattle.outside_api.specs.Link.{LinkView}
 use Rattle.outside_api.specs.Told.{told, Tells}
-use Rattle.session.specs.Run.{moved}
 
 pub told-nil : {X : Type 0} (o : Option (List X)) → told o [] ≡ o
 told-nil None = refl

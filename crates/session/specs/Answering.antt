@@ -9,15 +9,15 @@ use Rattle.q_values.specs.Tree.{wrong}
 use Rattle.q_values.specs.declared.limits.Limits.{Limits}
 use Rattle.q_values.specs.declared.turn.Turn.{Turn}
 use Rattle.q_values.specs.declared.turn.Turn.TheVariants as t
-use Rattle.session.specs.Replies.{reply_bytes, Refuses}
-use Rattle.session.specs.Reply.{response, reply, replied}
-use Rattle.session.specs.Request.{Request}
+use Rattle.session_replies.specs.Replies.{reply_bytes, Refuses}
+use Rattle.session_replies.specs.Reply.{response, reply, replied}
+use Rattle.session_requests.specs.Request.{Request}
 use Rattle.session.specs.Run.{Advances}
 use Rattle.session.specs.Served.{Deed, ServesRequest, IsShort}
 use Rattle.pubsub.specs.declared.request.SubRefusal.{SubRefusal}
 use Rattle.pubsub.specs.declared.request.SubRefusal.TheVariants as s
 use Rattle.session.specs.declared.answer.Answer.{Answer}
-use Rattle.session.specs.declared.reply.Reply.{Reply}
+use Rattle.session_replies.specs.declared.reply.Reply.{Reply}
 
 -- the turn of a roll, if there was one, and that of the message
 abbrev pub turns_by : Option Turn → Turn → List Turn

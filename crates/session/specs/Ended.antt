@@ -1,6 +1,7 @@
 -- How a session, or the rest of one, ends.
 use Rattle.std.specs.Prelude.{◌≡◌, ◌≤◌, ◌<◌, ◌+◌, ◌⊎◌, ℕ, Bool, true, false, List, [], ◌∷◌, ◌++◌, length, map, take, MatchBool, MatchOption, Option}
 use Rattle.std.specs.List.{flat_map}
+use Rattle.link_reader.specs.Moved.{moved}
 use Rattle.outside_api.specs.Counts.{counted}
 use Rattle.outside_api.specs.Link.{LinkView, HasGivenAll}
 use Rattle.ipc_frame.specs.Framing.{IsNeeded}
@@ -10,9 +11,9 @@ use Rattle.ipc_frame.specs.declared.bad.Bad.{Bad}
 use Rattle.ipc_frame.specs.declared.bad.Bad.TheVariants as b
 use Rattle.q_values.specs.Bytes.{HasNoNul}
 use Rattle.q_values.specs.declared.limits.Limits.{Limits}
-use Rattle.session.specs.Arrival.{ReaderView, unheard}
+use Rattle.link_reader.specs.Arrival.{ReaderView, unheard}
 use Rattle.session.specs.Heard.{Hears, idles_heard}
-use Rattle.session.specs.Run.{World, Works, moved, sent_in}
+use Rattle.session.specs.Run.{World, Works, sent_in}
 use Rattle.session.specs.Served.{Step}
 use Rattle.session.specs.State.{State}
 use Rattle.session.specs.declared.end.End.{End}

@@ -1,17 +1,11 @@
 pub mod Acting
 pub mod Answering
-pub mod Asked
-pub mod Arrival
 pub mod Chronicle
 pub mod Devices
 pub mod Ended
 pub mod Heard
-pub mod Reading
 pub mod Lawful
 pub mod Owing
-pub mod Replies
-pub mod Reply
-pub mod Request
 pub mod Run
 pub mod Served
 pub mod Session

@@ -5,7 +5,7 @@ use Rattle.plant_memory.specs.Frame.{Frame}
 use Rattle.publications.specs.Notice.{Fits, sent_for}
 use Rattle.pubsub.specs.declared.request.SubRequest.{SubRequest}
 use Rattle.qsql_request.specs.Forms.{SubForm}
-use Rattle.session.specs.Request.{Request, subscribe, text, subscription_in}
+use Rattle.session_requests.specs.Request.{Request, subscribe, text, subscription_in}
 use Rattle.session.specs.Subscribing.{owed, IsPaid, IsForm}
 use Rattle.session.specs.declared.subscriber.Owed.{Owed}
 use Rattle.session.specs.declared.subscriber.Owed.TheVariants as o

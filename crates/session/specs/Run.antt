@@ -22,10 +22,6 @@ pub record World : Type 0 where
 abbrev pub world : LinkView → Option (List ℤ) → Option (List Turn) → AccessView → World
 world link clock notes access = record { link = link; clock = clock; notes = notes; access = access }
 
--- a link after it gave and took these bytes, and timed out n times
-abbrev pub moved : LinkView → List ℕ → List ℕ → ℕ → LinkView
-moved link given taken idled = record link { given = told link.given given; taken = told link.taken taken; idles = counted link.idles idled }
-
 -- an access after it saw these entries more, made those, and asked for n snapshots and m ticks
 abbrev pub advanced : AccessView → List Entry → List Entry → ℕ → ℕ → AccessView
 advanced access gained made asked ticked =

@@ -13,8 +13,8 @@ use Rattle.q_values.specs.Tree.{Tree, identity, wrong}
 use Rattle.q_values.specs.declared.turn.Turn.{Turn}
 use Rattle.q_values.specs.declared.turn.Turn.TheVariants as t
 use Rattle.session.specs.Chronicle.{IsFront}
-use Rattle.session.specs.Reply.{response, reply, replied, refusal_text}
-use Rattle.session.specs.Request.{Request, update, subscribe, mistyped, text, other}
+use Rattle.session_replies.specs.Reply.{response, reply, replied, refusal_text}
+use Rattle.session_requests.specs.Request.{Request, update, subscribe, mistyped, text, other}
 use Rattle.session.specs.State.{State}
 
 -- what a session serves: a handshake with this capability, a message, a read timeout, or what its subscriber is owed

@@ -1,12 +1,13 @@
 -- What a session is: what it read from its link, and what it did with that.
 use Rattle.std.specs.Prelude.{◌≡◌, ◌<◌, ◌≤◌, ◌⊎◌, ℕ, Bool, false, List, [], ◌++◌, map, min}
+use Rattle.link_reader.specs.Moved.{moved}
 use Rattle.outside_api.specs.Counts.{last_count}
 use Rattle.outside_api.specs.Told.{told, Tells}
 use Rattle.ipc_frame.specs.Stream.{Ending, Message, closed, truncated, bad, IsStream}
 use Rattle.q_values.specs.declared.limits.Limits.{Limits}
 use Rattle.session.specs.Ended.{ended_link, HasReadAll, WasOpenAt, IsSent, LeavesNoneDue}
 use Rattle.session.specs.Heard.{Hears, greeting_heard, messages_heard, idles_heard}
-use Rattle.session.specs.Run.{World, Advances, moved, turns_of, readings_of, made_in, snapshots_in, ticks_in}
+use Rattle.session.specs.Run.{World, Advances, turns_of, readings_of, made_in, snapshots_in, ticks_in}
 use Rattle.session.specs.Served.{Event, Step}
 use Rattle.session.specs.State.{State, Chain, fresh_state}
 use Rattle.session.specs.Steps.{IsStep}

@@ -5,7 +5,7 @@ use Rattle.ipc_frame.specs.Stream.{Content, built, unbuilt}
 use Rattle.plant_memory.specs.Frame.{Frame}
 use Rattle.qsql_request.specs.Forms.{SubForm}
 use Rattle.session.specs.Lawful.{AreLengths}
-use Rattle.session.specs.Request.{Request, update, subscribe, mistyped, text, other, request_of, subscription_in}
+use Rattle.session_requests.specs.Request.{Request, update, subscribe, mistyped, text, other, request_of, subscription_in}
 use Rattle.session.specs.Served.{Event, greeted, asked, idled, published, Deed, Step, IsGreeted, IsShort, IsUnserved, ServesIdle, ServesRequest}
 use Rattle.session.specs.State.{State, is_owed}
 use Rattle.session.specs.Subscribing.{Publishes, ServesSubscription, ServesForm, IsForm}

@@ -13,7 +13,7 @@ use Rattle.q_values.specs.declared.turn.Turn.TheVariants as t
 use Rattle.qsql_parse.specs.Verdicts.{IsVerdict, asks}
 use Rattle.qsql_request.specs.Forms.{SubForm, sub_form}
 use Rattle.session.specs.Chronicle.{IsFront}
-use Rattle.session.specs.Reply.{reply, replied}
+use Rattle.session_replies.specs.Reply.{reply, replied}
 use Rattle.session.specs.Served.{Deed, IsStill, IsDeclined}
 use Rattle.session.specs.declared.subscriber.Subscriber.{Subscriber}
 

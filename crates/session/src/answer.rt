@@ -6,12 +6,11 @@ ghost use Rattle.q_values.specs.Limits.{AreLimits};
 ghost use Rattle.qsql_parse.specs.Verdicts.{IsVerdict};
 ghost use Rattle.q_values.specs.Tree.{trees, identity, wrong};
 ghost use Rattle.session.specs.Answering.{Does, ServesValue, AnswersRefusal, sent_by, roll_turn};
-ghost use Rattle.session.specs.Replies.{reply_bytes};
-ghost use Rattle.session.specs.Reply.{response, reply, replied};
-ghost use Rattle.session.specs.Request.{update, text};
+ghost use Rattle.session_replies.specs.Replies.{reply_bytes};
+ghost use Rattle.session_replies.specs.Reply.{response, reply, replied};
+ghost use Rattle.session_requests.specs.Request.{update, text};
 ghost use Rattle.session.specs.Served.{ServesIdle};
 
-use crate::reply::{Reply, disk, done, mistyped, nyi, refuse, respond, wsfull};
 use crate::session::Session;
 use day_rows::Schema;
 use gateway::Question;
@@ -19,6 +18,7 @@ use outside_api::{Clock, Gate, Link, Point, Recorder};
 use plant_core::{Access, TickTurn, UpdTurn};
 use plant_memory::{Snapshot, UpdRefusal, UpdRequest};
 use q_values::{Limits, NoMemory, Turn};
+use session_replies::{Reply, disk, done, mistyped, nyi, refuse, respond, wsfull};
 use std::alloc::Global;
 use std::sync::Wait;
 

@@ -6,7 +6,7 @@
 //!
 //! - `Session` is the state of a session: its devices, its limits, its reader, the number of read timeouts left, and its
 //!   subscriber.
-//! - `Reader` reads the link in large pieces and gives one `Arrival` after the other.
+//! - `link_reader::Reader` reads the link in large pieces and gives one `Arrival` after the other.
 //! - `Answer` is what a message or a read timeout comes to: the turns to be noted and the response.
 //! - `Subscriber` is what the client is subscribed to, and up to which length of the chronicle it was told.
 //!
@@ -23,9 +23,10 @@
 //! end of input                              ends with End::Closed
 //! ```
 //!
-//! A message goes `Session::serve_next` -> `Session::serve_message` -> `Session::serve_value` -> `asked_by` (what it asks
-//! for) -> `Session::serve_asked` -> `Access::upd`, `Question::answer` or `Session::subscribe` -> `finish` (the turns, then
-//! the bytes). `Session::publish` comes after each message and each read timeout.
+//! A message goes `Session::serve_next` -> `Session::serve_message` -> `Session::serve_value` ->
+//! `session_requests::asked_by` (what it asks for) -> `Session::serve_asked` -> `Access::upd`, `Question::answer` or
+//! `Session::subscribe` -> `finish` (the turns, then the bytes, which `session_replies` makes). `Session::publish` comes
+//! after each message and each read timeout.
 //!
 //! It opens no socket, starts no thread and writes no journal: those are devices that its caller passes. It knows no query
 //! language: `gateway` answers each text over a snapshot of the plant.
@@ -36,9 +37,6 @@ mod answer;
 mod end;
 mod message;
 mod publishing;
-mod reader;
-mod reply;
-mod request;
 mod serve;
 mod session;
 mod subscriber;

@@ -6,20 +6,20 @@ ghost use Rattle.q_values.specs.Limits.{AreLimits};
 ghost use Rattle.q_values.specs.Tree.{Tree, tree};
 ghost use Rattle.qsql_request.specs.Views.{sub_of};
 ghost use Rattle.session.specs.Acting.{ServesHeard};
-ghost use Rattle.session.specs.Asked.{Asks};
+ghost use Rattle.session_requests.specs.Asked.{Asks};
 ghost use Rattle.session.specs.Owing.{FitsPlant, IsTextOf};
-ghost use Rattle.session.specs.Request.{request_of, text};
+ghost use Rattle.session_requests.specs.Request.{request_of, text};
 ghost use Rattle.session.specs.Served.{asked};
 
 use crate::answer::{declined, short, unserved};
 use crate::end::End;
-use crate::request::{Asked, asked_by, subscription_in};
 use crate::session::Session;
 use gateway::Question;
 use outside_api::{Clock, Gate, Link, Recorder};
 use plant_core::Access;
 use q_values::Value;
 use qsql_request::{Request, SubRequest};
+use session_requests::{Asked, asked_by, subscription_in};
 use std::alloc::Global;
 use std::sync::Wait;
 

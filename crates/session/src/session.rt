@@ -6,8 +6,8 @@ ghost use Rattle.session.specs.Run.{world};
 ghost use Rattle.session.specs.Session.{IsSession};
 
 use crate::end::{End, Report};
-use crate::reader::Reader;
 use crate::subscriber::Subscriber;
+use link_reader::Reader;
 use outside_api::{Clock, Gate, Link, Recorder};
 use plant_core::Access;
 use q_values::Limits;

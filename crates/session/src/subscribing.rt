@@ -10,14 +10,13 @@ ghost use Rattle.outside_api.specs.Told.{Tells};
 ghost use Rattle.session.specs.Acting.{ServesHeard, Finishes};
 ghost use Rattle.session.specs.Answering.{sent_by, AnswersUnknown};
 ghost use Rattle.session.specs.Owing.{FitsPlant, IsSubscriptionTo};
-ghost use Rattle.session.specs.Reply.{reply, replied};
-ghost use Rattle.session.specs.Request.{request_of};
+ghost use Rattle.session_replies.specs.Reply.{reply, replied};
+ghost use Rattle.session_requests.specs.Request.{request_of};
 ghost use Rattle.session.specs.Served.{asked};
 ghost use Rattle.session.specs.Subscribing.{chosen_by};
 
 use crate::answer::{Answer, replying, short};
 use crate::end::End;
-use crate::reply::{Reply, over_the_limit, respond, respond_wrong};
 use crate::session::Session;
 use crate::subscriber::{Owed, Subscriber};
 use outside_api::{Clock, Gate, Link, Recorder};
@@ -25,6 +24,7 @@ use plant_core::Access;
 use publications::subscription_answer;
 use pubsub::{SubRefusal, SubRequest, Subscription};
 use q_values::{Limits, NoMemory, Turn};
+use session_replies::{Reply, over_the_limit, respond, respond_wrong};
 use std::alloc::Global;
 use std::sync::Wait;
 

@@ -18,23 +18,36 @@ fn logged(place: u64) -> Turn {
     Turn::Logged { place, now: NOW }
 }
 
+// The end of the date after three updates, and the first update of the next one.
+const ROLLED_TURN: Turn = Turn::Rolled {
+    place: 3,
+    now: TOMORROW,
+};
+
+const LOGGED_TOMORROW: Turn = Turn::Logged {
+    place: 4,
+    now: TOMORROW,
+};
+
+const TWO_FILTERS_SENT: [&[u8]; 10] = [
+    GREETED,
+    TRADE,
+    DONE,
+    DONE,
+    SECOND_TOLD,
+    TRADE,
+    DONE,
+    THIRD_TOLD,
+    DONE,
+    END_TOLD,
+];
+
 // The filters of two subscriptions after one another, and the end of the date.
 #[test]
 fn subscription_filters_and_day_end(rt: HostRuntime) {
     let wanted = Wanted {
         end: End::Closed,
-        sent: &[
-            GREETED,
-            TRADE,
-            DONE,
-            DONE,
-            SECOND_TOLD,
-            TRADE,
-            DONE,
-            THIRD_TOLD,
-            DONE,
-            END_TOLD,
-        ],
+        sent: &TWO_FILTERS_SENT,
         turns: &[
             GREETED_TURN,
             Turn::Subscribed { length: 0 },
@@ -45,14 +58,8 @@ fn subscription_filters_and_day_end(rt: HostRuntime) {
             Turn::Subscribed { length: 2 },
             logged(2),
             Turn::Told { from: 2, to: 3 },
-            Turn::Rolled {
-                place: 3,
-                now: TOMORROW,
-            },
-            Turn::Logged {
-                place: 4,
-                now: TOMORROW,
-            },
+            ROLLED_TURN,
+            LOGGED_TOMORROW,
             Turn::Told { from: 3, to: 5 },
         ],
     };
@@ -63,24 +70,26 @@ fn subscription_filters_and_day_end(rt: HostRuntime) {
     );
 }
 
+const THREE_CALLS_SENT: [&[u8]; 11] = [
+    GREETED,
+    TRADE,
+    DONE,
+    DONE,
+    SECOND_TOLD,
+    TRADE,
+    DONE,
+    THIRD_TOLD,
+    TRADE,
+    DONE,
+    END_TOLD,
+];
+
 // A set of symbols, symbols as one vector, and a set without symbols, which is told of the end of the date alone.
 #[test]
 fn calls_that_subscribe(rt: HostRuntime) {
     let wanted = Wanted {
         end: End::Closed,
-        sent: &[
-            GREETED,
-            TRADE,
-            DONE,
-            DONE,
-            SECOND_TOLD,
-            TRADE,
-            DONE,
-            THIRD_TOLD,
-            TRADE,
-            DONE,
-            END_TOLD,
-        ],
+        sent: &THREE_CALLS_SENT,
         turns: &[
             GREETED_TURN,
             Turn::Subscribed { length: 0 },
@@ -92,14 +101,8 @@ fn calls_that_subscribe(rt: HostRuntime) {
             logged(2),
             Turn::Told { from: 2, to: 3 },
             Turn::Subscribed { length: 3 },
-            Turn::Rolled {
-                place: 3,
-                now: TOMORROW,
-            },
-            Turn::Logged {
-                place: 4,
-                now: TOMORROW,
-            },
+            ROLLED_TURN,
+            LOGGED_TOMORROW,
             Turn::Told { from: 3, to: 5 },
         ],
     };

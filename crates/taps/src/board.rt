@@ -54,7 +54,8 @@ impl Board {
             ≡ living (λ s. s.number) (λ s. shown s.tap) self.old.seats.items ++ (record { number = id; shown = shown tap }) ∷ []) }
         ensures number { IfOk result (λ id. (id ≡ self.old.next) × (self.new.next ≡ id + 1)) }
         ensures handed_back { IfErr result (λ why. why ≡ f.NoMemory tap) }
-        ensures err { OnErr result ((living (λ s. s.number) (λ s. shown s.tap) self.new.seats.items ≡ living (λ s. s.number) (λ s. shown s.tap) self.old.seats.items)
+        ensures err { OnErr result (
+            (living (λ s. s.number) (λ s. shown s.tap) self.new.seats.items ≡ living (λ s. s.number) (λ s. shown s.tap) self.old.seats.items)
             × (self.new.next ≡ self.old.next)) }
     {
         let id = self.next;

@@ -1,4 +1,4 @@
-use Rattle.session.proofs.ReplyLemmas.{within_plain}
+use Rattle.session.proofs.PlainLemmas.{within_plain}
 use Rattle.session.proofs.answer.reply_over.Goals as goal
 
 pub respond-requires-clause-plain : goal.respond-requires-clause-plain

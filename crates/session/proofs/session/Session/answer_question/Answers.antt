@@ -1,5 +1,5 @@
 use Rattle.gateway.specs.Views.{verdict_of}
-use Rattle.session.specs.Request.{text}
+use Rattle.session_requests.specs.Request.{text}
 use Rattle.session.proofs.ServedLemmas.{does_replied, does_short_text}
 use Rattle.session.proofs.session.Session.answer_question.Goals as goal
 

@@ -1,5 +1,5 @@
 use Rattle.q_values.specs.Tree.{trees}
-use Rattle.session.specs.Request.{update, mistyped, other}
+use Rattle.session_requests.specs.Request.{update, mistyped, other}
 use Rattle.session.proofs.DeviceLemmas.{asks-none}
 use Rattle.session.proofs.PerformLemmas.{value_performs}
 use Rattle.session.proofs.ServedLemmas.{does_mistyped, does_unserved}

@@ -1,6 +1,6 @@
 use Rattle.std.proofs.Common.{refl, sym, ◌∙◌}
 use Rattle.qsql_request.specs.Views.{sub_of}
-use Rattle.session.specs.Request.{request_of}
+use Rattle.session_requests.specs.Request.{request_of}
 use Rattle.session.proofs.DeviceLemmas.{asks-none}
 use Rattle.session.proofs.PerformLemmas.{value_performs}
 use Rattle.session.proofs.ServedLemmas.{does_short}

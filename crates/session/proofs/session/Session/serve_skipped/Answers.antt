@@ -1,5 +1,5 @@
 use Rattle.std.proofs.Common.{refl, Some, None}
-use Rattle.session.specs.Request.{request_of}
+use Rattle.session_requests.specs.Request.{request_of}
 use Rattle.session.proofs.DeviceLemmas.{asks-none}
 use Rattle.session.proofs.PerformLemmas.{value_performs, serves-then, ends-anyhow}
 use Rattle.session.proofs.ServedLemmas.{does_short}

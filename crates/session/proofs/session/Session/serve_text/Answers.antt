@@ -1,5 +1,5 @@
 use Rattle.std.proofs.Common.{refl}
-use Rattle.session.specs.Request.{request_of, text}
+use Rattle.session_requests.specs.Request.{request_of, text}
 use Rattle.session.proofs.DeviceLemmas.{asks-none}
 use Rattle.session.proofs.PerformLemmas.{value_performs}
 use Rattle.session.proofs.ServedLemmas.{does_short}

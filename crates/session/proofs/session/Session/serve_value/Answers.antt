@@ -1,6 +1,6 @@
 use Rattle.std.proofs.Common.{refl}
 use Rattle.q_values.specs.Tree.{tree}
-use Rattle.session.specs.Request.{request_of}
+use Rattle.session_requests.specs.Request.{request_of}
 use Rattle.session.proofs.DeviceLemmas.{asks-none}
 use Rattle.session.proofs.PerformLemmas.{value_performs}
 use Rattle.session.proofs.ServedLemmas.{does_short}

@@ -3,7 +3,7 @@ use Rattle.day_rows.specs.declared.schema.Shape.{Shape}
 use Rattle.pubsub.specs.Filters.{is_known, table_names}
 use Rattle.session.specs.Answering.{sent_by}
 use Rattle.session.specs.Devices.{state_of}
-use Rattle.session.specs.Request.{request_of}
+use Rattle.session_requests.specs.Request.{request_of}
 use Rattle.session.proofs.DeviceLemmas.{asks-none}
 use Rattle.session.proofs.PerformLemmas.{value_performs, ends-anyhow}
 use Rattle.session.proofs.PublishLemmas.{publishes_told}

@@ -1,5 +1,0 @@
-use Rattle.session.proofs.ReplyLemmas.{mistyped_is}
-use Rattle.session.proofs.reply.mistyped.Goals as goal
-
-pub returns : goal.returns
-returns c = mistyped_is c.args.limits.now _ c.fixed.ensures

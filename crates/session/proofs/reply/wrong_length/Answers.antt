@@ -1,5 +1,0 @@
-use Rattle.session.proofs.ReplyLemmas.{length_is}
-use Rattle.session.proofs.reply.wrong_length.Goals as goal
-
-pub returns : goal.returns
-returns c = length_is c.args.limits.now _ c.fixed.ensures

@@ -1,6 +1,0 @@
-use Rattle.std.proofs.Common.{sym}
-use Rattle.session.proofs.ReplyLemmas.{response-wsfull}
-use Rattle.session.proofs.reply.wsfull.Goals as goal
-
-pub returns : goal.returns
-returns c = sym response-wsfull

@@ -1,6 +1,0 @@
-use Rattle.std.proofs.Common.{◌∙◌}
-use Rattle.session.proofs.RequestLemmas.{text_is}
-use Rattle.session.proofs.request.vector_asked.Goals as goal
-
-pub returns-in_ok-from_slice-in-Character : goal.returns-in_ok-from_slice-in-Character
-returns-in_ok-from_slice-in-Character c = text_is c.in-Bytes.kind c.in-Bytes.bytes c.column.result.now c.from_vec.result c.args.vector.now c.column.ensures c.in-Bytes.is c.in-Character.is (c.from_vec.ensures ∙ c.in_ok-from_slice-in-Character.ensures.items ∙ c.deref.ensures.value)
