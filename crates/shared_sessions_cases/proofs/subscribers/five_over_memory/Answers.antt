@@ -4,5 +4,5 @@ use Rattle.plant_shared.proofs.Crossing.{PlantLock-sync, Plant-send}
 use Rattle.shared_sessions_cases.proofs.Crossing.{MemDisk-send}
 use Rattle.shared_sessions_cases.proofs.subscribers.five_over_memory.Goals as goal
 
-pub serve_five-requires-sync-K : goal.serve_five-requires-sync-K
-serve_five-requires-sync-K g c κs within = search (PlantLock-sync, Plant-send, MemDisk-send, sendable, crosses) depth 20
+pub serve_five-heard-requires-sync-K : goal.serve_five-heard-requires-sync-K
+serve_five-heard-requires-sync-K g c κs within = search (PlantLock-sync, Plant-send, MemDisk-send, sendable, crosses) depth 20
