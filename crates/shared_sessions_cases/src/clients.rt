@@ -21,8 +21,8 @@ type MemConnection = Connection<MemLink, MemClock, NoGate, MemRecorder>;
 // A session over them that has ended.
 type Served = Finished<MemLink, MemClock, MemRecorder>;
 
-/// The clock of each session: always the same moment.
-pub(crate) fn clock(alloc: Global) -> Result<Option<MemClock>, NoMemory> {
+// The clock of each session: always the same moment.
+fn clock(alloc: Global) -> Result<Option<MemClock>, NoMemory> {
     let moments = Sequence::from_vec(Vec::from_slice(alloc, &[NOW])?);
     if moments.len() == 0 {
         return Ok(None);

@@ -1,181 +1,101 @@
-//! A session that asks again once another's update was answered.
-ghost use Rattle.std.specs.Prelude.{◌≡◌};
-ghost use Rattle.shared_sessions.specs.Sessions.{MayServe};
-
-use crate::bytes::{COUNT, GREETING, UPDATE, after_turn, link_of};
-use crate::clients::clock;
-use crate::plants::{NOW, branch, opened};
-use day_rows::Schema;
-use outside_api::{Disk, Got, Link, LinkFault};
-use outside_mem::{MemLink, MemRecorder, NoGate};
-use plant_shared::{Lock, PlantGuard, PlantPass};
-use q_values::{Limits, NoMemory, Turn};
-use session::End;
-use shared_sessions::{Connection, serve_shared};
+//! A session that asks again once another's update was answered, and one that is told of it without asking.
+use crate::bytes::{BOTH, COUNT, DONE, GREETED, GREETING, TO_ALL, TOLD, UPDATE};
+use crate::checks::Heard;
+use crate::meeting::{Client, Part, serve_three};
+use crate::plants::{NOW, opened};
+use q_values::Turn;
 use std::alloc::Global;
-use std::sync::{Arc, Barrier, Wait};
+use std::process::Abort;
+use std::sync::{Barrier, Wait};
 use std::test::Fail;
-use std::thread::{Threads, join};
+use std::thread::Threads;
 
-// A link in memory which meets another thread twice before one of its reads: until that thread may start, and until it has
-// ended.
-#[derive(Drop)]
-struct Meeting<'a, R: Wait> {
-    link: MemLink,
-    // how many reads come before the one that waits
-    before: u64,
-    rt: &'a R,
-    barrier: &'a Barrier,
-}
+// Asks, and asks again once the update was answered.
+const ASKS: &[Part] = &[
+    Part::Sends(GREETING),
+    Part::Sends(COUNT),
+    Part::Meets,
+    Part::Meets,
+    Part::Sends(COUNT),
+];
 
-impl<'a, R: Wait> Link for Meeting<'a, R> {
-    ghost shown = { λ m. m.link.shown };
+// Has an update answered once the others are ready.
+const FEEDS: &[Part] = &[
+    Part::Sends(GREETING),
+    Part::Meets,
+    Part::Sends(UPDATE),
+    Part::Meets,
+];
 
-    fn read(&mut self, buf: &mut [u8]) -> Got {
-        if self.before == 0 {
-            self.barrier.wait(self.rt);
-            self.barrier.wait(self.rt);
-        }
-        self.before = self.before.wrapping_sub(1);
-        self.link.read(buf)
-    }
+// Subscribes to everything, and sends nothing more; a read times out once the update was answered.
+const LISTENS: &[Part] = &[
+    Part::Sends(GREETING),
+    Part::Sends(TO_ALL),
+    Part::Meets,
+    Part::Meets,
+    Part::Idles(1),
+];
 
-    fn write(&mut self, bytes: &[u8]) -> Result<(), LinkFault> {
-        self.link.write(bytes)
-    }
-}
+// The answers 0 and 1.
+const NONE: &[u8] = b"\x01\x02\0\0\x11\0\0\0\xf9\0\0\0\0\0\0\0\0";
 
-// Whether these turns, and no others, were noted, and each has its response.
-fn goes(turns: &[Turn], sent: &[u8], wanted: &[Turn]) -> bool {
+const ONE: &[u8] = b"\x01\x02\0\0\x11\0\0\0\xf9\x01\0\0\0\0\0\0\0";
+
+const GREETED_TURN: Turn = Turn::Greeted { capability: 3 };
+
+// Whether a client was sent these bytes, part by part, and nothing else.
+fn is_sent(sent: &[u8], parts: &[&[u8]]) -> bool {
     let mut left = sent;
-    for turn in turns {
-        match after_turn(left, *turn) {
+    for part in parts {
+        match left.strip_prefix(*part) {
             Some(rest) => left = rest,
             None => return false,
         }
     }
-    turns == wanted && left.is_empty()
+    left.is_empty()
 }
 
-const GREETED: Turn = Turn::Greeted { capability: 3 };
-
-// Asks, meets the other thread, and asks again.
-fn asks<D: Disk, R: Wait>(
+// All three over a disk in memory.
+fn three_over_memory<R: Threads + Abort + Wait + Sync>(
     rt: &R,
     alloc: Global,
-    lock: &Lock<D>,
-    pass: PlantPass<D>,
-    schema: &Arc<Schema>,
-    limits: &Limits,
-    barrier: &Barrier,
-) -> Result<bool, NoMemory>
-    requires { MayServe lock.now pass schema.now.value limits.now }
-{
-    let link = Meeting {
-        link: link_of(alloc, &[GREETING, COUNT, COUNT])?,
-        before: 2,
-        rt,
-        barrier,
-    };
-    let Some(clock) = clock(alloc)? else {
-        return Ok(false);
-    };
-    let connection = Connection {
-        link,
-        clock,
-        gate: NoGate,
-        recorder: MemRecorder::with_room(alloc, 3)?,
-    };
-    let asked = serve_shared(rt, alloc, lock, pass, schema.clone()?, connection, limits);
-    let wanted = [
-        GREETED,
+) -> (Heard, (Heard, Heard)) {
+    let opened = opened(rt, alloc).expect(rt, "memory");
+    let (lock, pass, schema, limits) = opened.expect(rt, "a pass");
+    let barrier = Barrier::new(3);
+    let clients = [
+        Client::new(ASKS, &barrier),
+        Client::new(FEEDS, &barrier),
+        Client::new(LISTENS, &barrier),
+    ];
+    serve_three(rt, alloc, &lock, pass, &schema, &limits, clients)
+}
+
+// One session finds no update, another's is answered, and the first one then finds it. A third one is subscribed to
+// everything; it is told of the update when its next read times out.
+#[test]
+fn told_before_asked(rt: HostRuntime) -> Result<(), Fail> {
+    let (asked, (fed, listened)) = three_over_memory(&rt, rt.alloc());
+    let answers = [
+        GREETED_TURN,
         Turn::Answered { length: 0 },
         Turn::Answered { length: 1 },
     ];
-    let told = goes(asked.recorder.turns(), asked.link.link.taken(), &wanted);
-    Ok(told && asked.end == End::Closed)
-}
-
-// Meets the other thread, has an update answered, and meets it again.
-fn feeds<D: Disk, R: Wait>(
-    rt: &R,
-    alloc: Global,
-    lock: &Lock<D>,
-    pass: PlantPass<D>,
-    schema: &Arc<Schema>,
-    limits: &Limits,
-    barrier: &Barrier,
-) -> Result<bool, NoMemory>
-    requires { MayServe lock.now pass schema.now.value limits.now }
-{
-    barrier.wait(rt);
-    let fed = feeds_once(rt, alloc, lock, pass, schema, limits);
-    barrier.wait(rt);
-    fed
-}
-
-// Whether a session's update is answered as logged.
-fn feeds_once<D: Disk, R: Wait>(
-    rt: &R,
-    alloc: Global,
-    lock: &Lock<D>,
-    pass: PlantPass<D>,
-    schema: &Arc<Schema>,
-    limits: &Limits,
-) -> Result<bool, NoMemory>
-    requires { MayServe lock.now pass schema.now.value limits.now }
-{
-    let Some(clock) = clock(alloc)? else {
-        return Ok(false);
-    };
-    let connection = Connection {
-        link: link_of(alloc, &[GREETING, UPDATE])?,
-        clock,
-        gate: NoGate,
-        recorder: MemRecorder::with_room(alloc, 2)?,
-    };
-    let fed = serve_shared(rt, alloc, lock, pass, schema.clone()?, connection, limits);
-    let wanted = [GREETED, Turn::Logged { place: 0, now: NOW }];
-    Ok(goes(fed.recorder.turns(), fed.link.taken(), &wanted) && fed.end == End::Closed)
-}
-
-// Both sessions, each on a thread of its own.
-fn both<K: PlantGuard + Sync, R: Threads + Wait + Sync>(
-    rt: &R,
-    alloc: Global,
-    lock: &K,
-    pass: PlantPass<K::Disk>,
-    schema: &Arc<Schema>,
-    limits: &Limits,
-) -> Result<bool, NoMemory>
-    requires { MayServe (K.lock_of lock.now) pass schema.now.value limits.now }
-{
-    let (one, other) = branch(rt, lock.plant_lock(), pass, schema, limits);
-    let barrier = Barrier::new(2);
-    let meeting = &barrier;
-    let (asked, fed) = join(
-        rt,
-        move || -> Result<bool, NoMemory>
-            requires { MayServe (K.lock_of lock.now) one schema.now.value limits.now }
-        { asks(rt, alloc, lock.plant_lock(), one, schema, limits, meeting) },
-        move || -> Result<bool, NoMemory>
-            requires { MayServe (K.lock_of lock.now) other schema.now.value limits.now }
-        { feeds(rt, alloc, lock.plant_lock(), other, schema, limits, meeting) },
-    );
-    Ok(asked? && fed?)
-}
-
-// Both over a disk in memory.
-fn both_over_memory<R: Threads + Wait + Sync>(rt: &R, alloc: Global) -> Result<bool, NoMemory> {
-    let Some((lock, pass, schema, limits)) = opened(rt, alloc)? else {
-        return Ok(false);
-    };
-    both(rt, alloc, &lock, pass, &schema, &limits)
-}
-
-// One session finds no update, another's is answered, and the first one then finds it.
-#[test]
-fn told_before_asked(rt: HostRuntime) -> Result<(), Fail> {
-    assert!(rt; both_over_memory(&rt, rt.alloc())?);
+    assert_eq!(rt; asked.turns.as_slice(), answers.as_slice());
+    assert!(rt; is_sent(asked.sent.as_slice(), &[GREETED, NONE, ONE]));
+    let logged = [GREETED_TURN, Turn::Logged { place: 0, now: NOW }];
+    assert_eq!(rt; fed.turns.as_slice(), logged.as_slice());
+    assert!(rt; is_sent(fed.sent.as_slice(), &[GREETED, DONE]));
+    let told = [
+        GREETED_TURN,
+        Turn::Subscribed { length: 0 },
+        Turn::Quiet {
+            length: 1,
+            now: NOW,
+        },
+        Turn::Told { from: 0, to: 1 },
+    ];
+    assert_eq!(rt; listened.turns.as_slice(), told.as_slice());
+    assert!(rt; is_sent(listened.sent.as_slice(), &[GREETED, BOTH, TOLD]));
     Ok(())
 }
