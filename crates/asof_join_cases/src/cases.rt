@@ -3,10 +3,10 @@
 use crate::shown::{Tables, assert_answers};
 use crate::tables::{Quotes, Trades, quote_rows, trade_rows};
 use std::alloc::Global;
-use std::test::Fail;
+use std::process::Abort;
 
 // Three trades and three quotes of one symbol, as they arrive.
-fn three_of_one(alloc: Global) -> Result<Tables, Fail> {
+fn three_of_one(rt: &impl Abort, alloc: Global) -> Tables {
     let trades = Trades {
         dates: &[8768, 8768, 8768],
         times: &[34_200, 34_260, 34_140],
@@ -22,13 +22,13 @@ fn three_of_one(alloc: Global) -> Result<Tables, Fail> {
         asks: &[6, 4, 5],
         sizes: &[1, 1, 1],
     };
-    let trade = trade_rows(alloc, &trades)?;
-    let quote = quote_rows(alloc, &quotes)?;
-    Ok(Tables { trade, quote })
+    let trade = trade_rows(rt, alloc, &trades);
+    let quote = quote_rows(rt, alloc, &quotes);
+    Tables { trade, quote }
 }
 
 // Six trades and eight quotes on two dates. No quote has the symbol `c`.
-fn two_dates(alloc: Global) -> Result<Tables, Fail> {
+fn two_dates(rt: &impl Abort, alloc: Global) -> Tables {
     let trades = Trades {
         dates: &[8767, 8767, 8767, 8768, 8768, 8768],
         times: &[10, 12, 15, 11, 14, 9],
@@ -44,19 +44,19 @@ fn two_dates(alloc: Global) -> Result<Tables, Fail> {
         asks: &[11, 12, 13, 14, 15, 16, 17, 18],
         sizes: &[7, 7, 7, 7, 7, 7, 7, 7],
     };
-    let trade = trade_rows(alloc, &trades)?;
-    let quote = quote_rows(alloc, &quotes)?;
-    Ok(Tables { trade, quote })
+    let trade = trade_rows(rt, alloc, &trades);
+    let quote = quote_rows(rt, alloc, &quotes);
+    Tables { trade, quote }
 }
 
 #[test]
-fn asof_join_ties(rt: HostRuntime) -> Result<(), Fail> {
+fn asof_join_ties(rt: HostRuntime) {
     let alloc = rt.alloc();
     let cases: [(&[u8], &[u8]); 1] = [(
         b"aj[`sym`time;select time,sym,price from trade;select time,sym,bid from quote]",
         b"time=n[34200 34260 34140] sym=s[a a a] price=j[10 20 30] bid=j[4 5 -9223372036854775808]",
     )];
-    assert_answers(&rt, alloc, &three_of_one(alloc)?, &cases)
+    assert_answers(&rt, alloc, &three_of_one(&rt, alloc), &cases)
 }
 
 const JOINS: [(&[u8], &[u8]); 20] = [
@@ -145,9 +145,9 @@ const JOINS: [(&[u8], &[u8]); 20] = [
 ];
 
 #[test]
-fn joins(rt: HostRuntime) -> Result<(), Fail> {
+fn joins(rt: HostRuntime) {
     let alloc = rt.alloc();
-    assert_answers(&rt, alloc, &two_dates(alloc)?, &JOINS)
+    assert_answers(&rt, alloc, &two_dates(&rt, alloc), &JOINS)
 }
 
 const REFUSALS: [(&[u8], &[u8]); 14] = [
@@ -195,7 +195,7 @@ const REFUSALS: [(&[u8], &[u8]); 14] = [
 ];
 
 #[test]
-fn refusals(rt: HostRuntime) -> Result<(), Fail> {
+fn refusals(rt: HostRuntime) {
     let alloc = rt.alloc();
-    assert_answers(&rt, alloc, &two_dates(alloc)?, &REFUSALS)
+    assert_answers(&rt, alloc, &two_dates(&rt, alloc), &REFUSALS)
 }

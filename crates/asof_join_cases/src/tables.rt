@@ -3,42 +3,44 @@
 use q_values::{Column, Columns, IntegerKind, LongKind, Names, Sym, Symbols, Vector};
 use qsql_eval::Rows;
 use std::alloc::Global;
-use std::test::Fail;
+use std::process::Abort;
 
-fn longs(alloc: Global, kind: LongKind, numbers: &[i64]) -> Result<Vector, Fail> {
-    let items = Vec::from_slice(alloc, numbers)?;
-    Ok(Vector::from_column(Column::Longs(kind, items)))
+fn longs(rt: &impl Abort, alloc: Global, kind: LongKind, numbers: &[i64]) -> Vector {
+    let items = Vec::from_slice(alloc, numbers).expect(rt, "memory");
+    Vector::from_column(Column::Longs(kind, items))
 }
 
-fn dates(alloc: Global, numbers: &[i32]) -> Result<Vector, Fail> {
-    let items = Vec::from_slice(alloc, numbers)?;
-    Ok(Vector::from_column(Column::Integers(IntegerKind::Date, items)))
+fn dates(rt: &impl Abort, alloc: Global, numbers: &[i32]) -> Vector {
+    let items = Vec::from_slice(alloc, numbers).expect(rt, "memory");
+    Vector::from_column(Column::Integers(IntegerKind::Date, items))
 }
 
 // A symbol for each letter; a blank is the null.
-fn symbols(alloc: Global, letters: &[u8]) -> Result<Vector, Fail> {
+fn symbols(rt: &impl Abort, alloc: Global, letters: &[u8]) -> Vector {
     let mut items = Symbols::new(alloc);
     for letter in letters {
         let bytes = [*letter];
         let text: &[u8] = if *letter == b' ' { b"" } else { &bytes };
-        let name = Sym::of(alloc, text)?;
-        items.push(name.bytes())?;
+        let name = Sym::of(alloc, text).expect(rt, "memory");
+        items.push(name.bytes()).expect(rt, "memory");
     }
-    Ok(Vector::from_column(Column::Symbols(items)))
+    Vector::from_column(Column::Symbols(items))
 }
 
-fn names(alloc: Global, texts: &[&[u8]]) -> Result<Names, Fail> {
+fn names(rt: &impl Abort, alloc: Global, texts: &[&[u8]]) -> Names {
     let mut names = Names::new(alloc);
     for text in texts {
-        names.push(Sym::of(alloc, text)?)?;
+        names
+            .push(Sym::of(alloc, text).expect(rt, "memory"))
+            .expect(rt, "memory");
     }
-    Ok(names)
+    names
 }
 
-fn rows(names: Names, columns: Columns) -> Result<Rows, Fail> {
+fn rows(rt: &impl Abort, names: Names, columns: Columns) -> Rows {
     match Rows::new(names, columns) {
-        Some(rows) => Ok(rows),
-        None => Err(Fail::from("columns of different lengths")),
+        Some(rows) => rows,
+        None => panic!(rt; "columns of different lengths"),
     }
 }
 
@@ -53,15 +55,25 @@ pub(crate) struct Trades<'a> {
 }
 
 /// The rows of these trades.
-pub(crate) fn trade_rows(alloc: Global, trades: &Trades) -> Result<Rows, Fail> {
+pub(crate) fn trade_rows(rt: &impl Abort, alloc: Global, trades: &Trades) -> Rows {
     let mut columns = Columns::new(alloc);
-    columns.push(dates(alloc, trades.dates)?)?;
-    columns.push(longs(alloc, LongKind::Timespan, trades.times)?)?;
-    columns.push(symbols(alloc, trades.syms)?)?;
-    columns.push(longs(alloc, LongKind::Long, trades.prices)?)?;
-    columns.push(longs(alloc, LongKind::Long, trades.sizes)?)?;
+    columns
+        .push(dates(rt, alloc, trades.dates))
+        .expect(rt, "memory");
+    columns
+        .push(longs(rt, alloc, LongKind::Timespan, trades.times))
+        .expect(rt, "memory");
+    columns
+        .push(symbols(rt, alloc, trades.syms))
+        .expect(rt, "memory");
+    columns
+        .push(longs(rt, alloc, LongKind::Long, trades.prices))
+        .expect(rt, "memory");
+    columns
+        .push(longs(rt, alloc, LongKind::Long, trades.sizes))
+        .expect(rt, "memory");
     let texts: [&[u8]; 5] = [b"date", b"time", b"sym", b"price", b"size"];
-    rows(names(alloc, &texts)?, columns)
+    rows(rt, names(rt, alloc, &texts), columns)
 }
 
 /// Rows of `quote`.
@@ -76,15 +88,29 @@ pub(crate) struct Quotes<'a> {
 }
 
 /// The rows of these quotes.
-pub(crate) fn quote_rows(alloc: Global, quotes: &Quotes) -> Result<Rows, Fail> {
+pub(crate) fn quote_rows(rt: &impl Abort, alloc: Global, quotes: &Quotes) -> Rows {
     let mut columns = Columns::new(alloc);
-    columns.push(dates(alloc, quotes.dates)?)?;
-    columns.push(longs(alloc, LongKind::Timespan, quotes.times)?)?;
-    columns.push(symbols(alloc, quotes.syms)?)?;
-    columns.push(longs(alloc, LongKind::Long, quotes.bids)?)?;
-    columns.push(longs(alloc, LongKind::Long, quotes.asks)?)?;
-    columns.push(longs(alloc, LongKind::Long, quotes.sizes)?)?;
-    columns.push(longs(alloc, LongKind::Long, quotes.sizes)?)?;
+    columns
+        .push(dates(rt, alloc, quotes.dates))
+        .expect(rt, "memory");
+    columns
+        .push(longs(rt, alloc, LongKind::Timespan, quotes.times))
+        .expect(rt, "memory");
+    columns
+        .push(symbols(rt, alloc, quotes.syms))
+        .expect(rt, "memory");
+    columns
+        .push(longs(rt, alloc, LongKind::Long, quotes.bids))
+        .expect(rt, "memory");
+    columns
+        .push(longs(rt, alloc, LongKind::Long, quotes.asks))
+        .expect(rt, "memory");
+    columns
+        .push(longs(rt, alloc, LongKind::Long, quotes.sizes))
+        .expect(rt, "memory");
+    columns
+        .push(longs(rt, alloc, LongKind::Long, quotes.sizes))
+        .expect(rt, "memory");
     let texts: [&[u8]; 7] = [b"date", b"time", b"sym", b"bid", b"ask", b"bsize", b"asize"];
-    rows(names(alloc, &texts)?, columns)
+    rows(rt, names(rt, alloc, &texts), columns)
 }

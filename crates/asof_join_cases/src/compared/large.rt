@@ -1,15 +1,14 @@
 //! Joins of 100,000 rows on 100,000, whose answers are known by how the rows are made.
 
-use crate::generated::Sides;
-use crate::joined::{joined, parsed};
-use crate::row::{NULL, Row};
-use crate::tables::make_tables;
+use crate::compared::generated::Sides;
+use crate::compared::joining::{joined, parsed};
+use crate::compared::row::{NULL, Row};
+use crate::compared::tables::make_tables;
 use q_values::{Column, TableValue};
 use qsql_request::Request;
 use schema_text::built_in_schema;
-use std::alloc::{AllocError, Global};
+use std::alloc::Global;
 use std::process::Abort;
-use std::test::Fail;
 
 // How many rows each side has.
 const COUNT: u32 = 100_000;
@@ -31,47 +30,53 @@ fn row(time: u32, sym: i64, number: u32) -> Row {
 }
 
 // Eight quotes at each time, two of each symbol, numbered in order; a trade of each symbol twice at each time.
-fn tied_sides(alloc: Global) -> Result<Sides, AllocError> {
+fn tied_sides(rt: &impl Abort, alloc: Global) -> Sides {
     let mut left = Vec::new(alloc);
     let mut right = Vec::new(alloc);
     for i in 0..COUNT {
-        left.push(row(i / 8, letter(i), 0))?;
-        right.push(row(i / 8, letter(i), i))?;
+        left.push(row(i / 8, letter(i), 0)).expect(rt, "memory");
+        right.push(row(i / 8, letter(i), i)).expect(rt, "memory");
     }
-    Ok(Sides { left, right })
+    Sides { left, right }
 }
 
 // The second quote of the symbol at each trade's time.
-fn tied_answers(alloc: Global) -> Result<Vec<i64>, AllocError> {
+fn tied_answers(rt: &impl Abort, alloc: Global) -> Vec<i64> {
     let mut wanted = Vec::new(alloc);
     for i in 0..COUNT {
-        wanted.push(i64::from(i / 8 * 8 + 4 + i % 4))?;
+        wanted
+            .push(i64::from(i / 8 * 8 + 4 + i % 4))
+            .expect(rt, "memory");
     }
-    Ok(wanted)
+    wanted
 }
 
 // A quote at each time, in no order, whose bid is its time. A trade has the symbol of the quote three times before.
-fn mixed_sides(alloc: Global) -> Result<Sides, AllocError> {
+fn mixed_sides(rt: &impl Abort, alloc: Global) -> Sides {
     let mut left = Vec::new(alloc);
     let mut right = Vec::new(alloc);
     for i in 0..COUNT {
         let time = (u64::from(i) * 7919 % u64::from(COUNT)) as u32;
-        left.push(row(i, letter(i + 1), 0))?;
-        right.push(row(time, letter(time), time))?;
+        left.push(row(i, letter(i + 1), 0)).expect(rt, "memory");
+        right
+            .push(row(time, letter(time), time))
+            .expect(rt, "memory");
     }
-    Ok(Sides { left, right })
+    Sides { left, right }
 }
 
 // The bid three times before each trade, where there is one.
-fn mixed_answers(alloc: Global) -> Result<Vec<i64>, AllocError> {
+fn mixed_answers(rt: &impl Abort, alloc: Global) -> Vec<i64> {
     let mut wanted = Vec::new(alloc);
     for i in 0..COUNT {
-        wanted.push(match i.checked_sub(3) {
-            Some(time) => i64::from(time),
-            None => NULL,
-        })?;
+        wanted
+            .push(match i.checked_sub(3) {
+                Some(time) => i64::from(time),
+                None => NULL,
+            })
+            .expect(rt, "memory");
     }
-    Ok(wanted)
+    wanted
 }
 
 fn has_bids(table: &TableValue, wanted: &[i64]) -> bool {
@@ -85,26 +90,35 @@ fn has_bids(table: &TableValue, wanted: &[i64]) -> bool {
 }
 
 // Stops where the join by symbol and time has other bids.
-fn assert_bids(rt: &impl Abort, alloc: Global, sides: &Sides, wanted: &[i64]) -> Result<(), Fail> {
-    let schema = built_in_schema(alloc)?;
-    let tables = make_tables(alloc, sides)?;
-    let request = parsed(alloc, BY_SYM)?;
+fn assert_bids(rt: &impl Abort, alloc: Global, sides: &Sides, wanted: &[i64]) {
+    let schema = built_in_schema(alloc).expect(rt, "memory");
+    let tables = make_tables(rt, alloc, sides);
+    let request = parsed(rt, alloc, BY_SYM);
     let Request::Aj(query) = &request else {
-        return Err(Fail::from("no join"));
+        panic!(rt; "no join");
     };
-    let found = joined(alloc, query, &schema, &tables)?;
+    let found = joined(rt, alloc, query, &schema, &tables);
     assert!(rt; has_bids(&found, wanted), "other bids");
-    Ok(())
 }
 
 #[test]
-fn equal_times(rt: HostRuntime) -> Result<(), Fail> {
+fn equal_times(rt: HostRuntime) {
     let alloc = rt.alloc();
-    assert_bids(&rt, alloc, &tied_sides(alloc)?, &tied_answers(alloc)?)
+    assert_bids(
+        &rt,
+        alloc,
+        &tied_sides(&rt, alloc),
+        &tied_answers(&rt, alloc),
+    )
 }
 
 #[test]
-fn quotes_in_no_order(rt: HostRuntime) -> Result<(), Fail> {
+fn quotes_in_no_order(rt: HostRuntime) {
     let alloc = rt.alloc();
-    assert_bids(&rt, alloc, &mixed_sides(alloc)?, &mixed_answers(alloc)?)
+    assert_bids(
+        &rt,
+        alloc,
+        &mixed_sides(&rt, alloc),
+        &mixed_answers(&rt, alloc),
+    )
 }

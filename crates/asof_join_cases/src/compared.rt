@@ -1,18 +1,24 @@
 //! Generated pairs of tables, joined by both.
 
-use crate::generated::{Sides, make_sides};
-use crate::joined::{joined, parsed};
-use crate::row::{Field, NULL};
-use crate::slow::{items_as_of, items_of};
-use crate::tables::make_tables;
+mod generated;
+mod joining;
+mod large;
+mod row;
+mod slow;
+mod tables;
+
+use crate::compared::generated::{Sides, make_sides};
+use crate::compared::joining::{joined, parsed};
+use crate::compared::row::{Field, NULL};
+use crate::compared::slow::{items_as_of, items_of};
+use crate::compared::tables::make_tables;
 use day_rows::Schema;
 use q_shown::{letter, push_value};
 use q_values::{Kind, Value};
 use qsql_request::{AjQuery, Request};
 use schema_text::built_in_schema;
-use std::alloc::{AllocError, Global};
+use std::alloc::Global;
 use std::process::Abort;
-use std::test::Fail;
 
 // How many pairs of tables each text is asked of.
 const PAIRS: u64 = 1000;
@@ -122,97 +128,99 @@ fn kind_of(field: Field) -> Kind {
     }
 }
 
-fn push_decimal(alloc: Global, out: &mut Vec<u8>, number: i64) -> Result<(), AllocError> {
-    let text = format!(in alloc; "{number}")?;
-    out.extend_from_slice(text.as_bytes())
+fn push_decimal(rt: &impl Abort, alloc: Global, out: &mut Vec<u8>, number: i64) {
+    let text = format!(in alloc; "{number}").expect(rt, "memory");
+    out.extend_from_slice(text.as_bytes()).expect(rt, "memory");
 }
 
-fn push_item(
-    alloc: Global,
-    out: &mut Vec<u8>,
-    field: Field,
-    number: i64,
-) -> Result<(), AllocError> {
+fn push_item(rt: &impl Abort, alloc: Global, out: &mut Vec<u8>, field: Field, number: i64) {
     match field {
         Field::Letter => match u8::try_from(number) {
-            Ok(letter) => Ok(out.push(letter)?),
-            Err(_) => Ok(()),
+            Ok(letter) => out.push(letter).expect(rt, "memory"),
+            Err(_) => {},
         },
-        Field::Day if number == NULL => push_decimal(alloc, out, i64::from(i32::MIN)),
-        _ => push_decimal(alloc, out, number),
+        Field::Day if number == NULL => push_decimal(rt, alloc, out, i64::from(i32::MIN)),
+        _ => push_decimal(rt, alloc, out, number),
     }
 }
 
 // Puts a column at the end of a text: its name, the letter of its kind, and its items.
 fn push_column(
+    rt: &impl Abort,
     alloc: Global,
     out: &mut Vec<u8>,
     name: &[u8],
     field: Field,
     items: &[i64],
-) -> Result<(), AllocError> {
+) {
     if !out.is_empty() {
-        out.extend_from_slice(b" ")?;
+        out.extend_from_slice(b" ").expect(rt, "memory");
     }
-    out.extend_from_slice(name)?;
-    out.extend_from_slice(b"=")?;
-    out.extend_from_slice(letter(kind_of(field)))?;
+    out.extend_from_slice(name).expect(rt, "memory");
+    out.extend_from_slice(b"=").expect(rt, "memory");
+    out.extend_from_slice(letter(kind_of(field)))
+        .expect(rt, "memory");
     let mut mark: &[u8] = b"[";
     for number in items {
-        out.extend_from_slice(mark)?;
-        push_item(alloc, out, field, *number)?;
+        out.extend_from_slice(mark).expect(rt, "memory");
+        push_item(rt, alloc, out, field, *number);
         mark = b" ";
     }
-    out.extend_from_slice(if items.is_empty() { b"[]" } else { b"]" })
+    let end: &[u8] = if items.is_empty() { b"[]" } else { b"]" };
+    out.extend_from_slice(end).expect(rt, "memory");
 }
 
 // What the slow program gives.
-fn slow_answer(alloc: Global, case: &Case, sides: &Sides) -> Result<Vec<u8>, AllocError> {
+fn slow_answer(rt: &impl Abort, alloc: Global, case: &Case, sides: &Sides) -> Vec<u8> {
     let mut out = Vec::new(alloc);
     for (name, field) in case.left {
-        let items = items_of(alloc, &sides.left, *field)?;
-        push_column(alloc, &mut out, name, *field, &items)?;
+        let items = items_of(rt, alloc, &sides.left, *field);
+        push_column(rt, alloc, &mut out, name, *field, &items);
     }
     for (name, field) in case.right {
-        let items = items_as_of(alloc, &sides.left, &sides.right, case.keys, *field)?;
-        push_column(alloc, &mut out, name, *field, &items)?;
+        let items = items_as_of(rt, alloc, &sides.left, &sides.right, case.keys, *field);
+        push_column(rt, alloc, &mut out, name, *field, &items);
     }
-    Ok(out)
+    out
 }
 
 // What `asof_join` gives.
-fn answer(alloc: Global, query: &AjQuery, schema: &Schema, sides: &Sides) -> Result<Vec<u8>, Fail> {
-    let tables = make_tables(alloc, sides)?;
-    let joined = joined(alloc, query, schema, &tables)?;
+fn answer(
+    rt: &impl Abort,
+    alloc: Global,
+    query: &AjQuery,
+    schema: &Schema,
+    sides: &Sides,
+) -> Vec<u8> {
+    let tables = make_tables(rt, alloc, sides);
+    let joined = joined(rt, alloc, query, schema, &tables);
     let mut out = Vec::new(alloc);
-    push_value(alloc, &mut out, &Value::Table(joined))?;
-    Ok(out)
+    push_value(alloc, &mut out, &Value::Table(joined)).expect(rt, "memory");
+    out
 }
 
 // Stops at the first pair of tables of which both give different answers.
-fn assert_case(rt: &impl Abort, alloc: Global, schema: &Schema, case: &Case) -> Result<(), Fail> {
-    let request = parsed(alloc, case.text)?;
+fn assert_case(rt: &impl Abort, alloc: Global, schema: &Schema, case: &Case) {
+    let request = parsed(rt, alloc, case.text);
     let Request::Aj(query) = &request else {
-        return Err(Fail::from("no join"));
+        panic!(rt; "no join");
     };
     for seed in 0..PAIRS {
-        let sides = make_sides(alloc, seed)?;
-        let found = answer(alloc, query, schema, &sides)?;
-        let wanted = slow_answer(alloc, case, &sides)?;
+        let sides = make_sides(rt, alloc, seed);
+        let found = answer(rt, alloc, query, schema, &sides);
+        let wanted = slow_answer(rt, alloc, case, &sides);
         assert!(rt;
             found == wanted,
             "the tables of seed {seed} have two answers"
         );
     }
-    Ok(())
 }
 
 #[test]
-fn a_thousand_pairs(rt: HostRuntime) -> Result<(), Fail> {
+fn a_thousand_pairs(rt: HostRuntime) {
     let alloc = rt.alloc();
-    let schema = built_in_schema(alloc)?;
+    let schema = built_in_schema(alloc).expect(&rt, "memory");
     for case in &CASES {
-        assert_case(&rt, alloc, &schema, case)?;
+        assert_case(&rt, alloc, &schema, case);
     }
-    Ok(())
 }

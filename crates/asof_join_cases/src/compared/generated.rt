@@ -1,7 +1,8 @@
 //! Pairs of sides, generated from a seed.
 
-use crate::row::{NULL, Row};
+use crate::compared::row::{NULL, Row};
 use std::alloc::{AllocError, Global};
+use std::process::Abort;
 
 // The letters of the left side's symbols. The right side has no `c`.
 const LEFT_SYMBOLS: [i64; 6] = [97, 97, 98, 98, 99, NULL];
@@ -77,11 +78,11 @@ pub(crate) struct Sides {
 }
 
 /// The sides that are made from this seed.
-pub(crate) fn make_sides(alloc: Global, seed: u64) -> Result<Sides, AllocError> {
+pub(crate) fn make_sides(rt: &impl Abort, alloc: Global, seed: u64) -> Sides {
     let mut numbers = Numbers {
         state: seed.wrapping_mul(0x9e37_79b9_7f4a_7c15) | 1,
     };
-    let left = numbers.side(alloc, &LEFT_SYMBOLS)?;
-    let right = numbers.side(alloc, &RIGHT_SYMBOLS)?;
-    Ok(Sides { left, right })
+    let left = numbers.side(alloc, &LEFT_SYMBOLS).expect(rt, "memory");
+    let right = numbers.side(alloc, &RIGHT_SYMBOLS).expect(rt, "memory");
+    Sides { left, right }
 }

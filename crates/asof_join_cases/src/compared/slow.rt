@@ -1,7 +1,8 @@
 //! The as-of join as a plain slow program.
 
-use crate::row::{Field, NULL, Row, item};
-use std::alloc::{AllocError, Global};
+use crate::compared::row::{Field, NULL, Row, item};
+use std::alloc::Global;
+use std::process::Abort;
 
 // Whether two rows are equal in these fields.
 fn is_equal(row: &Row, other: &Row, fields: &[Field]) -> bool {
@@ -39,27 +40,28 @@ pub(crate) fn row_as_of<'a>(row: &Row, right: &'a [Row], keys: &[Field]) -> Opti
 
 /// The items of a field of the right side at the rows that hold at those of the left one, and nulls where there is none.
 pub(crate) fn items_as_of(
+    rt: &impl Abort,
     alloc: Global,
     left: &[Row],
     right: &[Row],
     keys: &[Field],
     field: Field,
-) -> Result<Vec<i64>, AllocError> {
+) -> Vec<i64> {
     let mut items = Vec::new(alloc);
     for row in left {
         match row_as_of(row, right, keys) {
-            Some(other) => items.push(item(other, field))?,
-            None => items.push(NULL)?,
+            Some(other) => items.push(item(other, field)).expect(rt, "memory"),
+            None => items.push(NULL).expect(rt, "memory"),
         }
     }
-    Ok(items)
+    items
 }
 
 /// The items of a field of these rows.
-pub(crate) fn items_of(alloc: Global, rows: &[Row], field: Field) -> Result<Vec<i64>, AllocError> {
+pub(crate) fn items_of(rt: &impl Abort, alloc: Global, rows: &[Row], field: Field) -> Vec<i64> {
     let mut items = Vec::new(alloc);
     for row in rows {
-        items.push(item(row, field))?;
+        items.push(item(row, field)).expect(rt, "memory");
     }
-    Ok(items)
+    items
 }
