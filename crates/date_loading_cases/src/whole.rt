@@ -1,6 +1,5 @@
 //! Plants whose files are sound.
 use crate::plant::{FIRST, Found, SECOND, add, load, one_date, two_dates};
-use date_loading::LoadRefusal;
 use date_logs::format;
 use outside_mem::{Leaving, MemDisk};
 use schema_text::built_in_schema;
@@ -31,65 +30,54 @@ const LAST: Found = Found {
 };
 
 // Whether both dates are loaded from what a crash leaves, as they were written.
-fn are_loaded(
-    rt: &impl Abort,
-    alloc: Global,
-    updates: u32,
-    rows: u32,
-) -> Result<bool, LoadRefusal> {
-    let schema = built_in_schema(alloc)?;
-    let Some(disk) = two_dates(rt, alloc, &schema, updates as usize, rows as usize) else {
-        return Ok(false);
-    };
-    let mut left = disk.restart(alloc, Leaving::Shortest)?;
-    let (founds, logs) = load(alloc, &mut left, &schema, SECOND)?;
+fn are_loaded(rt: &impl Abort, alloc: Global, updates: u32, rows: u32) -> bool {
+    let schema = built_in_schema(alloc).expect(rt, "memory");
+    let disk = two_dates(rt, alloc, &schema, updates as usize, rows as usize).expect(rt, "a disk");
+    let mut left = disk.restart(alloc, Leaving::Shortest).expect(rt, "memory");
+    let (founds, logs) = load(alloc, &mut left, &schema, SECOND).expect(rt, "a load");
     let dates = [first(updates, rows), LAST];
-    Ok(logs.is_some() && founds.as_slice() == dates.as_slice())
+    logs.is_some() && founds.as_slice() == dates.as_slice()
 }
 
 #[test]
 fn two_dates_are_loaded(rt: HostRuntime) {
     let alloc = rt.alloc();
-    assert!(rt; matches!(are_loaded(&rt, alloc, 0, 1), Ok(true)));
-    assert!(rt; matches!(are_loaded(&rt, alloc, 3, 2), Ok(true)));
+    assert!(rt; are_loaded(&rt, alloc, 0, 1));
+    assert!(rt; are_loaded(&rt, alloc, 3, 2));
 }
 
 #[test]
 fn a_thousand_updates_of_a_hundred_rows(rt: HostRuntime) {
-    assert!(rt; matches!(are_loaded(&rt, rt.alloc(), 1_000, 100), Ok(true)));
+    assert!(rt; are_loaded(&rt, rt.alloc(), 1_000, 100));
 }
 
 // Whether a plant that was made and has opened no date is loaded.
-fn is_undated(alloc: Global) -> Result<bool, LoadRefusal> {
-    let schema = built_in_schema(alloc)?;
+fn is_undated(rt: &impl Abort, alloc: Global) -> bool {
+    let schema = built_in_schema(alloc).expect(rt, "memory");
     let mut disk = MemDisk::new(alloc);
-    if format(alloc, &mut disk, &schema).is_err() {
-        return Ok(false);
-    }
-    let (founds, logs) = load(alloc, &mut disk, &schema, FIRST)?;
-    Ok(founds.is_empty() && logs.is_none())
+    format(alloc, &mut disk, &schema).expect(rt, "a manifest");
+    let (founds, logs) = load(alloc, &mut disk, &schema, FIRST).expect(rt, "a load");
+    founds.is_empty() && logs.is_none()
 }
 
 #[test]
 fn no_date_is_loaded(rt: HostRuntime) {
-    assert!(rt; matches!(is_undated(rt.alloc()), Ok(true)));
+    assert!(rt; is_undated(&rt, rt.alloc()));
 }
 
 // Whether an update that is added after a load is loaded next time.
-fn goes_on(rt: &impl Abort, alloc: Global) -> Result<bool, LoadRefusal> {
-    let schema = built_in_schema(alloc)?;
-    let Some((mut disk, _logs)) = one_date(rt, alloc, &schema, 2, 1) else {
-        return Ok(false);
-    };
-    let (_founds, Some(mut logs)) = load(alloc, &mut disk, &schema, FIRST)? else {
-        return Ok(false);
+fn goes_on(rt: &impl Abort, alloc: Global) -> bool {
+    let schema = built_in_schema(alloc).expect(rt, "memory");
+    let (mut disk, _logs) = one_date(rt, alloc, &schema, 2, 1).expect(rt, "a disk");
+    let Ok((_founds, Some(mut logs))) = load(alloc, &mut disk, &schema, FIRST) else {
+        return false;
     };
     let added = add(rt, alloc, &mut disk, &mut logs, &schema, 3, 1);
-    let (founds, _logs) = load(alloc, &mut disk, &schema, FIRST)?;
-    Ok(added && founds.as_slice() == [first(3, 1)].as_slice())
+    let (founds, _logs) = load(alloc, &mut disk, &schema, FIRST).expect(rt, "a load");
+    added && founds.as_slice() == [first(3, 1)].as_slice()
 }
 
 #[test]
 fn a_loaded_plant_goes_on(rt: HostRuntime) {
-    assert!(rt; matches!(goes_on(&rt, rt.alloc()), Ok(true)));
+    assert!(rt; goes_on(&rt, rt.alloc()));
 }

@@ -2,10 +2,10 @@
 
 use crate::sitting::{Wanted, goes};
 use outside_mem::Calling;
-use q_values::{NANOSECONDS_PER_DAY, NoMemory, Turn};
+use q_values::{NANOSECONDS_PER_DAY, Turn};
 use std::alloc::Global;
+use std::process::Abort;
 use std::sync::Wait;
-use std::test::Fail;
 use test_plants::{LOAD_CALLS, NOW, one_failing};
 use test_sessions::bytes::{DONE, GREETED, GREETING, ONE_ROW, QUERY, UPDATE};
 use test_sessions::{GREETED_TURN, Read};
@@ -36,12 +36,7 @@ const HOWS: [Calling; 3] = [
 ];
 
 // The call after `calls` others fails, of an update. It is answered with the error, and sent again it is logged.
-fn update_fails<R: Wait>(
-    rt: &R,
-    alloc: Global,
-    calls: u64,
-    how: Calling,
-) -> Result<bool, NoMemory> {
+fn update_fails<R: Abort + Wait>(rt: &R, alloc: Global, calls: u64, how: Calling) -> bool {
     let wanted = Wanted {
         sent: &[GREETED, DISK, DONE, ONE_ROW],
         turns: &[
@@ -53,24 +48,23 @@ fn update_fails<R: Wait>(
         // the update, and the roll of the load
         entries: 2,
     };
-    let callings = one_failing(alloc, calls, how)?;
+    let callings = one_failing(alloc, calls, how).expect(rt, "memory");
     let reads = [GREETS, UPDATES, UPDATES, ASKS];
     goes(rt, alloc, callings, &[NOW], &reads, wanted)
 }
 
 #[test]
-fn disk_error_of_an_update(rt: HostRuntime) -> Result<(), Fail> {
+fn disk_error_of_an_update(rt: HostRuntime) {
     let alloc = rt.alloc();
     for calls in FIRST_UPDATE..AFTER_UPDATE {
         for how in HOWS {
-            assert!(rt; update_fails(&rt, alloc, calls, how)?);
+            assert!(rt; update_fails(&rt, alloc, calls, how));
         }
     }
-    Ok(())
 }
 
 // The call after `calls` others fails, of a roll at a read timeout. At the next timeout the date ends.
-fn roll_fails<R: Wait>(rt: &R, alloc: Global, calls: u64, how: Calling) -> Result<bool, NoMemory> {
+fn roll_fails<R: Abort + Wait>(rt: &R, alloc: Global, calls: u64, how: Calling) -> bool {
     let wanted = Wanted {
         sent: &[GREETED, DONE, ONE_ROW],
         turns: &[
@@ -89,30 +83,29 @@ fn roll_fails<R: Wait>(rt: &R, alloc: Global, calls: u64, how: Calling) -> Resul
         // the update and the roll
         entries: 2,
     };
-    let callings = one_failing(alloc, calls, how)?;
+    let callings = one_failing(alloc, calls, how).expect(rt, "memory");
     let reads = [GREETS, UPDATES, Read::Idle, Read::Idle, ASKS];
     goes(rt, alloc, callings, &[NOW, NEXT_DAY], &reads, wanted)
 }
 
 #[test]
-fn disk_fault_at_a_timeout(rt: HostRuntime) -> Result<(), Fail> {
+fn disk_fault_at_a_timeout(rt: HostRuntime) {
     let alloc = rt.alloc();
     for calls in AFTER_UPDATE..AFTER_ROLL {
         for how in HOWS {
-            assert!(rt; roll_fails(&rt, alloc, calls, how)?);
+            assert!(rt; roll_fails(&rt, alloc, calls, how));
         }
     }
-    Ok(())
 }
 
 // The call after `calls` others fails, of the roll before an update of the next date. The update is answered with the error;
 // sent again, it ends the date and is logged.
-fn roll_of_an_update_fails<R: Wait>(
+fn roll_of_an_update_fails<R: Abort + Wait>(
     rt: &R,
     alloc: Global,
     calls: u64,
     how: Calling,
-) -> Result<bool, NoMemory> {
+) -> bool {
     let wanted = Wanted {
         sent: &[GREETED, DONE, DISK, DONE],
         turns: &[
@@ -134,18 +127,17 @@ fn roll_of_an_update_fails<R: Wait>(
         // the updates, and the roll between them
         entries: 3,
     };
-    let callings = one_failing(alloc, calls, how)?;
+    let callings = one_failing(alloc, calls, how).expect(rt, "memory");
     let reads = [GREETS, UPDATES, UPDATES, UPDATES];
     goes(rt, alloc, callings, &[NOW, NEXT_DAY], &reads, wanted)
 }
 
 #[test]
-fn disk_error_of_a_roll(rt: HostRuntime) -> Result<(), Fail> {
+fn disk_error_of_a_roll(rt: HostRuntime) {
     let alloc = rt.alloc();
     for calls in AFTER_UPDATE..AFTER_ROLL {
         for how in HOWS {
-            assert!(rt; roll_of_an_update_fails(&rt, alloc, calls, how)?);
+            assert!(rt; roll_of_an_update_fails(&rt, alloc, calls, how));
         }
     }
-    Ok(())
 }

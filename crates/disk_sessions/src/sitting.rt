@@ -3,9 +3,10 @@ ghost use Rattle.std.specs.Prelude.{◌≡◌, ◌≤ℤ◌, negsuc, pos};
 
 use outside_mem::{Callings, Leaving, MemClock, MemDisk, MemLink, MemRecorder, NoGate};
 use plant_core::{Plant, Solo};
-use q_values::{NoMemory, Turn};
+use q_values::Turn;
 use session::{End, serve_session};
 use std::alloc::Global;
+use std::process::Abort;
 use std::sync::Wait;
 use test_plants::{FIRST, are_longs, formatted, load, shown};
 use test_sessions::{Read, are_joined, clock_of, link_of};
@@ -25,13 +26,13 @@ pub struct Wanted<'a> {
 const SECOND: i32 = FIRST + 1;
 
 // The plant of a new disk whose calls go as these, if it is loaded.
-fn planned(alloc: Global, callings: Callings) -> Result<Option<Plant<MemDisk>>, NoMemory> {
-    match formatted(alloc)? {
+fn planned(rt: &impl Abort, alloc: Global, callings: Callings) -> Option<Plant<MemDisk>> {
+    match formatted(alloc).expect(rt, "memory") {
         Some(mut disk) => {
             disk.plan(callings, None);
-            Ok(load(alloc, disk, FIRST).ok())
+            load(alloc, disk, FIRST).ok()
         }
-        None => Ok(None),
+        None => None,
     }
 }
 
@@ -57,54 +58,58 @@ fn serve<R: Wait>(
 }
 
 // Whether the plant has this number of entries, and the sizes of the first date are those of one update.
-fn has_one(alloc: Global, plant: &Plant<MemDisk>, entries: u64) -> Result<bool, NoMemory> {
-    let snapshot = plant.snapshot(alloc)?;
-    match shown(alloc, &snapshot, plant.schema(), 0, 3)? {
-        Some(sizes) => Ok(plant.length() == entries && are_longs(&sizes, &[200])),
-        None => Ok(false),
+fn has_one(rt: &impl Abort, alloc: Global, plant: &Plant<MemDisk>, entries: u64) -> bool {
+    let snapshot = plant.snapshot(alloc).expect(rt, "memory");
+    match shown(alloc, &snapshot, plant.schema(), 0, 3).expect(rt, "memory") {
+        Some(sizes) => plant.length() == entries && are_longs(&sizes, &[200]),
+        None => false,
     }
 }
 
 // Whether a load on the second date, after a crash, finds one update and this number of entries.
-fn is_found(alloc: Global, disk: &MemDisk, entries: u64) -> Result<bool, NoMemory> {
-    match load(alloc, disk.restart(alloc, Leaving::Shortest)?, SECOND) {
-        Ok(plant) => has_one(alloc, &plant, entries),
-        Err(_) => Ok(false),
+fn is_found(rt: &impl Abort, alloc: Global, disk: &MemDisk, entries: u64) -> bool {
+    match load(
+        alloc,
+        disk.restart(alloc, Leaving::Shortest).expect(rt, "memory"),
+        SECOND,
+    ) {
+        Ok(plant) => has_one(rt, alloc, &plant, entries),
+        Err(_) => false,
     }
 }
 
 // Whether the session over this plant goes as expected, and one call of its disk failed.
-fn goes_on<R: Wait>(
+fn goes_on<R: Abort + Wait>(
     rt: &R,
     alloc: Global,
     plant: Plant<MemDisk>,
     clock: &mut MemClock,
     link: &mut MemLink,
     wanted: Wanted,
-) -> Result<bool, NoMemory> {
-    let mut recorder = MemRecorder::with_room(alloc, 16)?;
+) -> bool {
+    let mut recorder = MemRecorder::with_room(alloc, 16).expect(rt, "memory");
     let Some(disk) = serve(rt, alloc, plant, clock, link, &mut recorder) else {
-        return Ok(false);
+        return false;
     };
     let told = recorder.turns() == wanted.turns && are_joined(link.taken(), wanted.sent);
-    Ok(told && disk.faults() == 1 && is_found(alloc, &disk, wanted.entries)?)
+    told && disk.faults() == 1 && is_found(rt, alloc, &disk, wanted.entries)
 }
 
 /// Whether a session goes as expected with these reads, these readings of the clock, and a disk whose calls go as these.
-pub fn goes<R: Wait>(
+pub fn goes<R: Abort + Wait>(
     rt: &R,
     alloc: Global,
     callings: Callings,
     readings: &[i64],
     reads: &[Read],
     wanted: Wanted,
-) -> Result<bool, NoMemory> {
-    let mut link = link_of(alloc, reads, &[])?;
-    let Some(mut clock) = clock_of(alloc, readings)? else {
-        return Ok(false);
+) -> bool {
+    let mut link = link_of(alloc, reads, &[]).expect(rt, "memory");
+    let Some(mut clock) = clock_of(alloc, readings).expect(rt, "memory") else {
+        return false;
     };
-    match planned(alloc, callings)? {
+    match planned(rt, alloc, callings) {
         Some(plant) => goes_on(rt, alloc, plant, &mut clock, &mut link, wanted),
-        None => Ok(false),
+        None => false,
     }
 }

@@ -4,11 +4,11 @@ ghost use Rattle.day_rows.specs.Chronicle.{date_of};
 
 use plant_memory::{Memory, Prepared, UpdRequest};
 use q_values::{
-    Column, Limits, LongKind, NANOSECONDS_PER_DAY, NoMemory, Sym, Symbols, Value, Values, Vector,
+    Column, Limits, LongKind, NANOSECONDS_PER_DAY, Sym, Symbols, Value, Values, Vector,
 };
 use schema_text::built_in_schema;
 use std::alloc::Global;
-use std::test::Fail;
+use std::process::Abort;
 
 /// 2024.01.02, in days since 2000.01.01.
 const DATE: i32 = 8_767;
@@ -32,34 +32,40 @@ pub(crate) struct Update<'a> {
 }
 
 // A vector of these numbers.
-fn longs(alloc: Global, kind: LongKind, numbers: &[i64]) -> Result<Value, Fail> {
-    let items = Vec::from_slice(alloc, numbers)?;
-    Ok(Value::Vector(Vector::from_column(Column::Longs(kind, items))))
+fn longs(rt: &impl Abort, alloc: Global, kind: LongKind, numbers: &[i64]) -> Value {
+    let items = Vec::from_slice(alloc, numbers).expect(rt, "memory");
+    Value::Vector(Vector::from_column(Column::Longs(kind, items)))
 }
 
 // A vector of symbols of one letter each.
-fn letters(alloc: Global, symbols: &[u8]) -> Result<Value, Fail> {
+fn letters(rt: &impl Abort, alloc: Global, symbols: &[u8]) -> Value {
     let mut items = Symbols::new(alloc);
     for letter in symbols {
-        let name = Sym::of(alloc, &[*letter])?;
-        items.push(name.bytes())?;
+        let name = Sym::of(alloc, &[*letter]).expect(rt, "memory");
+        items.push(name.bytes()).expect(rt, "memory");
     }
-    Ok(Value::Vector(Vector::from_column(Column::Symbols(items))))
+    Value::Vector(Vector::from_column(Column::Symbols(items)))
 }
 
 // The columns of an update.
-fn columns_of(alloc: Global, update: &Update) -> Result<Values, Fail> {
+fn columns_of(rt: &impl Abort, alloc: Global, update: &Update) -> Values {
     let mut items = Values::new(alloc);
-    items.push(longs(alloc, LongKind::Timespan, update.times)?)?;
-    items.push(letters(alloc, update.symbols)?)?;
+    items
+        .push(longs(rt, alloc, LongKind::Timespan, update.times))
+        .expect(rt, "memory");
+    items
+        .push(letters(rt, alloc, update.symbols))
+        .expect(rt, "memory");
     for other in update.others {
-        items.push(longs(alloc, LongKind::Long, other)?)?;
+        items
+            .push(longs(rt, alloc, LongKind::Long, other))
+            .expect(rt, "memory");
     }
-    Ok(items)
+    items
 }
 
 // Commits a prepared update, after the roll where one is due.
-fn log_prepared(alloc: Global, memory: &mut Memory, update: Prepared) -> Result<(), NoMemory>
+fn log_prepared(rt: &impl Abort, alloc: Global, memory: &mut Memory, update: Prepared)
     requires frame { update.frame ≡ memory.old.frame }
     requires same { update.entries ≡ memory.old.entries }
     requires room { update.rolls ≡ false → memory.old.room ≡ update.entry ∷ [] }
@@ -67,60 +73,63 @@ fn log_prepared(alloc: Global, memory: &mut Memory, update: Prepared) -> Result<
 {
     if !update.rolls() {
         let _place = memory.commit(update);
-        return Ok(());
+        return;
     }
     let next = memory.date() + 1;
-    let roll = memory.prepare_roll(alloc, update.by(), next)?;
+    let roll = memory
+        .prepare_roll(alloc, update.by(), next)
+        .expect(rt, "memory");
     let _rolled = memory.commit_roll(roll);
     let _place = memory.commit(update);
-    Ok(())
 }
 
 // Logs an update.
-fn log(alloc: Global, memory: &mut Memory, update: &Update) -> Result<(), Fail> {
-    let table = Sym::of(alloc, update.table)?;
-    let items = columns_of(alloc, update)?;
+fn log(rt: &impl Abort, alloc: Global, memory: &mut Memory, update: &Update) {
+    let table = Sym::of(alloc, update.table).expect(rt, "memory");
+    let items = columns_of(rt, alloc, update);
     let request = UpdRequest { table, items };
     let now = NOW.wrapping_add(update.day.wrapping_mul(NANOSECONDS_PER_DAY));
     match memory.prepare(alloc, 1, &request, now) {
-        Ok(prepared) => Ok(log_prepared(alloc, memory, prepared)?),
-        Err(_) => Err(Fail::from("an update was refused")),
+        Ok(prepared) => log_prepared(rt, alloc, memory, prepared),
+        Err(_) => panic!(rt; "an update was refused"),
     }
 }
 
 /// A plant over the built-in schema that began on 2024.01.02, with these updates.
-pub(crate) fn memory_of(alloc: Global, updates: &[Update]) -> Result<Memory, Fail> {
-    let schema = built_in_schema(alloc)?;
-    let mut memory = Memory::begin(alloc, schema, DATE, &Limits::standard())?;
+pub(crate) fn memory_of(rt: &impl Abort, alloc: Global, updates: &[Update]) -> Memory {
+    let schema = built_in_schema(alloc).expect(rt, "memory");
+    let mut memory = Memory::begin(alloc, schema, DATE, &Limits::standard()).expect(rt, "memory");
     for update in updates {
-        log(alloc, &mut memory, update)?;
+        log(rt, alloc, &mut memory, update);
     }
-    Ok(memory)
+    memory
 }
 
 // The numbers from 0 to below this one.
-fn numbers_to(alloc: Global, count: u32) -> Result<Vec<i64>, Fail> {
+fn numbers_to(rt: &impl Abort, alloc: Global, count: u32) -> Vec<i64> {
     let mut numbers = Vec::new(alloc);
     for number in 0..count {
-        numbers.push(i64::from(number))?;
+        numbers.push(i64::from(number)).expect(rt, "memory");
     }
-    Ok(numbers)
+    numbers
 }
 
 // This many letters, `b` and `a` in turn.
-fn letters_in_turn(alloc: Global, count: u32) -> Result<Vec<u8>, Fail> {
+fn letters_in_turn(rt: &impl Abort, alloc: Global, count: u32) -> Vec<u8> {
     let mut letters = Vec::new(alloc);
     for number in 0..count {
-        letters.push(if number % 2 == 0 { b'b' } else { b'a' })?;
+        letters
+            .push(if number % 2 == 0 { b'b' } else { b'a' })
+            .expect(rt, "memory");
     }
-    Ok(letters)
+    letters
 }
 
 /// A plant with this many rows of `trade` on 2024.01.02, and as many again on 2024.01.03 with as many of `quote`. The
 /// symbols are `b` and `a` in turn, and all other columns count the rows of their update from 0.
-pub(crate) fn many_rows(alloc: Global, count: u32) -> Result<Memory, Fail> {
-    let numbers = numbers_to(alloc, count)?;
-    let symbols = letters_in_turn(alloc, count)?;
+pub(crate) fn many_rows(rt: &impl Abort, alloc: Global, count: u32) -> Memory {
+    let numbers = numbers_to(rt, alloc, count);
+    let symbols = letters_in_turn(rt, alloc, count);
     let columns: [&[i64]; 4] = [&numbers, &numbers, &numbers, &numbers];
     let first = Update {
         day: 0,
@@ -143,5 +152,5 @@ pub(crate) fn many_rows(alloc: Global, count: u32) -> Result<Memory, Fail> {
         symbols: &symbols,
         others: &columns,
     };
-    memory_of(alloc, &[first, second, quotes])
+    memory_of(rt, alloc, &[first, second, quotes])
 }

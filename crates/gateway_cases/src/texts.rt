@@ -4,10 +4,9 @@ use crate::plants::{Update, many_rows, memory_of};
 use gateway::{Question, answer};
 use plant_memory::Memory;
 use q_shown::push_value;
-use q_values::{Column, LongKind, NoMemory, Value};
+use q_values::{Column, LongKind, Value};
 use std::alloc::Global;
 use std::process::Abort;
-use std::test::Fail;
 
 // `0D09:29` to `0D09:32`, in nanoseconds.
 const M29: i64 = 34_140_000_000_000;
@@ -104,43 +103,32 @@ const TIED_QUOTES: [Update<'static>; 4] = [
 ];
 
 // The answer to a text, as text: an error is a quote and its text.
-fn shown(alloc: Global, memory: &Memory, text: &[u8]) -> Result<Vec<u8>, Fail> {
+fn shown(rt: &impl Abort, alloc: Global, memory: &Memory, text: &[u8]) -> Vec<u8> {
     let mut out = Vec::new(alloc);
-    let snapshot = memory.snapshot(alloc)?;
-    match answer(alloc, &snapshot, memory.schema(), text)? {
+    let snapshot = memory.snapshot(alloc).expect(rt, "memory");
+    match answer(alloc, &snapshot, memory.schema(), text).expect(rt, "memory") {
         Value::Wrong(text) => {
-            out.extend_from_slice(b"'")?;
-            out.extend_from_slice(text.as_slice())?;
+            out.extend_from_slice(b"'").expect(rt, "memory");
+            out.extend_from_slice(text.as_slice()).expect(rt, "memory");
         }
-        value => push_value(alloc, &mut out, &value)?,
+        value => push_value(alloc, &mut out, &value).expect(rt, "memory"),
     }
-    Ok(out)
+    out
 }
 
 // Stops at the first text whose answer is another than the one beside it.
-fn assert_answers(
-    rt: &impl Abort,
-    alloc: Global,
-    memory: &Memory,
-    cases: &[(&[u8], &[u8])],
-) -> Result<(), Fail> {
+fn assert_answers(rt: &impl Abort, alloc: Global, memory: &Memory, cases: &[(&[u8], &[u8])]) {
     let mut case = 0usize;
     for (text, wanted) in cases {
-        let found = shown(alloc, memory, text)?;
+        let found = shown(rt, alloc, memory, text);
         assert!(rt; found.as_slice() == *wanted, "case {case}");
         case = case.saturating_add(1);
     }
-    Ok(())
 }
 
 // The same, over a plant with these updates.
-fn assert_over(
-    rt: &impl Abort,
-    alloc: Global,
-    updates: &[Update],
-    cases: &[(&[u8], &[u8])],
-) -> Result<(), Fail> {
-    let memory = memory_of(alloc, updates)?;
+fn assert_over(rt: &impl Abort, alloc: Global, updates: &[Update], cases: &[(&[u8], &[u8])]) {
+    let memory = memory_of(rt, alloc, updates);
     assert_answers(rt, alloc, &memory, cases)
 }
 
@@ -171,7 +159,7 @@ const TWO_DATES: [(&[u8], &[u8]); 14] = [
 ];
 
 #[test]
-fn rows_of_two_dates(rt: HostRuntime) -> Result<(), Fail> {
+fn rows_of_two_dates(rt: HostRuntime) {
     assert_over(&rt, rt.alloc(), &TRADES[..5], &TWO_DATES)
 }
 
@@ -230,7 +218,7 @@ const KEPT_DATES: [(&[u8], &[u8]); 15] = [
 ];
 
 #[test]
-fn dates_that_phrases_keep(rt: HostRuntime) -> Result<(), Fail> {
+fn dates_that_phrases_keep(rt: HostRuntime) {
     assert_over(&rt, rt.alloc(), &TRADES, &KEPT_DATES)
 }
 
@@ -242,7 +230,7 @@ const NO_ROWS: [(&[u8], &[u8]); 4] = [
 ];
 
 #[test]
-fn no_rows(rt: HostRuntime) -> Result<(), Fail> {
+fn no_rows(rt: HostRuntime) {
     assert_over(&rt, rt.alloc(), &TRADES[..0], &NO_ROWS)
 }
 
@@ -254,7 +242,7 @@ const OPEN_DATE: [(&[u8], &[u8]); 4] = [
 ];
 
 #[test]
-fn rows_of_the_open_date(rt: HostRuntime) -> Result<(), Fail> {
+fn rows_of_the_open_date(rt: HostRuntime) {
     assert_over(&rt, rt.alloc(), &TRADES[..3], &OPEN_DATE)
 }
 
@@ -266,7 +254,7 @@ const ONE_UPDATE: [(&[u8], &[u8]); 4] = [
 ];
 
 #[test]
-fn rows_of_one_update(rt: HostRuntime) -> Result<(), Fail> {
+fn rows_of_one_update(rt: HostRuntime) {
     assert_over(&rt, rt.alloc(), &TIED_QUOTES, &ONE_UPDATE)
 }
 
@@ -315,7 +303,7 @@ const QUERIES: [(&[u8], &[u8]); 14] = [
 ];
 
 #[test]
-fn queries(rt: HostRuntime) -> Result<(), Fail> {
+fn queries(rt: HostRuntime) {
     assert_over(&rt, rt.alloc(), &TRADES[..5], &QUERIES)
 }
 
@@ -339,26 +327,25 @@ const REFUSED: [(&[u8], &[u8]); 16] = [
 ];
 
 #[test]
-fn refused_texts(rt: HostRuntime) -> Result<(), Fail> {
+fn refused_texts(rt: HostRuntime) {
     assert_over(&rt, rt.alloc(), &TRADES[..5], &REFUSED)
 }
 
 #[test]
-fn long_text(rt: HostRuntime) -> Result<(), Fail> {
+fn long_text(rt: HostRuntime) {
     let alloc = rt.alloc();
-    let blanks = vec![in alloc; b' '; 65_537]?;
+    let blanks = vec![in alloc; b' '; 65_537].expect(&rt, "memory");
     let cases: [(&[u8], &[u8]); 1] = [(&blanks, b"'limit")];
     assert_over(&rt, alloc, &TRADES[..5], &cases)
 }
 
 #[test]
-fn subscriptions_are_told(rt: HostRuntime) -> Result<(), Fail> {
+fn subscriptions_are_told(rt: HostRuntime) {
     let alloc = rt.alloc();
-    let question = Question::of(alloc, b".u.sub[`trade;`]")?;
+    let question = Question::of(alloc, b".u.sub[`trade;`]").expect(&rt, "memory");
     assert!(rt; question.is_subscription());
-    let question = Question::of(alloc, b"select from trade")?;
+    let question = Question::of(alloc, b"select from trade").expect(&rt, "memory");
     assert!(rt; !question.is_subscription());
-    Ok(())
 }
 
 const MANY: [(&[u8], &[u8]); 9] = [
@@ -386,10 +373,10 @@ const MANY: [(&[u8], &[u8]); 9] = [
 ];
 
 #[test]
-fn many_trades(rt: HostRuntime) -> Result<(), Fail> {
+fn many_trades(rt: HostRuntime) {
     let alloc = rt.alloc();
-    let memory = many_rows(alloc, 100_000)?;
-    assert_answers(&rt, alloc, &memory, &MANY)?;
+    let memory = many_rows(&rt, alloc, 100_000);
+    assert_answers(&rt, alloc, &memory, &MANY);
     assert_answers(&rt, alloc, &memory, &MANY)
 }
 
@@ -422,18 +409,17 @@ fn is_counted(value: &Value, count: usize) -> bool {
 }
 
 // The answer to a text.
-fn answer_to(alloc: Global, memory: &Memory, text: &[u8]) -> Result<Value, NoMemory> {
-    let snapshot = memory.snapshot(alloc)?;
-    answer(alloc, &snapshot, memory.schema(), text)
+fn answer_to(rt: &impl Abort, alloc: Global, memory: &Memory, text: &[u8]) -> Value {
+    let snapshot = memory.snapshot(alloc).expect(rt, "memory");
+    answer(alloc, &snapshot, memory.schema(), text).expect(rt, "memory")
 }
 
 #[test]
-fn join_of_many_rows(rt: HostRuntime) -> Result<(), Fail> {
+fn join_of_many_rows(rt: HostRuntime) {
     let alloc = rt.alloc();
-    let memory = many_rows(alloc, 100_000)?;
+    let memory = many_rows(&rt, alloc, 100_000);
     let text =
         b"aj[`sym`time;select time,sym from trade where date=2024.01.03;select time,sym,bid from quote]";
-    let joined = answer_to(alloc, &memory, text)?;
+    let joined = answer_to(&rt, alloc, &memory, text);
     assert!(rt; is_counted(&joined, 100_000));
-    Ok(())
 }

@@ -1,5 +1,4 @@
 //! Reads of a connection that another connection may end: so a subscriber gets at once what another client has sent.
-ghost use Rattle.std.specs.Prelude.{◌≡◌};
 
 use mio::unix::SourceFd;
 use mio::{Events, Interest, Poll, Token, Waker};

@@ -3,19 +3,19 @@ ghost use Rattle.std.specs.Prelude.{◌≤ℤ◌, negsuc, pos};
 
 use outside_mem::MemDisk;
 use plant_core::Plant;
-use q_values::NoMemory;
 use std::alloc::Global;
+use std::process::Abort;
 use std::sync::Wait;
 use test_plants::{NOW, Row, load, logs, new_solo};
 
 /// The disk of a new plant that logged one update, after it was closed.
-pub fn one_update<R: Wait>(rt: &R, alloc: Global, row: Row) -> Result<Option<MemDisk>, NoMemory> {
-    let Some(mut solo) = new_solo(alloc)? else {
-        return Ok(None);
+pub fn one_update<R: Abort + Wait>(rt: &R, alloc: Global, row: Row) -> Option<MemDisk> {
+    let Some(mut solo) = new_solo(alloc).expect(rt, "memory") else {
+        return None;
     };
-    let logged = logs(rt, alloc, &mut solo, row, NOW);
+    let logged = logs(rt, alloc, &mut solo, row, NOW).expect(rt, "memory");
     let disk = solo.into_plant().close();
-    if logged? { Ok(Some(disk)) } else { Ok(None) }
+    if logged { Some(disk) } else { None }
 }
 
 /// The plant of this disk, if it is loaded.

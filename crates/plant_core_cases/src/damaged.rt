@@ -4,10 +4,9 @@ use crate::closed::one_update;
 use date_loading::LoadRefusal;
 use outside_api::Disk;
 use outside_mem::MemDisk;
-use q_values::NoMemory;
 use std::alloc::Global;
+use std::process::Abort;
 use std::sync::Wait;
-use std::test::Fail;
 use test_plants::{FIRST, NINE_THIRTY, Row, load};
 
 // The file of the first date's log.
@@ -20,17 +19,16 @@ fn is_one_chunk(log: &[u8]) -> bool {
     log.len() == 97 && &log[9..13] == b"\x53\0\0\0".as_slice() && log[96] == 0
 }
 
-fn first_is_one_chunk<R: Wait>(rt: &R, alloc: Global) -> Result<bool, NoMemory> {
-    match one_update(rt, alloc, ROW)? {
-        Some(disk) => Ok(is_one_chunk(disk.bytes_of(LOG))),
-        None => Ok(false),
+fn first_is_one_chunk<R: Abort + Wait>(rt: &R, alloc: Global) -> bool {
+    match one_update(rt, alloc, ROW) {
+        Some(disk) => is_one_chunk(disk.bytes_of(LOG)),
+        None => false,
     }
 }
 
 #[test]
-fn first_log(rt: HostRuntime) -> Result<(), Fail> {
-    assert!(rt; first_is_one_chunk(&rt, rt.alloc())?);
-    Ok(())
+fn first_log(rt: HostRuntime) {
+    assert!(rt; first_is_one_chunk(&rt, rt.alloc()));
 }
 
 // Truncates the log; whether that succeeded.
@@ -74,35 +72,34 @@ fn found_in(alloc: Global, disk: MemDisk) -> Found {
 }
 
 // What a load finds where the log is truncated to this size.
-fn after_cut<R: Wait>(rt: &R, alloc: Global, size: u64) -> Result<Found, NoMemory> {
-    let Some(mut disk) = one_update(rt, alloc, ROW)? else {
-        return Ok(Found::Other);
+fn after_cut<R: Abort + Wait>(rt: &R, alloc: Global, size: u64) -> Found {
+    let Some(mut disk) = one_update(rt, alloc, ROW) else {
+        return Found::Other;
     };
     if !cut(&mut disk, size) {
-        return Ok(Found::Other);
+        return Found::Other;
     }
-    Ok(found_in(alloc, disk))
+    found_in(alloc, disk)
 }
 
 // What a load finds where these bytes stand at this offset of the log.
-fn after_put<R: Wait>(rt: &R, alloc: Global, at: u64, bytes: &[u8]) -> Result<Found, NoMemory> {
-    let Some(mut disk) = one_update(rt, alloc, ROW)? else {
-        return Ok(Found::Other);
+fn after_put<R: Abort + Wait>(rt: &R, alloc: Global, at: u64, bytes: &[u8]) -> Found {
+    let Some(mut disk) = one_update(rt, alloc, ROW) else {
+        return Found::Other;
     };
     if !put(&mut disk, at, bytes) {
-        return Ok(Found::Other);
+        return Found::Other;
     }
-    Ok(found_in(alloc, disk))
+    found_in(alloc, disk)
 }
 
 #[test]
-fn damaged_log(rt: HostRuntime) -> Result<(), Fail> {
+fn damaged_log(rt: HostRuntime) {
     let alloc = rt.alloc();
-    assert!(rt; after_cut(&rt, alloc, 97)? == Found::Entries(1));
-    assert!(rt; after_cut(&rt, alloc, 96)? == Found::Damaged(FIRST, 0, 8));
-    assert!(rt; after_put(&rt, alloc, 96, b"\xa5")? == Found::Damaged(FIRST, 1, 96));
-    assert!(rt; after_put(&rt, alloc, 96, b"\0\xa5\xff\xff")? == Found::Entries(1));
+    assert!(rt; after_cut(&rt, alloc, 97) == Found::Entries(1));
+    assert!(rt; after_cut(&rt, alloc, 96) == Found::Damaged(FIRST, 0, 8));
+    assert!(rt; after_put(&rt, alloc, 96, b"\xa5") == Found::Damaged(FIRST, 1, 96));
+    assert!(rt; after_put(&rt, alloc, 96, b"\0\xa5\xff\xff") == Found::Entries(1));
     let pass = b"\xfe\xff\xff\xff\xff\xff\xff\xff";
-    assert!(rt; after_put(&rt, alloc, 13, pass)? == Found::Spent);
-    Ok(())
+    assert!(rt; after_put(&rt, alloc, 13, pass) == Found::Spent);
 }

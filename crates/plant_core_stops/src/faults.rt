@@ -3,65 +3,57 @@
 use crate::script::{CALLS, SCRIPT, Sent, found, send, text_of};
 use outside_mem::{Calling, Leaving, MemDisk};
 use plant_core::{Access, Solo};
-use q_values::NoMemory;
 use std::alloc::Global;
+use std::process::Abort;
 use std::sync::Wait;
-use std::test::Fail;
 use test_plants::{FIRST, LOAD_CALLS, formatted, one_failing, solo_at};
 
 // Whether a snapshot shows the first entries of the script, this many.
-fn shows<R: Wait>(
-    rt: &R,
-    alloc: Global,
-    solo: &mut Solo<MemDisk>,
-    count: usize,
-) -> Result<bool, NoMemory> {
-    let snapshot = solo.snapshot(rt, alloc)?;
-    let text = text_of(alloc, &snapshot, solo.schema())?;
-    Ok(text.len() == count && SCRIPT.starts_with(&text))
+fn shows<R: Abort + Wait>(rt: &R, alloc: Global, solo: &mut Solo<MemDisk>, count: usize) -> bool {
+    let Ok(snapshot) = solo.snapshot(rt, alloc) else {
+        panic!(rt; "no memory");
+    };
+    let text = text_of(rt, alloc, &snapshot, solo.schema());
+    text.len() == count && SCRIPT.starts_with(&text)
 }
 
 // Sends the entry of the script with this index, which has the index `index` in the chronicle, and again after a fault,
 // of which a snapshot shows nothing. Whether there was a fault, if the entry is logged.
-fn send_on<R: Wait>(
+fn send_on<R: Abort + Wait>(
     rt: &R,
     alloc: Global,
     solo: &mut Solo<MemDisk>,
     days: i64,
     (place, letter): (usize, u8),
     index: u64,
-) -> Result<Option<bool>, NoMemory> {
-    let first = send(rt, alloc, solo, days, letter)?;
+) -> Option<bool> {
+    let first = send(rt, alloc, solo, days, letter);
     if first == Sent::Logged(index) {
-        return Ok(Some(false));
+        return Some(false);
     }
-    if first != Sent::Failed(index) || !shows(rt, alloc, solo, place)? {
-        return Ok(None);
+    if first != Sent::Failed(index) || !shows(rt, alloc, solo, place) {
+        return None;
     }
-    let second = send(rt, alloc, solo, days, letter)?;
-    Ok((second == Sent::Logged(index.wrapping_add(1))).then_some(true))
+    let second = send(rt, alloc, solo, days, letter);
+    (second == Sent::Logged(index.wrapping_add(1))).then_some(true)
 }
 
 // Sends the whole script; the entry that failed, if one did and all are logged.
-fn play<R: Wait>(
-    rt: &R,
-    alloc: Global,
-    solo: &mut Solo<MemDisk>,
-) -> Result<Option<usize>, NoMemory> {
+fn play<R: Abort + Wait>(rt: &R, alloc: Global, solo: &mut Solo<MemDisk>) -> Option<usize> {
     let mut days = 0i64;
     let mut failed = None;
     for (place, letter) in SCRIPT.iter().enumerate() {
         let index = (place as u64).wrapping_add(u64::from(failed.is_some()));
-        match send_on(rt, alloc, solo, days, (place, *letter), index)? {
+        match send_on(rt, alloc, solo, days, (place, *letter), index) {
             Some(false) => {}
             Some(true) if failed.is_none() => failed = Some(place),
-            _ => return Ok(None),
+            _ => return None,
         }
         if *letter == b'R' {
             days = days.wrapping_add(1);
         }
     }
-    Ok(failed)
+    failed
 }
 
 // The entry of the script whose calls of the disk follow this number of calls.
@@ -77,31 +69,32 @@ fn entry_at(calls: u64) -> usize {
 }
 
 // Whether a load after a crash finds the whole script, where one call of the disk failed.
-fn is_whole(alloc: Global, disk: &MemDisk) -> Result<bool, NoMemory> {
+fn is_whole(rt: &impl Abort, alloc: Global, disk: &MemDisk) -> bool {
     let once = disk.faults() == 1;
-    match found(alloc, disk.restart(alloc, Leaving::Shortest)?)? {
-        Some(text) => Ok(once && text.as_slice() == SCRIPT.as_slice()),
-        None => Ok(false),
+    let left = disk.restart(alloc, Leaving::Shortest).expect(rt, "memory");
+    match found(rt, alloc, left) {
+        Some(text) => once && text.as_slice() == SCRIPT.as_slice(),
+        None => false,
     }
 }
 
 // Whether the entry fails whose call fails, and a later load finds the whole script.
-fn goes_on<R: Wait>(rt: &R, alloc: Global, calls: u64, how: Calling) -> Result<bool, NoMemory> {
-    let callings = one_failing(alloc, LOAD_CALLS.wrapping_add(calls), how)?;
-    let Some(mut disk) = formatted(alloc)? else {
-        return Ok(false);
+fn goes_on<R: Abort + Wait>(rt: &R, alloc: Global, calls: u64, how: Calling) -> bool {
+    let callings = one_failing(alloc, LOAD_CALLS.wrapping_add(calls), how).expect(rt, "memory");
+    let Some(mut disk) = formatted(alloc).expect(rt, "memory") else {
+        return false;
     };
     disk.plan(callings, None);
     let Some(mut solo) = solo_at(alloc, disk, FIRST) else {
-        return Ok(false);
+        return false;
     };
-    let failed = play(rt, alloc, &mut solo)?;
+    let failed = play(rt, alloc, &mut solo);
     let disk = solo.into_plant().close();
-    Ok(failed == Some(entry_at(calls)) && is_whole(alloc, &disk)?)
+    failed == Some(entry_at(calls)) && is_whole(rt, alloc, &disk)
 }
 
 #[test]
-fn each_call_fails_once(rt: HostRuntime) -> Result<(), Fail> {
+fn each_call_fails_once(rt: HostRuntime) {
     let alloc = rt.alloc();
     let hows = [
         Calling::FailsUndone,
@@ -110,8 +103,7 @@ fn each_call_fails_once(rt: HostRuntime) -> Result<(), Fail> {
     ];
     for calls in 0..CALLS - LOAD_CALLS {
         for how in hows {
-            assert!(rt; goes_on(&rt, alloc, calls, how)?);
+            assert!(rt; goes_on(&rt, alloc, calls, how));
         }
     }
-    Ok(())
 }

@@ -6,8 +6,9 @@ use day_rows::Schema;
 use outside_mem::MemDisk;
 use plant_core::{Access, LoadFailure, Plant, Solo, TickTurn, UpdTurn};
 use plant_memory::Snapshot;
-use q_values::{Column, NANOSECONDS_PER_DAY, NoMemory};
+use q_values::{Column, NANOSECONDS_PER_DAY};
 use std::alloc::Global;
+use std::process::Abort;
 use std::sync::Wait;
 use test_plants::{FIRST, LOAD_CALLS, NINE_THIRTY, NOW, load, request_of, shown};
 
@@ -39,28 +40,29 @@ fn moment(days: i64, letter: u8) -> i64 {
 }
 
 // Sends an update whose size is the letter.
-fn update<R: Wait>(
+fn update<R: Abort + Wait>(
     rt: &R,
     alloc: Global,
     solo: &mut Solo<MemDisk>,
     letter: u8,
     now: i64,
-) -> Result<Sent, NoMemory> {
-    let request = request_of(alloc, (NINE_THIRTY, "KX", 10_050, i64::from(letter)))?;
+) -> Sent {
+    let row = (NINE_THIRTY, "KX", 10_050, i64::from(letter));
+    let request = request_of(alloc, row).expect(rt, "memory");
     match solo.upd(rt, alloc, &request, now) {
         UpdTurn::Logged {
             rolled: None,
             place,
-        } => Ok(Sent::Logged(place)),
+        } => Sent::Logged(place),
         UpdTurn::Failed { rolled, place } => {
             let last = solo.last_fault();
             if rolled.is_none() && last == place {
-                Ok(Sent::Failed(place))
+                Sent::Failed(place)
             } else {
-                Ok(Sent::Other)
+                Sent::Other
             }
         }
-        _ => Ok(Sent::Other),
+        _ => Sent::Other,
     }
 }
 
@@ -79,16 +81,16 @@ fn roll<R: Wait>(rt: &R, alloc: Global, solo: &mut Solo<MemDisk>, now: i64) -> S
 }
 
 /// Sends the entry of a letter, this many days after the first date.
-pub(crate) fn send<R: Wait>(
+pub(crate) fn send<R: Abort + Wait>(
     rt: &R,
     alloc: Global,
     solo: &mut Solo<MemDisk>,
     days: i64,
     letter: u8,
-) -> Result<Sent, NoMemory> {
+) -> Sent {
     let now = moment(days, letter);
     if letter == b'R' {
-        Ok(roll(rt, alloc, solo, now))
+        roll(rt, alloc, solo, now)
     } else {
         update(rt, alloc, solo, letter, now)
     }
@@ -96,44 +98,47 @@ pub(crate) fn send<R: Wait>(
 
 // Appends the sizes of `trade` on the date with the index `k`, as letters; whether the date has sizes.
 fn read_date(
+    rt: &impl Abort,
     alloc: Global,
     snapshot: &Snapshot,
     schema: &Schema,
     k: usize,
     text: &mut Vec<u8>,
-) -> Result<bool, NoMemory>
+) -> bool
     requires { snapshot.now.frame.schema ≡ schema.now }
 {
-    let Some(column) = shown(alloc, snapshot, schema, k, 3)? else {
-        return Ok(false);
+    let Some(column) = shown(alloc, snapshot, schema, k, 3).expect(rt, "memory") else {
+        return false;
     };
     let Column::Longs(_, sizes) = column.column() else {
-        return Ok(false);
+        return false;
     };
     for size in sizes.iter() {
-        text.push(u8::try_from(*size).unwrap_or(0))?;
+        text.push(u8::try_from(*size).unwrap_or(0))
+            .expect(rt, "memory");
     }
-    Ok(true)
+    true
 }
 
 /// What a snapshot shows, as the letters of the script.
 pub(crate) fn text_of(
+    rt: &impl Abort,
     alloc: Global,
     snapshot: &Snapshot,
     schema: &Schema,
-) -> Result<Vec<u8>, NoMemory>
+) -> Vec<u8>
     requires { snapshot.now.frame.schema ≡ schema.now }
 {
     let mut text = Vec::new(alloc);
     for k in 0..snapshot.dates() {
         if k > 0 {
-            text.push(b'R')?;
+            text.push(b'R').expect(rt, "memory");
         }
-        if !read_date(alloc, snapshot, schema, k, &mut text)? {
-            text.push(b'?')?;
+        if !read_date(rt, alloc, snapshot, schema, k, &mut text) {
+            text.push(b'?').expect(rt, "memory");
         }
     }
-    Ok(text)
+    text
 }
 
 // The plant of this disk, at the last date that it opened.
@@ -151,12 +156,12 @@ fn reloaded(alloc: Global, disk: MemDisk) -> Option<Plant<MemDisk>> {
 }
 
 /// What a load of this disk finds, as the letters of the script, if it succeeds.
-pub(crate) fn found(alloc: Global, disk: MemDisk) -> Result<Option<Vec<u8>>, NoMemory> {
+pub(crate) fn found(rt: &impl Abort, alloc: Global, disk: MemDisk) -> Option<Vec<u8>> {
     match reloaded(alloc, disk) {
         Some(plant) => {
-            let snapshot = plant.snapshot(alloc)?;
-            Ok(Some(text_of(alloc, &snapshot, plant.schema())?))
+            let snapshot = plant.snapshot(alloc).expect(rt, "memory");
+            Some(text_of(rt, alloc, &snapshot, plant.schema()))
         }
-        None => Ok(None),
+        None => None,
     }
 }

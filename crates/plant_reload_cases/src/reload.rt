@@ -7,11 +7,11 @@ use day_rows::{Schema, Shape};
 use outside_mem::MemDisk;
 use plant_core::{Access, LoadFailure, Plant, Solo, TickTurn};
 use plant_memory::Snapshot;
-use q_values::{Kind, Limits, NANOSECONDS_PER_DAY, NoMemory};
+use q_values::{Kind, Limits, NANOSECONDS_PER_DAY};
 use schema_text::{built_in_schema, read_schema};
 use std::alloc::Global;
+use std::process::Abort;
 use std::sync::Wait;
-use std::test::Fail;
 use test_plants::{
     FIRST, NINE_THIRTY, NOW, Row, are_longs, are_symbols, load, logs, new_solo, shown,
 };
@@ -64,67 +64,68 @@ const SECOND_SHOWN: Shown = Shown {
 };
 
 fn shows_symbols(
+    rt: &impl Abort,
     alloc: Global,
     snapshot: &Snapshot,
     schema: &Schema,
     k: usize,
     names: &[&str],
-) -> Result<bool, NoMemory>
+) -> bool
     requires { snapshot.now.frame.schema ≡ schema.now }
 {
-    match shown(alloc, snapshot, schema, k, 1)? {
-        Some(column) => Ok(are_symbols(&column, names)),
-        None => Ok(false),
+    match shown(alloc, snapshot, schema, k, 1).expect(rt, "memory") {
+        Some(column) => are_symbols(&column, names),
+        None => false,
     }
 }
 
 fn shows_longs(
+    rt: &impl Abort,
     alloc: Global,
     snapshot: &Snapshot,
     schema: &Schema,
     k: usize,
     column: u32,
     items: &[i64],
-) -> Result<bool, NoMemory>
+) -> bool
     requires { snapshot.now.frame.schema ≡ schema.now }
 {
-    match shown(alloc, snapshot, schema, k, column)? {
-        Some(column) => Ok(are_longs(&column, items)),
-        None => Ok(false),
+    match shown(alloc, snapshot, schema, k, column).expect(rt, "memory") {
+        Some(column) => are_longs(&column, items),
+        None => false,
     }
 }
 
 // Whether these are the four columns on the date with the index `k`.
 fn shows(
+    rt: &impl Abort,
     alloc: Global,
     snapshot: &Snapshot,
     schema: &Schema,
     k: usize,
     columns: &Shown,
-) -> Result<bool, NoMemory>
+) -> bool
     requires { snapshot.now.frame.schema ≡ schema.now }
 {
-    Ok(
-        shows_longs(alloc, snapshot, schema, k, 0, columns.times)?
-            && shows_symbols(alloc, snapshot, schema, k, columns.names)?
-            && shows_longs(alloc, snapshot, schema, k, 2, columns.prices)?
-            && shows_longs(alloc, snapshot, schema, k, 3, columns.sizes)?,
-    )
+    shows_longs(rt, alloc, snapshot, schema, k, 0, columns.times)
+        && shows_symbols(rt, alloc, snapshot, schema, k, columns.names)
+        && shows_longs(rt, alloc, snapshot, schema, k, 2, columns.prices)
+        && shows_longs(rt, alloc, snapshot, schema, k, 3, columns.sizes)
 }
 
-fn logs_all<R: Wait>(
+fn logs_all<R: Abort + Wait>(
     rt: &R,
     alloc: Global,
     solo: &mut Solo<MemDisk>,
     rows: &[Row],
     now: i64,
-) -> Result<bool, NoMemory> {
+) -> bool {
     for row in rows {
-        if !logs(rt, alloc, solo, *row, now)? {
-            return Ok(false);
+        if !logs(rt, alloc, solo, *row, now).expect(rt, "memory") {
+            return false;
         }
     }
-    Ok(true)
+    true
 }
 
 // The plant of this disk, if it is loaded.
@@ -136,54 +137,52 @@ fn loaded(alloc: Global, disk: MemDisk, date: i32) -> Option<Plant<MemDisk>>
 }
 
 // Three updates, a roll and two updates.
-fn feeds<R: Wait>(rt: &R, alloc: Global, solo: &mut Solo<MemDisk>) -> Result<bool, NoMemory> {
-    let first = logs_all(rt, alloc, solo, &FIRST_ROWS, NOW)?;
+fn feeds<R: Abort + Wait>(rt: &R, alloc: Global, solo: &mut Solo<MemDisk>) -> bool {
+    let first = logs_all(rt, alloc, solo, &FIRST_ROWS, NOW);
     let rolled = solo.tick(rt, alloc, NEXT_DAY) == TickTurn::Rolled { place: 3 };
-    let second = logs_all(rt, alloc, solo, &SECOND_ROWS, NEXT_DAY)?;
-    Ok(first && rolled && second && solo.by() == 1)
+    let second = logs_all(rt, alloc, solo, &SECOND_ROWS, NEXT_DAY);
+    first && rolled && second && solo.by() == 1
 }
 
 // Whether the snapshot has the rows of both dates.
-fn shows_both(alloc: Global, snapshot: &Snapshot, schema: &Schema) -> Result<bool, NoMemory>
+fn shows_both(rt: &impl Abort, alloc: Global, snapshot: &Snapshot, schema: &Schema) -> bool
     requires { snapshot.now.frame.schema ≡ schema.now }
 {
-    Ok(
-        shows(alloc, snapshot, schema, 0, &FIRST_SHOWN)?
-            && shows(alloc, snapshot, schema, 1, &SECOND_SHOWN)?,
-    )
+    shows(rt, alloc, snapshot, schema, 0, &FIRST_SHOWN)
+        && shows(rt, alloc, snapshot, schema, 1, &SECOND_SHOWN)
 }
 
 // Whether the plant has the updates of both dates.
-fn has_both(alloc: Global, plant: &Plant<MemDisk>) -> Result<bool, NoMemory> {
+fn has_both(rt: &impl Abort, alloc: Global, plant: &Plant<MemDisk>) -> bool {
     if plant.length() != 6 || plant.next_by() != 2 || plant.date() != SECOND {
-        return Ok(false);
+        return false;
     }
-    let snapshot = plant.snapshot(alloc)?;
-    shows_both(alloc, &snapshot, plant.schema())
+    let snapshot = plant.snapshot(alloc).expect(rt, "memory");
+    shows_both(rt, alloc, &snapshot, plant.schema())
 }
 
 // The disk of the plant, if it has the updates of both dates.
-fn closed(alloc: Global, plant: Plant<MemDisk>) -> Result<Option<MemDisk>, NoMemory> {
-    let both = has_both(alloc, &plant);
+fn closed(rt: &impl Abort, alloc: Global, plant: Plant<MemDisk>) -> Option<MemDisk> {
+    let both = has_both(rt, alloc, &plant);
     let disk = plant.close();
-    if both? { Ok(Some(disk)) } else { Ok(None) }
+    if both { Some(disk) } else { None }
 }
 
 // The disk of a new plant after three updates, a roll and two updates, if it has them.
-fn fed<R: Wait>(rt: &R, alloc: Global) -> Result<Option<MemDisk>, NoMemory> {
-    let Some(mut solo) = new_solo(alloc)? else {
-        return Ok(None);
+fn fed<R: Abort + Wait>(rt: &R, alloc: Global) -> Option<MemDisk> {
+    let Some(mut solo) = new_solo(alloc).expect(rt, "memory") else {
+        return None;
     };
     let logged = feeds(rt, alloc, &mut solo);
-    let back = closed(alloc, solo.into_plant());
-    if logged? { back } else { Ok(None) }
+    let back = closed(rt, alloc, solo.into_plant());
+    if logged { back } else { None }
 }
 
 // The disk, if a plant that is loaded from it has the updates of both dates.
-fn reloads(alloc: Global, disk: MemDisk) -> Result<Option<MemDisk>, NoMemory> {
+fn reloads(rt: &impl Abort, alloc: Global, disk: MemDisk) -> Option<MemDisk> {
     match loaded(alloc, disk, SECOND) {
-        Some(plant) => closed(alloc, plant),
-        None => Ok(None),
+        Some(plant) => closed(rt, alloc, plant),
+        None => None,
     }
 }
 
@@ -239,101 +238,97 @@ fn is_later(alloc: Global, disk: MemDisk) -> Option<MemDisk> {
 }
 
 // The disk, if it isn't formatted again.
-fn is_made(alloc: Global, mut disk: MemDisk) -> Result<Option<MemDisk>, NoMemory> {
-    let schema = built_in_schema(alloc)?;
+fn is_made(rt: &impl Abort, alloc: Global, mut disk: MemDisk) -> Option<MemDisk> {
+    let schema = built_in_schema(alloc).expect(rt, "memory");
     match Plant::<MemDisk>::format(alloc, &mut disk, &schema) {
-        Err(FormatRefusal::AlreadyMade) => Ok(Some(disk)),
-        _ => Ok(None),
+        Err(FormatRefusal::AlreadyMade) => Some(disk),
+        _ => None,
     }
 }
 
-fn answers_are_same<R: Wait>(rt: &R, alloc: Global) -> Result<bool, NoMemory> {
-    match fed(rt, alloc)? {
-        Some(disk) => Ok(reloads(alloc, disk)?.is_some()),
-        None => Ok(false),
+fn answers_are_same<R: Abort + Wait>(rt: &R, alloc: Global) -> bool {
+    match fed(rt, alloc) {
+        Some(disk) => reloads(rt, alloc, disk).is_some(),
+        None => false,
     }
 }
 
 // The disk, if it loads after it came back with a refusal.
-fn reloads_after(alloc: Global, back: Option<MemDisk>) -> Result<Option<MemDisk>, NoMemory> {
+fn reloads_after(rt: &impl Abort, alloc: Global, back: Option<MemDisk>) -> Option<MemDisk> {
     match back {
-        Some(disk) => reloads(alloc, disk),
-        None => Ok(None),
+        Some(disk) => reloads(rt, alloc, disk),
+        None => None,
     }
 }
 
 // The disk, if it comes back with each refusal, and loads.
-fn comes_back(alloc: Global, disk: MemDisk) -> Result<Option<MemDisk>, NoMemory> {
-    let Some(disk) = reloads_after(alloc, differs(alloc, disk))? else {
-        return Ok(None);
+fn comes_back(rt: &impl Abort, alloc: Global, disk: MemDisk) -> Option<MemDisk> {
+    let Some(disk) = reloads_after(rt, alloc, differs(alloc, disk)) else {
+        return None;
     };
-    let Some(disk) = reloads_after(alloc, is_later(alloc, disk))? else {
-        return Ok(None);
+    let Some(disk) = reloads_after(rt, alloc, is_later(alloc, disk)) else {
+        return None;
     };
-    reloads_after(alloc, is_made(alloc, disk)?)
+    reloads_after(rt, alloc, is_made(rt, alloc, disk))
 }
 
-fn refusals_keep<R: Wait>(rt: &R, alloc: Global) -> Result<bool, NoMemory> {
-    match fed(rt, alloc)? {
-        Some(disk) => Ok(comes_back(alloc, disk)?.is_some()),
-        None => Ok(false),
+fn refusals_keep<R: Abort + Wait>(rt: &R, alloc: Global) -> bool {
+    match fed(rt, alloc) {
+        Some(disk) => comes_back(rt, alloc, disk).is_some(),
+        None => false,
     }
 }
 
 #[test]
-fn reload_same_answers(rt: HostRuntime) -> Result<(), Fail> {
-    assert!(rt; answers_are_same(&rt, rt.alloc())?);
-    assert!(rt; refusals_keep(&rt, rt.alloc())?);
-    Ok(())
+fn reload_same_answers(rt: HostRuntime) {
+    assert!(rt; answers_are_same(&rt, rt.alloc()));
+    assert!(rt; refusals_keep(&rt, rt.alloc()));
 }
 
 // Whether the snapshot has the update on its first date, and a second date with nothing in it.
-fn shows_one(alloc: Global, snapshot: &Snapshot, schema: &Schema) -> Result<bool, NoMemory>
+fn shows_one(rt: &impl Abort, alloc: Global, snapshot: &Snapshot, schema: &Schema) -> bool
     requires { snapshot.now.frame.schema ≡ schema.now }
 {
-    Ok(
-        snapshot.dates() == 2
-            && shows_symbols(alloc, snapshot, schema, 0, &["b"])?
-            && shows_symbols(alloc, snapshot, schema, 1, &[])?,
-    )
+    snapshot.dates() == 2
+        && shows_symbols(rt, alloc, snapshot, schema, 0, &["b"])
+        && shows_symbols(rt, alloc, snapshot, schema, 1, &[])
 }
 
 // Whether the plant opened a date five days later, with nothing in it.
-fn has_rolled(alloc: Global, plant: &Plant<MemDisk>) -> Result<bool, NoMemory> {
+fn has_rolled(rt: &impl Abort, alloc: Global, plant: &Plant<MemDisk>) -> bool {
     if plant.length() != 2 || plant.opened_at() != 2 || plant.date() != FIRST + 5 {
-        return Ok(false);
+        return false;
     }
-    let snapshot = plant.snapshot(alloc)?;
-    shows_one(alloc, &snapshot, plant.schema())
+    let snapshot = plant.snapshot(alloc).expect(rt, "memory");
+    shows_one(rt, alloc, &snapshot, plant.schema())
 }
 
 // The disk of a new plant after one update, closed.
-fn one_update<R: Wait>(rt: &R, alloc: Global) -> Result<Option<MemDisk>, NoMemory> {
-    let Some(mut solo) = new_solo(alloc)? else {
-        return Ok(None);
+fn one_update<R: Abort + Wait>(rt: &R, alloc: Global) -> Option<MemDisk> {
+    let Some(mut solo) = new_solo(alloc).expect(rt, "memory") else {
+        return None;
     };
-    let logged = logs(rt, alloc, &mut solo, FIRST_ROWS[0], NOW);
+    let logged = logs(rt, alloc, &mut solo, FIRST_ROWS[0], NOW).expect(rt, "memory");
     let disk = solo.into_plant().close();
-    if logged? { Ok(Some(disk)) } else { Ok(None) }
+    if logged { Some(disk) } else { None }
 }
 
 // Loads a plant of one update five days later.
-fn rolls_once(alloc: Global, disk: MemDisk) -> Result<bool, NoMemory> {
+fn rolls_once(rt: &impl Abort, alloc: Global, disk: MemDisk) -> bool {
     match loaded(alloc, disk, FIRST + 5) {
-        Some(plant) => has_rolled(alloc, &plant),
-        None => Ok(false),
+        Some(plant) => has_rolled(rt, alloc, &plant),
+        None => false,
     }
 }
 
-fn loads_later<R: Wait>(rt: &R, alloc: Global) -> Result<bool, NoMemory> {
-    match one_update(rt, alloc)? {
-        Some(disk) => rolls_once(alloc, disk),
-        None => Ok(false),
+fn loads_later<R: Abort + Wait>(rt: &R, alloc: Global) -> bool {
+    match one_update(rt, alloc) {
+        Some(disk) => rolls_once(rt, alloc, disk),
+        None => false,
     }
 }
 
 #[test]
-fn reload_days_later(rt: HostRuntime) -> Result<(), Fail> {
-    assert!(rt; loads_later(&rt, rt.alloc())?);
-    Ok(())
+fn reload_days_later(rt: HostRuntime) {
+    assert!(rt; loads_later(&rt, rt.alloc()));
 }

@@ -4,8 +4,8 @@ use program_outside::Outside;
 use std::alloc::Global;
 use std::io::{ErrorKind, Read, Write};
 use std::net::{TcpListener, TcpStream};
+use std::process::Abort;
 use std::sync::Wait;
-use std::test::Fail;
 use std::thread::Threads;
 use std::time::Duration;
 use std::{io, thread};
@@ -37,21 +37,51 @@ pub fn free_port(rt: &HostRuntime) -> io::Result<u16> {
 }
 
 /// Runs the program as `serve` of this many sessions on the port, over a plant in memory; gives its exit status.
-pub fn serve<R: Threads + Wait + Sync, O: Outside>(
+pub fn serve<R: Abort + Threads + Wait + Sync, O: Outside>(
     rt: &R,
     alloc: Global,
     port: u16,
     sessions: u32,
     outside: &mut O,
-) -> Result<u8, Fail> {
+) -> u8 {
     let mut words = Vec::new(alloc);
     for word in ["serve", "--port"] {
-        words.push(String::from_str(alloc, word)?)?;
+        words
+            .push(String::from_str(alloc, word).expect(rt, "failed"))
+            .expect(rt, "failed");
     }
-    words.push(format!(in alloc; "{port}")?)?;
-    words.push(String::from_str(alloc, "--sessions")?)?;
-    words.push(format!(in alloc; "{sessions}")?)?;
-    Ok(run(rt, alloc, &words, outside))
+    words
+        .push(format!(in alloc; "{port}").expect(rt, "failed"))
+        .expect(rt, "failed");
+    words
+        .push(String::from_str(alloc, "--sessions").expect(rt, "failed"))
+        .expect(rt, "failed");
+    words
+        .push(format!(in alloc; "{sessions}").expect(rt, "failed"))
+        .expect(rt, "failed");
+    run(rt, alloc, &words, outside)
+}
+
+/// What clients on a thread find of a plant in memory that serves this many sessions meanwhile, and then ends with status 0.
+pub fn served<T, F, R: Abort + Threads + Wait + Sync, O: Outside>(
+    threads: &R,
+    rt: &HostRuntime,
+    sessions: u32,
+    outside: &mut O,
+    clients: F,
+) -> T
+where
+    T: Send + Drop + 'static,
+    F: FnOnce(&HostRuntime, Global, u16) -> io::Result<T> + Send + Drop + 'static,
+    requires { F.IsAlwaysCallable clients }
+{
+    let (theirs, alloc) = (rt.clone().expect(threads, "failed"), rt.alloc());
+    let port = free_port(rt).expect(threads, "failed");
+    let found = thread::spawn(threads, move || clients(&theirs, alloc, port)).expect(
+        threads, "failed",
+    );
+    assert_eq!(threads; serve(threads, alloc, port, sessions, outside), 0);
+    found.join(threads).expect(threads, "failed")
 }
 
 /// A connection to the port, as soon as something listens on it.

@@ -1,9 +1,8 @@
 //! Many clients at once, and many one after the other.
-use crate::client::{count, free_port, greeted, serve, update};
+use crate::client::{count, greeted, served, update};
 use crate::planned::PlannedOutside;
 use plant_edge::Wakers;
 use std::alloc::Global;
-use std::test::Fail;
 use std::thread::{JoinHandle, Threads};
 use std::{io, thread};
 
@@ -43,16 +42,13 @@ fn crowd<R: Threads>(
 }
 
 #[test]
-fn fifty_clients_at_once(rt: HostRuntime) -> Result<(), Fail> {
-    let (theirs, alloc, port) = (rt.clone()?, rt.alloc(), free_port(&rt)?);
-    let clients = thread::spawn(&rt, move || crowd(&theirs, &theirs, alloc, port))?;
+fn fifty_clients_at_once(rt: HostRuntime) {
     let wakers = Wakers::new(rt.alloc());
     let mut outside = PlannedOutside::new(&rt, &wakers);
-    assert_eq!(rt; serve(&rt, alloc, port, 51, &mut outside)?, 0);
-    let (least, last) = clients.join(&rt)?;
+    let clients = |rt: &HostRuntime, alloc: Global, port: u16| crowd(rt, rt, alloc, port);
+    let (least, last) = served(&rt, &rt, 51, &mut outside, clients);
     assert!(rt; least >= u64::from(UPDATES), "{least} rows");
     assert_eq!(rt; last, 1_000);
-    Ok(())
 }
 
 /// Clients one after the other, each with one update.
@@ -68,12 +64,8 @@ fn queue(rt: &HostRuntime, alloc: Global, port: u16) -> io::Result<u64> {
 
 // Each session ends, is joined, and its connection is closed, before the last is accepted.
 #[test]
-fn three_hundred_clients_one_after_the_other(rt: HostRuntime) -> Result<(), Fail> {
-    let (theirs, alloc, port) = (rt.clone()?, rt.alloc(), free_port(&rt)?);
-    let clients = thread::spawn(&rt, move || queue(&theirs, alloc, port))?;
+fn three_hundred_clients_one_after_the_other(rt: HostRuntime) {
     let wakers = Wakers::new(rt.alloc());
     let mut outside = PlannedOutside::new(&rt, &wakers);
-    assert_eq!(rt; serve(&rt, alloc, port, 300, &mut outside)?, 0);
-    assert_eq!(rt; clients.join(&rt)?, 300);
-    Ok(())
+    assert_eq!(rt; served(&rt, &rt, 300, &mut outside, queue), 300);
 }

@@ -5,7 +5,6 @@ use plant_edge::Wakers;
 use std::alloc::Global;
 use std::sync::Arc;
 use std::sync::atomic::{AtomicBool, Ordering};
-use std::test::Fail;
 use std::time::Duration;
 use std::{io, thread};
 
@@ -21,18 +20,21 @@ fn two(rt: &HostRuntime, alloc: Global, port: u16) -> io::Result<u64> {
 }
 
 #[test]
-fn sessions_go_on_after_the_port_failed(rt: HostRuntime) -> Result<(), Fail> {
-    let (theirs, alloc, port) = (rt.clone()?, rt.alloc(), free_port(&rt)?);
-    let clients = thread::spawn(&rt, move || two(&theirs, alloc, port))?;
+fn sessions_go_on_after_the_port_failed(rt: HostRuntime) {
+    let (theirs, alloc, port) = (
+        rt.clone().expect(&rt, "failed"),
+        rt.alloc(),
+        free_port(&rt).expect(&rt, "failed"),
+    );
+    let clients = thread::spawn(&rt, move || two(&theirs, alloc, port)).expect(&rt, "failed");
     let wakers = Wakers::new(rt.alloc());
     let mut outside = PlannedOutside::failing_after(&rt, &wakers, 2);
-    assert_eq!(rt; serve(&rt, alloc, port, 3, &mut outside)?, 9);
-    assert_eq!(rt; clients.join(&rt)?, 200);
+    assert_eq!(rt; serve(&rt, alloc, port, 3, &mut outside), 9);
+    assert_eq!(rt; clients.join(&rt).expect(&rt, "failed"), 200);
     let line = format!(in alloc;
         "plant: cannot listen\nplant: port {port}: the system refused it\n"
-    )?;
+    ).expect(&rt, "failed");
     assert_eq!(rt; outside.errors(), line.as_bytes());
-    Ok(())
 }
 
 /// Waits until the flag is set, for ten seconds at most.
@@ -76,20 +78,30 @@ fn feed_beside(
 
 // A session is held while it evaluates a text, until another's update was answered. It answers over what it had seen: no row.
 #[test]
-fn gates_run_beside(rt: HostRuntime) -> Result<(), Fail> {
-    let (asks, feeds, alloc, port) = (rt.clone()?, rt.clone()?, rt.alloc(), free_port(&rt)?);
-    let has_connected = Arc::new(alloc, AtomicBool::new(false))?;
-    let was_answered = Arc::new(alloc, AtomicBool::new(false))?;
-    let (connected, answered) = (has_connected.clone()?, was_answered.clone()?);
+fn gates_run_beside(rt: HostRuntime) {
+    let (asks, feeds, alloc, port) = (
+        rt.clone().expect(&rt, "failed"),
+        rt.clone().expect(&rt, "failed"),
+        rt.alloc(),
+        free_port(&rt).expect(&rt, "failed"),
+    );
+    let has_connected = Arc::new(alloc, AtomicBool::new(false)).expect(&rt, "failed");
+    let was_answered = Arc::new(alloc, AtomicBool::new(false)).expect(&rt, "failed");
+    let (connected, answered) = (
+        has_connected.clone().expect(&rt, "failed"),
+        was_answered.clone().expect(&rt, "failed"),
+    );
     let wakers = Wakers::new(rt.alloc());
     let mut outside = PlannedOutside::holding_first(&rt, &wakers, was_answered);
-    let first = thread::spawn(&rt, move || ask_held(&asks, alloc, port, &has_connected))?;
+    let first = thread::spawn(&rt, move || ask_held(&asks, alloc, port, &has_connected)).expect(
+        &rt, "failed",
+    );
     let second = thread::spawn(&rt, move || {
         feed_beside(&feeds, alloc, port, &connected, &answered)
-    })?;
-    assert_eq!(rt; serve(&rt, alloc, port, 2, &mut outside)?, 0);
-    assert_eq!(rt; first.join(&rt)?, [0, 1]);
-    assert_eq!(rt; second.join(&rt)?, 1);
+    })
+    .expect(&rt, "failed");
+    assert_eq!(rt; serve(&rt, alloc, port, 2, &mut outside), 0);
+    assert_eq!(rt; first.join(&rt).expect(&rt, "failed"), [0, 1]);
+    assert_eq!(rt; second.join(&rt).expect(&rt, "failed"), 1);
     assert_eq!(rt; outside.errors(), b"".as_slice());
-    Ok(())
 }

@@ -1,13 +1,12 @@
 //! Clients that vanish, send half a message or rubbish, send nothing, or never read.
 use crate::client::{
-    GREETING, SELECT, UPDATE, connected, count, free_port, greeted, hangs_up, serve, update,
+    GREETING, SELECT, UPDATE, connected, count, greeted, hangs_up, served, update,
 };
 use crate::planned::PlannedOutside;
 use plant_edge::Wakers;
 use std::alloc::Global;
 use std::io::{ErrorKind, Write};
 use std::net::TcpStream;
-use std::test::Fail;
 use std::time::Duration;
 use std::{io, thread};
 
@@ -37,15 +36,11 @@ fn vanishing(rt: &HostRuntime, alloc: Global, port: u16) -> io::Result<u64> {
 }
 
 #[test]
-fn clients_that_vanish_end_their_own_sessions_alone(rt: HostRuntime) -> Result<(), Fail> {
-    let (theirs, alloc, port) = (rt.clone()?, rt.alloc(), free_port(&rt)?);
-    let clients = thread::spawn(&rt, move || vanishing(&theirs, alloc, port))?;
+fn clients_that_vanish_end_their_own_sessions_alone(rt: HostRuntime) {
     let wakers = Wakers::new(rt.alloc());
     let mut outside = PlannedOutside::new(&rt, &wakers);
-    assert_eq!(rt; serve(&rt, alloc, port, 5, &mut outside)?, 0);
-    let rows = clients.join(&rt)?;
+    let rows = served(&rt, &rt, 5, &mut outside, vanishing);
     assert!(rt; rows >= 10 && rows <= 110, "{rows} rows");
-    Ok(())
 }
 
 /// Clients that send what is no message: each is hung up, and another goes on.
@@ -76,14 +71,10 @@ fn rubbish(rt: &HostRuntime, alloc: Global, port: u16) -> io::Result<(u32, u64)>
 }
 
 #[test]
-fn rubbish_is_hung_up(rt: HostRuntime) -> Result<(), Fail> {
-    let (theirs, alloc, port) = (rt.clone()?, rt.alloc(), free_port(&rt)?);
-    let clients = thread::spawn(&rt, move || rubbish(&theirs, alloc, port))?;
+fn rubbish_is_hung_up(rt: HostRuntime) {
     let wakers = Wakers::new(rt.alloc());
     let mut outside = PlannedOutside::new(&rt, &wakers);
-    assert_eq!(rt; serve(&rt, alloc, port, 6, &mut outside)?, 0);
-    assert_eq!(rt; clients.join(&rt)?, (5, 4));
-    Ok(())
+    assert_eq!(rt; served(&rt, &rt, 6, &mut outside, rubbish), (5, 4));
 }
 
 /// Sends questions until no more can be sent for a while, since the answers aren't read.
@@ -118,14 +109,10 @@ fn deaf(rt: &HostRuntime, alloc: Global, port: u16) -> io::Result<(bool, u64)> {
 }
 
 #[test]
-fn a_client_that_never_reads_holds_up_nobody_else(rt: HostRuntime) -> Result<(), Fail> {
-    let (theirs, alloc, port) = (rt.clone()?, rt.alloc(), free_port(&rt)?);
-    let clients = thread::spawn(&rt, move || deaf(&theirs, alloc, port))?;
+fn a_client_that_never_reads_holds_up_nobody_else(rt: HostRuntime) {
     let wakers = Wakers::new(rt.alloc());
     let mut outside = PlannedOutside::new(&rt, &wakers);
-    assert_eq!(rt; serve(&rt, alloc, port, 2, &mut outside)?, 0);
-    assert_eq!(rt; clients.join(&rt)?, (true, 3_000));
-    Ok(())
+    assert_eq!(rt; served(&rt, &rt, 2, &mut outside, deaf), (true, 3_000));
 }
 
 /// A client that sends nothing at all for a while, beside one that is answered.
@@ -141,12 +128,8 @@ fn silent(rt: &HostRuntime, alloc: Global, port: u16) -> io::Result<u64> {
 }
 
 #[test]
-fn a_silent_client_is_waited_for(rt: HostRuntime) -> Result<(), Fail> {
-    let (theirs, alloc, port) = (rt.clone()?, rt.alloc(), free_port(&rt)?);
-    let clients = thread::spawn(&rt, move || silent(&theirs, alloc, port))?;
+fn a_silent_client_is_waited_for(rt: HostRuntime) {
     let wakers = Wakers::new(rt.alloc());
     let mut outside = PlannedOutside::new(&rt, &wakers);
-    assert_eq!(rt; serve(&rt, alloc, port, 2, &mut outside)?, 0);
-    assert_eq!(rt; clients.join(&rt)?, 2);
-    Ok(())
+    assert_eq!(rt; served(&rt, &rt, 2, &mut outside, silent), 2);
 }

@@ -1,15 +1,13 @@
 //! Clients that talk as they should.
 use crate::client::{
-    COUNT, GREETING, UPDATE, asked, connected, count, free_port, greeted, hangs_up, response,
-    serve, update,
+    COUNT, GREETING, UPDATE, asked, connected, count, greeted, hangs_up, response, served, update,
 };
 use crate::planned::PlannedOutside;
 use plant_edge::Wakers;
 use std::alloc::Global;
+use std::io;
 use std::io::{Read, Write};
 use std::net::Shutdown;
-use std::test::Fail;
-use std::{io, thread};
 
 /// One client asks, another's update is answered, and both ask.
 fn asks_and_asks(rt: &HostRuntime, alloc: Global, port: u16) -> io::Result<[u64; 3]> {
@@ -23,15 +21,11 @@ fn asks_and_asks(rt: &HostRuntime, alloc: Global, port: u16) -> io::Result<[u64;
 }
 
 #[test]
-fn told_before_asked(rt: HostRuntime) -> Result<(), Fail> {
-    let (theirs, alloc, port) = (rt.clone()?, rt.alloc(), free_port(&rt)?);
-    let clients = thread::spawn(&rt, move || asks_and_asks(&theirs, alloc, port))?;
+fn told_before_asked(rt: HostRuntime) {
     let wakers = Wakers::new(rt.alloc());
     let mut outside = PlannedOutside::new(&rt, &wakers);
-    assert_eq!(rt; serve(&rt, alloc, port, 2, &mut outside)?, 0);
-    assert_eq!(rt; clients.join(&rt)?, [0, 1, 1]);
+    assert_eq!(rt; served(&rt, &rt, 2, &mut outside, asks_and_asks), [0, 1, 1]);
     assert_eq!(rt; outside.errors(), b"".as_slice());
-    Ok(())
 }
 
 /// Sends the handshake, an update and a question byte by byte, and then says that it sends no more.
@@ -52,22 +46,27 @@ fn byte_by_byte(rt: &HostRuntime, alloc: Global, port: u16) -> io::Result<(usize
     Ok((done, rows, ended))
 }
 
+/// The same, and then another client, whose count of rows is the one that is given.
+fn byte_by_byte_and_another(
+    rt: &HostRuntime,
+    alloc: Global,
+    port: u16,
+) -> io::Result<(usize, u64, bool)> {
+    let (done, _rows, ended) = byte_by_byte(rt, alloc, port)?;
+    // The server waits for a second connection meanwhile.
+    let mut last = greeted(rt, port)?;
+    Ok((done, count(alloc, &mut last)?, ended))
+}
+
 // Where a client ends its side, the plant closes the connection within a moment, also while nobody else connects.
 #[test]
-fn single_bytes_and_a_half_closed_connection(rt: HostRuntime) -> Result<(), Fail> {
-    let (theirs, alloc, port) = (rt.clone()?, rt.alloc(), free_port(&rt)?);
-    let clients = thread::spawn(&rt, move || {
-        let mut talks = byte_by_byte(&theirs, alloc, port)?;
-        // The server waits for a second connection meanwhile.
-        let mut last = greeted(&theirs, port)?;
-        talks.1 = count(alloc, &mut last)?;
-        io::Result::Ok(talks)
-    })?;
+fn single_bytes_and_a_half_closed_connection(rt: HostRuntime) {
     let wakers = Wakers::new(rt.alloc());
     let mut outside = PlannedOutside::new(&rt, &wakers);
-    assert_eq!(rt; serve(&rt, alloc, port, 2, &mut outside)?, 0);
-    assert_eq!(rt; clients.join(&rt)?, (10, 1, true));
-    Ok(())
+    assert_eq!(rt;
+        served(&rt, &rt, 2, &mut outside, byte_by_byte_and_another),
+        (10, 1, true)
+    );
 }
 
 /// The text `exec count i from trade`, big-endian.
@@ -91,12 +90,8 @@ fn pipelined(rt: &HostRuntime, alloc: Global, port: u16) -> io::Result<(u64, boo
 }
 
 #[test]
-fn a_thousand_updates_in_one_write(rt: HostRuntime) -> Result<(), Fail> {
-    let (theirs, alloc, port) = (rt.clone()?, rt.alloc(), free_port(&rt)?);
-    let clients = thread::spawn(&rt, move || pipelined(&theirs, alloc, port))?;
+fn a_thousand_updates_in_one_write(rt: HostRuntime) {
     let wakers = Wakers::new(rt.alloc());
     let mut outside = PlannedOutside::new(&rt, &wakers);
-    assert_eq!(rt; serve(&rt, alloc, port, 1, &mut outside)?, 0);
-    assert_eq!(rt; clients.join(&rt)?, (1_000, true));
-    Ok(())
+    assert_eq!(rt; served(&rt, &rt, 1, &mut outside, pipelined), (1_000, true));
 }

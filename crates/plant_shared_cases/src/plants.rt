@@ -1,5 +1,5 @@
 //! A lock round a new plant of the built-in tables, and updates of `trade` through an access.
-ghost use Rattle.std.specs.Prelude.{◌≡◌, IfOk, IfSome, []};
+ghost use Rattle.std.specs.Prelude.{◌≡◌, IfSome, []};
 ghost use Rattle.plant_shared.specs.Shared.{IsPass};
 
 use day_rows::Schema;
@@ -10,9 +10,10 @@ use plant_core::{Access, UpdTurn};
 use plant_lock::PlantLock;
 use plant_memory::UpdRequest;
 use plant_shared::{Lock, PlantPass, Shared};
-use q_values::{Atom, Limits, NoMemory, Sym, Value, Values};
+use q_values::{Atom, Limits, Sym, Value, Values};
 use schema_text::built_in_schema;
 use std::alloc::Global;
+use std::process::Abort;
 use std::sync::{Arc, Wait};
 
 /// 2024.01.02, in days since 2000.01.01: the first date.
@@ -27,38 +28,44 @@ pub(crate) const NOW: i64 = 757_503_000_000_000_000;
 /// A lock round a plant over a disk in memory, a pass of it, and the plant's tables.
 pub(crate) type Opened = (Lock<MemDisk>, PlantPass<MemDisk>, Arc<Schema>);
 
-fn symbol(alloc: Global, name: &str) -> Result<Sym, NoMemory> {
-    match Sym::of(alloc, name.as_bytes()) {
-        Ok(symbol) => Ok(symbol),
-        Err(_) => Err(NoMemory),
-    }
+fn symbol(rt: &impl Abort, alloc: Global, name: &str) -> Sym {
+    Sym::of(alloc, name.as_bytes()).expect(rt, "memory")
 }
 
 /// An update of one row of `trade`.
-pub(crate) fn one_trade(alloc: Global) -> Result<UpdRequest, NoMemory> {
+pub(crate) fn one_trade(rt: &impl Abort, alloc: Global) -> UpdRequest {
     let mut items = Values::new(alloc);
-    items.push(Value::Atom(Atom::Timespan(NINE_THIRTY)))?;
-    items.push(Value::Atom(Atom::Symbol(symbol(alloc, "KX")?)))?;
-    items.push(Value::Atom(Atom::Long(10_050)))?;
-    items.push(Value::Atom(Atom::Long(200)))?;
-    Ok(UpdRequest {
-        table: symbol(alloc, "trade")?,
+    items
+        .push(Value::Atom(Atom::Timespan(NINE_THIRTY)))
+        .expect(rt, "memory");
+    items
+        .push(Value::Atom(Atom::Symbol(symbol(rt, alloc, "KX"))))
+        .expect(rt, "memory");
+    items
+        .push(Value::Atom(Atom::Long(10_050)))
+        .expect(rt, "memory");
+    items
+        .push(Value::Atom(Atom::Long(200)))
+        .expect(rt, "memory");
+    UpdRequest {
+        table: symbol(rt, alloc, "trade"),
         items,
-    })
+    }
 }
 
 /// A lock round a new plant, its first pass, and the tables; `None` where no number is left for a pass.
-pub(crate) fn opened<R>(rt: &R, alloc: Global) -> Result<Option<Opened>, NoMemory>
-    ensures { IfOk result (λ o. IfSome o (λ r. IsPass r.0.id r.1 × (r.1.mine ≡ []) × (r.2.value ≡ r.0.made.memory.frame.schema))) }
+pub(crate) fn opened<R: Abort>(rt: &R, alloc: Global) -> Option<Opened>
+    ensures { IfSome result (λ r. IsPass r.0.id r.1 × (r.1.mine ≡ []) × (r.2.value ≡ r.0.made.memory.frame.schema)) }
 {
-    let plant = new_plant(alloc, built_in_schema(alloc)?, FIRST, &Limits::standard())?;
-    let schema = plant.shared_schema(alloc)?;
+    let tables = built_in_schema(alloc).expect(rt, "memory");
+    let plant = new_plant(alloc, tables, FIRST, &Limits::standard()).expect(rt, "memory");
+    let schema = plant.shared_schema(alloc).expect(rt, "memory");
     let Some(first) = plant.first_pass() else {
-        return Ok(None);
+        return None;
     };
     match PlantLock::new(rt, alloc, plant, first) {
-        Ok((lock, pass)) => Ok(Some((lock, pass, schema))),
-        Err(_) => Err(NoMemory),
+        Ok((lock, pass)) => Some((lock, pass, schema)),
+        Err(_) => panic!(rt; "no memory"),
     }
 }
 
@@ -99,12 +106,13 @@ pub(crate) fn logs<D: Disk, R: Wait>(
 }
 
 /// The number of updates that an access finds.
-pub(crate) fn found<D: Disk, R: Wait>(
+pub(crate) fn found<D: Disk, R: Abort + Wait>(
     rt: &R,
     alloc: Global,
     session: &mut Shared<'_, D>,
-) -> Result<u64, NoMemory>
+) -> u64
     ensures { session.new.lock ≡ session.old.lock }
 {
-    Ok(session.snapshot(rt, alloc)?.updates_today())
+    let snapshot = session.snapshot(rt, alloc).expect(rt, "memory");
+    snapshot.updates_today()
 }

@@ -10,10 +10,9 @@ use outside_mem::MemDisk;
 use plant_core::Access;
 use plant_lock::Note;
 use plant_shared::{Lock, PlantGuard, PlantPass, Shared};
-use q_values::NoMemory;
 use std::alloc::Global;
+use std::process::Abort;
 use std::sync::{Arc, Wait};
-use std::test::Fail;
 use std::thread::{Threads, join};
 
 // How many snapshots a reader takes.
@@ -23,60 +22,56 @@ const READS: u32 = 200;
 const SELDOM: u32 = 500;
 
 // Whether a snapshot now has the entry with this index, and nothing but updates.
-fn holds<D: Disk, R: Wait>(
+fn holds<D: Disk, R: Abort + Wait>(
     rt: &R,
     alloc: Global,
     session: &mut Shared<'_, D>,
     place: u64,
-) -> Result<bool, NoMemory>
+) -> bool
     ensures { session.new.lock ≡ session.old.lock }
 {
-    let snapshot = session.snapshot(rt, alloc)?;
+    let snapshot = session.snapshot(rt, alloc).expect(rt, "memory");
     let length = snapshot.length();
-    Ok(length > place && snapshot.updates_today() == length)
+    length > place && snapshot.updates_today() == length
 }
 
 // Logs this many updates, and says whether each was logged, and found again where the feed looked.
-fn feed<D: Disk, R: Wait>(
+fn feed<D: Disk, R: Abort + Wait>(
     rt: &R,
     alloc: Global,
     session: &mut Shared<'_, D>,
     count: u32,
-) -> Result<bool, NoMemory>
+) -> bool
     ensures { session.new.lock ≡ session.old.lock }
 {
-    let request = one_trade(alloc)?;
+    let request = one_trade(rt, alloc);
     for i in 0..count {
         let Some(place) = logs(rt, alloc, session, &request) else {
-            return Ok(false);
+            return false;
         };
-        if i % SELDOM == 0 && !holds(rt, alloc, session, place)? {
-            return Ok(false);
+        if i % SELDOM == 0 && !holds(rt, alloc, session, place) {
+            return false;
         }
     }
-    Ok(true)
+    true
 }
 
 // Takes snapshots, and says whether each has nothing but updates, and no fewer than the one before it.
-fn read<D: Disk, R: Wait>(
-    rt: &R,
-    alloc: Global,
-    session: &mut Shared<'_, D>,
-) -> Result<bool, NoMemory> {
+fn read<D: Disk, R: Abort + Wait>(rt: &R, alloc: Global, session: &mut Shared<'_, D>) -> bool {
     let mut seen = 0;
     for _ in 0..READS {
-        let snapshot = session.snapshot(rt, alloc)?;
+        let snapshot = session.snapshot(rt, alloc).expect(rt, "memory");
         let length = snapshot.length();
         if length < seen || snapshot.updates_today() != length {
-            return Ok(false);
+            return false;
         }
         seen = length;
     }
-    Ok(true)
+    true
 }
 
 // One feed through a pass, and a note of what it has then seen.
-fn feed_as<D: Disk, R: Wait>(
+fn feed_as<D: Disk, R: Abort + Wait>(
     rt: &R,
     alloc: Global,
     lock: &Lock<D>,
@@ -88,16 +83,16 @@ fn feed_as<D: Disk, R: Wait>(
     requires schema { schema.now.value ≡ lock.now.made.memory.frame.schema }
     ensures { IfSome result (λ note. note.lock ≡ lock.now.id) }
 {
-    let mut session = Shared::new(lock, pass, schema.clone().ok()?);
-    match feed(rt, alloc, &mut session, count) {
-        Ok(true) => Some(lock.note(session.into_parts()).1),
-        Ok(false) => None,
-        Err(_) => None,
+    let mut session = Shared::new(lock, pass, schema.clone().expect(rt, "memory"));
+    if feed(rt, alloc, &mut session, count) {
+        Some(lock.note(session.into_parts()).1)
+    } else {
+        None
     }
 }
 
 // One reader through a pass.
-fn read_as<D: Disk, R: Wait>(
+fn read_as<D: Disk, R: Abort + Wait>(
     rt: &R,
     alloc: Global,
     lock: &Lock<D>,
@@ -107,17 +102,12 @@ fn read_as<D: Disk, R: Wait>(
     requires pass { IsPass lock.now.id pass × (pass.mine ≡ []) }
     requires schema { schema.now.value ≡ lock.now.made.memory.frame.schema }
 {
-    match schema.clone() {
-        Ok(schema) => {
-            let mut session = Shared::new(lock, pass, schema);
-            read(rt, alloc, &mut session) == Ok(true)
-        }
-        Err(_) => false,
-    }
+    let mut session = Shared::new(lock, pass, schema.clone().expect(rt, "memory"));
+    read(rt, alloc, &mut session)
 }
 
 // The note of a feed, where a reader beside it found nothing wrong.
-fn pair<K: PlantGuard + Sync, R: Threads + Wait + Sync>(
+fn pair<K: PlantGuard + Sync, R: Threads + Abort + Wait + Sync>(
     rt: &R,
     alloc: Global,
     lock: &K,
@@ -161,7 +151,7 @@ fn note_of_both<D: Disk>(
 }
 
 // A note of what two feeds have seen, each beside a reader.
-fn two_pairs<K: PlantGuard + Sync, R: Threads + Wait + Sync>(
+fn two_pairs<K: PlantGuard + Sync, R: Threads + Abort + Wait + Sync>(
     rt: &R,
     alloc: Global,
     lock: &K,
@@ -190,7 +180,7 @@ fn two_pairs<K: PlantGuard + Sync, R: Threads + Wait + Sync>(
 }
 
 // The same of four.
-fn four_pairs<K: PlantGuard + Sync, R: Threads + Wait + Sync>(
+fn four_pairs<K: PlantGuard + Sync, R: Threads + Abort + Wait + Sync>(
     rt: &R,
     alloc: Global,
     lock: &K,
@@ -228,61 +218,59 @@ struct Fed {
 }
 
 // What is left once the lock is closed by the pass that learnt of each feed.
-fn ended<R: Wait>(
+fn ended<R: Abort + Wait>(
     rt: &R,
     alloc: Global,
     lock: Lock<MemDisk>,
     pass: PlantPass<MemDisk>,
     schema: &Arc<Schema>,
     count: u32,
-) -> Result<Fed, NoMemory>
+) -> Fed
     requires pass { IsPass lock.id pass × (pass.mine ≡ []) }
     requires schema { schema.now.value ≡ lock.made.memory.frame.schema }
 {
-    let mut session = Shared::new(&lock, pass, schema.clone()?);
-    let found = found(rt, alloc, &mut session)?;
+    let mut session = Shared::new(&lock, pass, schema.clone().expect(rt, "memory"));
+    let found = found(rt, alloc, &mut session);
     let pass = session.into_parts();
     let plant = lock.close(rt, pass);
-    let made = made(alloc, plant.close(), FIRST, schema)?;
+    let made = made(rt, alloc, plant.close(), FIRST, schema);
     let feeds = match made {
         Some(made) => makers(&made, count),
         None => None,
     };
-    Ok(Fed { found, feeds })
+    Fed { found, feeds }
 }
 
 // Four feeds and four readers over a disk in memory; `None` where an update wasn't logged, or an answer lacked an entry
 // that its session had been told of.
-fn four_over_memory<R: Threads + Wait + Sync>(
+fn four_over_memory<R: Threads + Abort + Wait + Sync>(
     rt: &R,
     alloc: Global,
     count: u32,
-) -> Result<Option<Fed>, NoMemory> {
-    let Some((lock, pass, schema)) = opened(rt, alloc)? else {
-        return Ok(None);
+) -> Option<Fed> {
+    let Some((lock, pass, schema)) = opened(rt, alloc) else {
+        return None;
     };
     let (last, pass) = branch(rt, &lock, pass);
     let Some(note) = four_pairs(rt, alloc, &lock, pass, &schema, count) else {
-        return Ok(None);
+        return None;
     };
     let last = lock.learn(last, note);
-    Ok(Some(ended(rt, alloc, lock, last, &schema, count)?))
+    Some(ended(rt, alloc, lock, last, &schema, count))
 }
 
 // Each of four threads makes 50 updates. A pass that learnt their notes finds 200; the log has 50 updates of each of
 // four passes.
 #[test]
-fn four_threads_fifty_updates(rt: HostRuntime) -> Result<(), Fail> {
-    let fed = four_over_memory(&rt, rt.alloc(), 50)?.ok_or("an update that was logged")?;
+fn four_threads_fifty_updates(rt: HostRuntime) {
+    let fed = four_over_memory(&rt, rt.alloc(), 50).expect(&rt, "an update that was logged");
     assert_eq!(rt; fed.found, 200);
     assert_eq!(rt; fed.feeds, Some(4));
-    Ok(())
 }
 
 #[test]
-fn four_feeds_and_four_readers(rt: HostRuntime) -> Result<(), Fail> {
-    let fed = four_over_memory(&rt, rt.alloc(), 10_000)?.ok_or("an update that was logged")?;
+fn four_feeds_and_four_readers(rt: HostRuntime) {
+    let fed = four_over_memory(&rt, rt.alloc(), 10_000).expect(&rt, "an update that was logged");
     assert_eq!(rt; fed.found, 40_000);
     assert_eq!(rt; fed.feeds, Some(4));
-    Ok(())
 }

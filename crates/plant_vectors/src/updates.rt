@@ -1,9 +1,9 @@
 //! Sessions that update tables: dates, row order, and refusals.
-use q_values::{NANOSECONDS_PER_DAY, NoMemory, Turn};
+use q_values::{NANOSECONDS_PER_DAY, Turn};
 use session::End;
 use std::alloc::Global;
+use std::process::Abort;
 use std::sync::Wait;
-use std::test::Fail;
 use test_sessions::bytes::{
     ARRIVED, ASYNC_FLOAT, ASYNC_QUERY, ASYNC_THREE_SYMBOLS, ASYNC_UPDATE, BOTH_DATES, CHARACTERS,
     DONE, EMPTY_COLUMNS, FIRST, FOO, FOURTH, GREETED, LENGTH, LIMIT, LONG_BACK, LONG_FRONT,
@@ -21,7 +21,7 @@ const NONE_SHOWN: Turn = Turn::Answered { length: 0 };
 const ONE_SHOWN: Turn = Turn::Answered { length: 1 };
 
 #[test]
-fn arrival_within_open_date(rt: HostRuntime) -> Result<(), Fail> {
+fn arrival_within_open_date(rt: HostRuntime) {
     let wanted = Wanted {
         end: End::Closed,
         sent: &[GREETED, DONE, DONE, DONE, ARRIVED],
@@ -33,11 +33,12 @@ fn arrival_within_open_date(rt: HostRuntime) -> Result<(), Fail> {
             Turn::Answered { length: 3 },
         ],
     };
-    assert!(rt; messages_go(&rt, rt.alloc(), &[FIRST, SECOND, THIRD, QUERY], wanted)?);
-    Ok(())
+    assert!(rt;
+        messages_go(&rt, rt.alloc(), &[FIRST, SECOND, THIRD, QUERY], wanted).expect(&rt, "memory")
+    );
 }
 
-fn fourth_rolls<R: Wait>(rt: &R, alloc: Global) -> Result<bool, NoMemory> {
+fn fourth_rolls<R: Abort + Wait>(rt: &R, alloc: Global) -> bool {
     let next = NOW + NANOSECONDS_PER_DAY;
     let wanted = Wanted {
         end: End::Closed,
@@ -59,90 +60,80 @@ fn fourth_rolls<R: Wait>(rt: &R, alloc: Global) -> Result<bool, NoMemory> {
         ],
     };
     let messages = [FIRST, SECOND, THIRD, FOURTH, QUERY];
-    messages_go_at(rt, alloc, &[NOW, NOW, NOW, next], &messages, wanted)
+    messages_go_at(rt, alloc, &[NOW, NOW, NOW, next], &messages, wanted).expect(rt, "memory")
 }
 
 #[test]
-fn symbol_order_after_roll(rt: HostRuntime) -> Result<(), Fail> {
-    assert!(rt; fourth_rolls(&rt, rt.alloc())?);
-    Ok(())
+fn symbol_order_after_roll(rt: HostRuntime) {
+    assert!(rt; fourth_rolls(&rt, rt.alloc()));
 }
 
 /// Whether an update is logged, and this is then the answer to the query.
-fn is_shown<R: Wait>(rt: &R, alloc: Global, update: &[u8], shown: &[u8]) -> Result<bool, NoMemory> {
+fn is_shown<R: Abort + Wait>(rt: &R, alloc: Global, update: &[u8], shown: &[u8]) -> bool {
     let wanted = Wanted {
         end: End::Closed,
         sent: &[GREETED, DONE, shown],
         turns: &[GREETED_TURN, LOGGED_TURN, ONE_SHOWN],
     };
-    messages_go(rt, alloc, &[update, QUERY], wanted)
+    messages_go(rt, alloc, &[update, QUERY], wanted).expect(rt, "memory")
 }
 
 #[test]
-fn atom_spread_to_columns(rt: HostRuntime) -> Result<(), Fail> {
-    assert!(rt; is_shown(&rt, rt.alloc(), SPREAD, SPREAD_ROWS)?);
-    Ok(())
+fn atom_spread_to_columns(rt: HostRuntime) {
+    assert!(rt; is_shown(&rt, rt.alloc(), SPREAD, SPREAD_ROWS));
 }
 
 #[test]
-fn function_as_characters(rt: HostRuntime) -> Result<(), Fail> {
-    assert!(rt; is_shown(&rt, rt.alloc(), CHARACTERS, ONE_ROW)?);
-    Ok(())
+fn function_as_characters(rt: HostRuntime) {
+    assert!(rt; is_shown(&rt, rt.alloc(), CHARACTERS, ONE_ROW));
 }
 
 /// Where the time is missing, that of the clock becomes the first item.
 #[test]
-fn time_put_first(rt: HostRuntime) -> Result<(), Fail> {
-    assert!(rt; is_shown(&rt, rt.alloc(), WITHOUT_TIME, ONE_ROW)?);
-    Ok(())
+fn time_put_first(rt: HostRuntime) {
+    assert!(rt; is_shown(&rt, rt.alloc(), WITHOUT_TIME, ONE_ROW));
 }
 
 /// Whether an update at this moment is refused with this error, and changes nothing.
-fn is_refused_at<R: Wait>(
+fn is_refused_at<R: Abort + Wait>(
     rt: &R,
     alloc: Global,
     now: i64,
     update: &[u8],
     error: &[u8],
-) -> Result<bool, NoMemory> {
+) -> bool {
     let wanted = Wanted {
         end: End::Closed,
         sent: &[GREETED, error, NO_ROW],
         turns: &[GREETED_TURN, Turn::Refused { length: 0, now }, NONE_SHOWN],
     };
-    messages_go_at(rt, alloc, &[now], &[update, QUERY], wanted)
+    messages_go_at(rt, alloc, &[now], &[update, QUERY], wanted).expect(rt, "memory")
 }
 
-fn is_refused<R: Wait>(
-    rt: &R,
-    alloc: Global,
-    update: &[u8],
-    error: &[u8],
-) -> Result<bool, NoMemory> {
+fn is_refused<R: Abort + Wait>(rt: &R, alloc: Global, update: &[u8], error: &[u8]) -> bool {
     is_refused_at(rt, alloc, NOW, update, error)
 }
 
 /// The update whose symbol has 257 bytes.
-fn long_symbol(alloc: Global) -> Result<Vec<u8>, NoMemory> {
-    joined(alloc, &[LONG_FRONT, &[b'x'; 257], LONG_BACK])
+fn long_symbol(rt: &impl Abort, alloc: Global) -> Vec<u8> {
+    joined(alloc, &[LONG_FRONT, &[b'x'; 257], LONG_BACK]).expect(rt, "memory")
 }
 
-fn is_past_the_limit<R: Wait>(rt: &R, alloc: Global) -> Result<bool, NoMemory> {
-    let update = long_symbol(alloc)?;
+fn is_past_the_limit<R: Abort + Wait>(rt: &R, alloc: Global) -> bool {
+    let update = long_symbol(rt, alloc);
     is_refused(rt, alloc, update.as_slice(), LIMIT)
 }
 
 #[test]
-fn refused_updates(rt: HostRuntime) -> Result<(), Fail> {
-    assert!(rt; is_refused(&rt, rt.alloc(), OF_FOO, FOO)?);
-    assert!(rt; is_refused(&rt, rt.alloc(), OF_TWO, LENGTH)?);
-    assert!(rt; is_refused(&rt, rt.alloc(), OF_INT, TYPE)?);
-    assert!(rt; is_past_the_limit(&rt, rt.alloc())?);
-    assert!(rt; is_shown(&rt, rt.alloc(), EMPTY_COLUMNS, NO_ROW)?);
-    Ok(())
+fn refused_updates(rt: HostRuntime) {
+    assert!(rt; is_refused(&rt, rt.alloc(), OF_FOO, FOO));
+    assert!(rt; is_refused(&rt, rt.alloc(), OF_TWO, LENGTH));
+    assert!(rt; is_refused(&rt, rt.alloc(), OF_INT, TYPE));
+    assert!(rt; is_past_the_limit(&rt, rt.alloc()));
+    assert!(rt; is_shown(&rt, rt.alloc(), EMPTY_COLUMNS, NO_ROW));
 }
 
-fn earlier_clock_logs<R: Wait>(rt: &R, alloc: Global) -> Result<bool, NoMemory> {
+fn earlier_clock_logs<R: Abort + Wait>(rt: &R, alloc: Global) -> bool {
     let earlier = NOW - NANOSECONDS_PER_DAY;
     let wanted = Wanted {
         end: End::Closed,
@@ -156,41 +147,34 @@ fn earlier_clock_logs<R: Wait>(rt: &R, alloc: Global) -> Result<bool, NoMemory> 
             ONE_SHOWN,
         ],
     };
-    messages_go_at(rt, alloc, &[earlier], &[UPDATE, QUERY], wanted)
+    messages_go_at(rt, alloc, &[earlier], &[UPDATE, QUERY], wanted).expect(rt, "memory")
 }
 
 #[test]
-fn clock_beyond_one_day(rt: HostRuntime) -> Result<(), Fail> {
+fn clock_beyond_one_day(rt: HostRuntime) {
     let later = NOW + 2 * NANOSECONDS_PER_DAY;
-    assert!(rt; is_refused_at(&rt, rt.alloc(), later, UPDATE, MORE_THAN_ONE_DAY)?);
-    assert!(rt; earlier_clock_logs(&rt, rt.alloc())?);
-    Ok(())
+    assert!(rt; is_refused_at(&rt, rt.alloc(), later, UPDATE, MORE_THAN_ONE_DAY));
+    assert!(rt; earlier_clock_logs(&rt, rt.alloc()));
 }
 
 /// Whether a message is answered with the error `type` if at all, and the next one served.
-fn is_mistyped<R: Wait>(
-    rt: &R,
-    alloc: Global,
-    message: &[u8],
-    sent: &[&[u8]],
-) -> Result<bool, NoMemory> {
+fn is_mistyped<R: Abort + Wait>(rt: &R, alloc: Global, message: &[u8], sent: &[&[u8]]) -> bool {
     let wanted = Wanted {
         end: End::Closed,
         sent,
         turns: &[GREETED_TURN, Turn::Declined, NONE_SHOWN],
     };
-    messages_go(rt, alloc, &[message, QUERY], wanted)
+    messages_go(rt, alloc, &[message, QUERY], wanted).expect(rt, "memory")
 }
 
 #[test]
-fn update_of_three_symbols(rt: HostRuntime) -> Result<(), Fail> {
-    assert!(rt; is_mistyped(&rt, rt.alloc(), THREE_SYMBOLS, &[GREETED, TYPE, NO_ROW])?);
-    assert!(rt; is_mistyped(&rt, rt.alloc(), ASYNC_THREE_SYMBOLS, &[GREETED, NO_ROW])?);
-    Ok(())
+fn update_of_three_symbols(rt: HostRuntime) {
+    assert!(rt; is_mistyped(&rt, rt.alloc(), THREE_SYMBOLS, &[GREETED, TYPE, NO_ROW]));
+    assert!(rt; is_mistyped(&rt, rt.alloc(), ASYNC_THREE_SYMBOLS, &[GREETED, NO_ROW]));
 }
 
 #[test]
-fn counts_and_async(rt: HostRuntime) -> Result<(), Fail> {
+fn counts_and_async(rt: HostRuntime) {
     let wanted = Wanted {
         end: End::Closed,
         sent: &[GREETED, ONE_ROW],
@@ -203,6 +187,5 @@ fn counts_and_async(rt: HostRuntime) -> Result<(), Fail> {
         ],
     };
     let messages = [ASYNC_UPDATE, ASYNC_QUERY, ASYNC_FLOAT, QUERY];
-    assert!(rt; messages_go(&rt, rt.alloc(), &messages, wanted)?);
-    Ok(())
+    assert!(rt; messages_go(&rt, rt.alloc(), &messages, wanted).expect(&rt, "memory"));
 }

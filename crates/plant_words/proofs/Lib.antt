@@ -1,2 +1,3 @@
 pub mod OptionsLemmas
+pub mod SettingLemmas
 pub mod CommandLemmas

@@ -1,5 +1,5 @@
 //! Entries over the built-in schema, subscriptions to it, and their messages as text.
-ghost use Rattle.std.specs.Prelude.{◌≡◌, IfOk};
+ghost use Rattle.std.specs.Prelude.{◌≡◌};
 
 use day_rows::{Entries, Entry, Schema};
 use outside_api::TapMessage;
@@ -7,10 +7,10 @@ use pubsub::{
     SubRefusal, SubRequest, Subscription, TapMessages, Wanted, are_of_schema, messages_of,
 };
 use q_shown::push_value;
-use q_values::{Column, Columns, LongKind, NoMemory, Sym, Symbols, Value, Vector};
+use q_values::{Column, Columns, LongKind, Sym, Symbols, Value, Vector};
 use schema_text::built_in_schema;
 use std::alloc::Global;
-use std::test::Fail;
+use std::process::Abort;
 
 /// 2024.01.02, in days since 2000.01.01. It is open before the entries.
 pub(crate) const DATE: i32 = 8_767;
@@ -39,173 +39,187 @@ pub(crate) struct Ask<'a> {
 
 /// This many numbers, from the first on.
 pub(crate) fn counted(
+    rt: &impl Abort,
     alloc: Global,
     kind: LongKind,
     first: i64,
     count: usize,
-) -> Result<Vector, NoMemory> {
+) -> Vector {
     let mut items = Vec::new(alloc);
     let mut next = first;
     for _i in 0..count {
-        items.push(next)?;
+        items.push(next).expect(rt, "memory");
         next = next.wrapping_add(1);
     }
-    Ok(Vector::from_column(Column::Longs(kind, items)))
+    Vector::from_column(Column::Longs(kind, items))
 }
 
 /// An update of a table of the built-in schema: 0 for `quote`, 1 for `trade`.
 pub(crate) fn update(
+    rt: &impl Abort,
     alloc: Global,
     table: u32,
     symbols: Symbols,
     first: i64,
-) -> Result<Entry, NoMemory> {
+) -> Entry {
     let rows = symbols.len();
     let others = if table == 0 { 3 } else { 1 };
     let mut columns = Columns::new(alloc);
-    columns.push(counted(alloc, LongKind::Timespan, 0, rows)?)?;
-    columns.push(Vector::from_column(Column::Symbols(symbols)))?;
-    columns.push(counted(alloc, LongKind::Long, first, rows)?)?;
+    columns
+        .push(counted(rt, alloc, LongKind::Timespan, 0, rows))
+        .expect(rt, "memory");
+    columns
+        .push(Vector::from_column(Column::Symbols(symbols)))
+        .expect(rt, "memory");
+    columns
+        .push(counted(rt, alloc, LongKind::Long, first, rows))
+        .expect(rt, "memory");
     for _i in 0..others {
-        let sevens = vec![in alloc; 7i64; rows]?;
-        columns.push(Vector::from_column(Column::Longs(LongKind::Long, sevens)))?;
+        let sevens = vec![in alloc; 7i64; rows].expect(rt, "memory");
+        columns
+            .push(Vector::from_column(Column::Longs(LongKind::Long, sevens)))
+            .expect(rt, "memory");
     }
-    Ok(Entry::Upd {
+    Entry::Upd {
         by: 1,
         table,
         columns,
-    })
+    }
 }
 
 /// Symbols of these texts.
-pub(crate) fn symbols_of(alloc: Global, names: &[&[u8]]) -> Result<Symbols, Fail> {
+pub(crate) fn symbols_of(rt: &impl Abort, alloc: Global, names: &[&[u8]]) -> Symbols {
     let mut symbols = Symbols::new(alloc);
     for name in names {
-        let symbol = Sym::of(alloc, name)?;
-        symbols.push(symbol.bytes())?;
+        let symbol = Sym::of(alloc, name).expect(rt, "memory");
+        symbols.push(symbol.bytes()).expect(rt, "memory");
     }
-    Ok(symbols)
+    symbols
 }
 
-fn entry_of(alloc: Global, step: Step<'_>) -> Result<Entry, Fail> {
+fn entry_of(rt: &impl Abort, alloc: Global, step: Step<'_>) -> Entry {
     match step {
-        Step::Trade(names, first) => Ok(update(alloc, 1, symbols_of(alloc, names)?, first)?),
-        Step::Quote(names, first) => Ok(update(alloc, 0, symbols_of(alloc, names)?, first)?),
-        Step::Roll(date) => Ok(Entry::Roll { by: 1, date }),
-        Step::Fault => Ok(Entry::Fault { by: 1 }),
+        Step::Trade(names, first) => update(rt, alloc, 1, symbols_of(rt, alloc, names), first),
+        Step::Quote(names, first) => update(rt, alloc, 0, symbols_of(rt, alloc, names), first),
+        Step::Roll(date) => Entry::Roll { by: 1, date },
+        Step::Fault => Entry::Fault { by: 1 },
     }
 }
 
 /// The entries of these steps.
-pub(crate) fn entries_of(alloc: Global, steps: &[Step<'_>]) -> Result<Entries, Fail> {
+pub(crate) fn entries_of(rt: &impl Abort, alloc: Global, steps: &[Step<'_>]) -> Entries {
     let mut entries = Entries::new(alloc);
     for step in steps {
-        entries.push(entry_of(alloc, *step)?)?;
+        entries
+            .push(entry_of(rt, alloc, *step))
+            .expect(rt, "memory");
     }
-    Ok(entries)
+    entries
 }
 
 /// A request.
-pub(crate) fn request_of(alloc: Global, ask: Ask<'_>) -> Result<SubRequest, Fail> {
+pub(crate) fn request_of(rt: &impl Abort, alloc: Global, ask: Ask<'_>) -> SubRequest {
     let symbols = match ask.symbols {
-        Some(names) => Wanted::Symbols(symbols_of(alloc, names)?),
+        Some(names) => Wanted::Symbols(symbols_of(rt, alloc, names)),
         None => Wanted::Everything,
     };
-    Ok(SubRequest {
-        tables: Sym::of(alloc, ask.table)?,
+    SubRequest {
+        tables: Sym::of(alloc, ask.table).expect(rt, "memory"),
         symbols,
-    })
+    }
 }
 
 /// Whether the subscription took the request; it didn't where there is no such table.
-pub(crate) fn takes(subscription: &mut Subscription, request: &SubRequest) -> Result<bool, NoMemory>
+pub(crate) fn takes(rt: &impl Abort, subscription: &mut Subscription, request: &SubRequest) -> bool
     ensures { subscription.new.schema ≡ subscription.old.schema }
 {
     match subscription.set(request) {
-        Ok(()) => Ok(true),
-        Err(SubRefusal::NoTable(_)) => Ok(false),
-        Err(SubRefusal::NoMemory) => Err(NoMemory),
+        Ok(()) => true,
+        Err(SubRefusal::NoTable(_)) => false,
+        Err(SubRefusal::NoMemory) => panic!(rt; "no memory"),
     }
 }
 
 /// A subscription of this schema after these requests.
 pub(crate) fn subscribed(
+    rt: &impl Abort,
     alloc: Global,
     schema: &Schema,
     asks: &[Ask<'_>],
-) -> Result<Subscription, Fail>
-    ensures { IfOk result (λ subscription. subscription.schema ≡ schema.now) }
+) -> Subscription
+    ensures { result.schema ≡ schema.now }
 {
-    let mut subscription = Subscription::none(alloc, schema)?;
+    let mut subscription = Subscription::none(alloc, schema).expect(rt, "memory");
     for ask in asks {
-        let request = request_of(alloc, *ask)?;
-        let _taken = takes(&mut subscription, &request)?;
+        let request = request_of(rt, alloc, *ask);
+        let _taken = takes(rt, &mut subscription, &request);
     }
-    Ok(subscription)
+    subscription
 }
 
 fn tell(
+    rt: &impl Abort,
     alloc: Global,
     schema: &Schema,
     subscription: &Subscription,
     entries: &Entries,
     batch: bool,
-) -> Result<TapMessages, Fail>
+) -> TapMessages
     requires { subscription.now.schema ≡ schema.now }
 {
     if !are_of_schema(schema, entries) {
-        return Err(Fail::from("entries of another schema"));
+        panic!(rt; "entries of another schema");
     }
-    let found = messages_of(alloc, DATE, entries, schema, subscription, batch)?;
-    Ok(found)
+    messages_of(alloc, DATE, entries, schema, subscription, batch).expect(rt, "memory")
 }
 
 /// The messages for a subscription after these requests.
 pub(crate) fn told(
+    rt: &impl Abort,
     alloc: Global,
     asks: &[Ask<'_>],
     entries: &Entries,
     batch: bool,
-) -> Result<TapMessages, Fail> {
-    let schema = built_in_schema(alloc)?;
-    let subscription = subscribed(alloc, &schema, asks)?;
-    tell(alloc, &schema, &subscription, entries, batch)
+) -> TapMessages {
+    let schema = built_in_schema(alloc).expect(rt, "memory");
+    let subscription = subscribed(rt, alloc, &schema, asks);
+    tell(rt, alloc, &schema, &subscription, entries, batch)
 }
 
 /// The messages for a subscription after one request.
 pub(crate) fn told_after(
+    rt: &impl Abort,
     alloc: Global,
     request: &SubRequest,
     entries: &Entries,
     batch: bool,
-) -> Result<TapMessages, Fail> {
-    let schema = built_in_schema(alloc)?;
-    let mut subscription = Subscription::none(alloc, &schema)?;
-    let _taken = takes(&mut subscription, request)?;
-    tell(alloc, &schema, &subscription, entries, batch)
+) -> TapMessages {
+    let schema = built_in_schema(alloc).expect(rt, "memory");
+    let mut subscription = Subscription::none(alloc, &schema).expect(rt, "memory");
+    let _taken = takes(rt, &mut subscription, request);
+    tell(rt, alloc, &schema, &subscription, entries, batch)
 }
 
-fn push_shown(alloc: Global, out: &mut Vec<u8>, message: TapMessage) -> Result<(), Fail> {
+fn push_shown(rt: &impl Abort, alloc: Global, out: &mut Vec<u8>, message: TapMessage) {
     match message {
         TapMessage::Rows { table, rows } => {
-            out.extend_from_slice(table.bytes())?;
-            out.extend_from_slice(b" ")?;
-            push_value(alloc, out, &Value::Table(rows))?;
+            out.extend_from_slice(table.bytes()).expect(rt, "memory");
+            out.extend_from_slice(b" ").expect(rt, "memory");
+            push_value(alloc, out, &Value::Table(rows)).expect(rt, "memory");
         }
         TapMessage::End { date } => {
-            let text = format!(in alloc; "end {date}")?;
-            out.extend_from_slice(text.as_bytes())?;
+            let text = format!(in alloc; "end {date}").expect(rt, "memory");
+            out.extend_from_slice(text.as_bytes()).expect(rt, "memory");
         }
     }
-    out.extend_from_slice(b"\n")?;
-    Ok(())
+    out.extend_from_slice(b"\n").expect(rt, "memory");
 }
 
 /// Messages as text, a line each.
-pub(crate) fn shown(alloc: Global, messages: TapMessages) -> Result<Vec<u8>, Fail> {
+pub(crate) fn shown(rt: &impl Abort, alloc: Global, messages: TapMessages) -> Vec<u8> {
     let mut out = Vec::new(alloc);
     for message in messages.into_vec() {
-        push_shown(alloc, &mut out, message)?;
+        push_shown(rt, alloc, &mut out, message);
     }
-    Ok(out)
+    out
 }

@@ -4,7 +4,7 @@ use crate::spans::{Ask, DATE, Step, entries_of, request_of, shown, subscribed, t
 use pubsub::Subscription;
 use schema_text::built_in_schema;
 use std::alloc::Global;
-use std::test::Fail;
+use std::process::Abort;
 
 // Two dates: updates of both tables, one without rows, a fault, and symbols that are null or have nine bytes.
 const DAYS: [Step<'static>; 8] = [
@@ -68,51 +68,50 @@ const SYMBOLS: [(Option<&'static [&'static [u8]]>, &'static [u8]); 9] = [
 ];
 
 fn is_told(
+    rt: &impl Abort,
     alloc: Global,
     asks: &[Ask<'_>],
     steps: &[Step<'_>],
     batch: bool,
     wanted: &[u8],
-) -> Result<bool, Fail> {
-    let entries = entries_of(alloc, steps)?;
-    let messages = told(alloc, asks, &entries, batch)?;
-    let text = shown(alloc, messages)?;
-    Ok(text.as_slice() == wanted)
+) -> bool {
+    let entries = entries_of(rt, alloc, steps);
+    let messages = told(rt, alloc, asks, &entries, batch);
+    let text = shown(rt, alloc, messages);
+    text.as_slice() == wanted
 }
 
 #[test]
-fn symbols_of_a_table(rt: HostRuntime) -> Result<(), Fail> {
+fn symbols_of_a_table(rt: HostRuntime) {
     for (symbols, wanted) in SYMBOLS {
         let asks = [Ask {
             table: b"trade",
             symbols,
         }];
         assert!(rt;
-            is_told(rt.alloc(), &asks, &DAYS, false, wanted)?,
+            is_told(&rt, rt.alloc(), &asks, &DAYS, false, wanted),
             "{wanted:?}"
         );
     }
-    Ok(())
 }
 
 #[test]
-fn every_table(rt: HostRuntime) -> Result<(), Fail> {
+fn every_table(rt: HostRuntime) {
     let wanted = b"trade time=n[0 1] sym=s[a b] price=j[10 11] size=j[7 7]\n\
         quote time=n[0 1] sym=s[c a] bid=j[1 2] ask=j[7 7] bsize=j[7 7] asize=j[7 7]\n\
         trade time=n[0] sym=s[b] price=j[20] size=j[7]\n\
         end 8767\n\
         trade time=n[0 1 2] sym=s[ abcdefghi b] price=j[30 31 32] size=j[7 7 7]\n";
-    assert!(rt; is_told(rt.alloc(), &EVERYTHING, &DAYS, false, wanted)?);
-    Ok(())
+    assert!(rt; is_told(&rt, rt.alloc(), &EVERYTHING, &DAYS, false, wanted));
 }
 
 #[test]
-fn batches_of_dates(rt: HostRuntime) -> Result<(), Fail> {
+fn batches_of_dates(rt: HostRuntime) {
     let all = b"quote time=n[0 1] sym=s[c a] bid=j[1 2] ask=j[7 7] bsize=j[7 7] asize=j[7 7]\n\
         trade time=n[0 1 0] sym=s[a b b] price=j[10 11 20] size=j[7 7 7]\n\
         end 8767\n\
         trade time=n[0 1 2] sym=s[ abcdefghi b] price=j[30 31 32] size=j[7 7 7]\n";
-    assert!(rt; is_told(rt.alloc(), &EVERYTHING, &DAYS, true, all)?);
+    assert!(rt; is_told(&rt, rt.alloc(), &EVERYTHING, &DAYS, true, all));
     let asks = [Ask {
         table: b"",
         symbols: Some(&[b"b", b"c"]),
@@ -121,13 +120,12 @@ fn batches_of_dates(rt: HostRuntime) -> Result<(), Fail> {
         trade time=n[1 0] sym=s[b b] price=j[11 20] size=j[7 7]\n\
         end 8767\n\
         trade time=n[2] sym=s[b] price=j[32] size=j[7]\n";
-    assert!(rt; is_told(rt.alloc(), &asks, &DAYS, true, some)?);
-    Ok(())
+    assert!(rt; is_told(&rt, rt.alloc(), &asks, &DAYS, true, some));
 }
 
 // Asks one after the other: the last one of each table stands.
 #[test]
-fn requests_in_turn(rt: HostRuntime) -> Result<(), Fail> {
+fn requests_in_turn(rt: HostRuntime) {
     let asks = [
         Ask {
             table: b"",
@@ -148,87 +146,85 @@ fn requests_in_turn(rt: HostRuntime) -> Result<(), Fail> {
     ];
     let wanted =
         b"quote time=n[0 1] sym=s[c a] bid=j[1 2] ask=j[7 7] bsize=j[7 7] asize=j[7 7]\nend 8767\n";
-    assert!(rt; is_told(rt.alloc(), &asks, &DAYS, false, wanted)?);
-    Ok(())
+    assert!(rt; is_told(&rt, rt.alloc(), &asks, &DAYS, false, wanted));
 }
 
 #[test]
-fn nothing_is_told(rt: HostRuntime) -> Result<(), Fail> {
-    assert!(rt; is_told(rt.alloc(), &[], &DAYS, false, b"")?);
-    assert!(rt; is_told(rt.alloc(), &[], &DAYS, true, b"")?);
-    assert!(rt; is_told(rt.alloc(), &EVERYTHING, &[], true, b"")?);
-    Ok(())
+fn nothing_is_told(rt: HostRuntime) {
+    assert!(rt; is_told(&rt, rt.alloc(), &[], &DAYS, false, b""));
+    assert!(rt; is_told(&rt, rt.alloc(), &[], &DAYS, true, b""));
+    assert!(rt; is_told(&rt, rt.alloc(), &EVERYTHING, &[], true, b""));
 }
 
 #[test]
-fn two_rolls(rt: HostRuntime) -> Result<(), Fail> {
+fn two_rolls(rt: HostRuntime) {
     let steps = [Step::Roll(DATE + 1), Step::Roll(DATE + 5)];
     assert!(rt;
         is_told(
+            &rt,
             rt.alloc(),
             &EVERYTHING,
             &steps,
             false,
             b"end 8767\nend 8768\n"
-        )?
+        )
     );
     assert!(rt;
         is_told(
+            &rt,
             rt.alloc(),
             &EVERYTHING,
             &steps,
             true,
             b"end 8767\nend 8768\n"
-        )?
+        )
     );
-    Ok(())
 }
 
 // 17 updates make two messages, of 16 and of one; a fault among them doesn't count.
 #[test]
-fn batch_of_sixteen(rt: HostRuntime) -> Result<(), Fail> {
+fn batch_of_sixteen(rt: HostRuntime) {
     let alloc = rt.alloc();
     let mut steps = [Step::Trade(&[b"a"], 1); 18];
     steps[3] = Step::Fault;
-    let entries = entries_of(alloc, &steps)?;
-    let joined = told(alloc, &EVERYTHING, &entries, true)?;
-    let text = shown(alloc, joined)?;
+    let entries = entries_of(&rt, alloc, &steps);
+    let joined = told(&rt, alloc, &EVERYTHING, &entries, true);
+    let text = shown(&rt, alloc, joined);
     let wanted =
         b"trade time=n[0 0 0 0 0 0 0 0 0 0 0 0 0 0 0 0] sym=s[a a a a a a a a a a a a a a a a] \
         price=j[1 1 1 1 1 1 1 1 1 1 1 1 1 1 1 1] size=j[7 7 7 7 7 7 7 7 7 7 7 7 7 7 7 7]\n\
         trade time=n[0] sym=s[a] price=j[1] size=j[7]\n";
     assert!(rt; text.as_slice() == wanted.as_slice());
-    let each = told(alloc, &EVERYTHING, &entries, false)?;
+    let each = told(&rt, alloc, &EVERYTHING, &entries, false);
     assert_eq!(rt; each.len(), 17);
-    Ok(())
 }
 
 #[test]
-fn unknown_table(rt: HostRuntime) -> Result<(), Fail> {
+fn unknown_table(rt: HostRuntime) {
     let alloc = rt.alloc();
-    let schema = built_in_schema(alloc)?;
-    let mut subscription = subscribed(alloc, &schema, &[])?;
+    let schema = built_in_schema(alloc).expect(&rt, "memory");
+    let mut subscription = subscribed(&rt, alloc, &schema, &[]);
     let request = request_of(
+        &rt,
         alloc,
         Ask {
             table: b"trades",
             symbols: None,
         },
-    )?;
-    assert!(rt; !takes(&mut subscription, &request)?);
+    );
+    assert!(rt; !takes(&rt, &mut subscription, &request));
     assert!(rt; !subscription.is_any());
-    Ok(())
 }
 
 #[test]
-fn any_table(rt: HostRuntime) -> Result<(), Fail> {
+fn any_table(rt: HostRuntime) {
     let alloc = rt.alloc();
-    let schema = built_in_schema(alloc)?;
-    assert!(rt; !Subscription::none(alloc, &schema)?.is_any());
+    let schema = built_in_schema(alloc).expect(&rt, "memory");
+    let none = Subscription::none(alloc, &schema).expect(&rt, "memory");
+    assert!(rt; !none.is_any());
     let asks = [Ask {
         table: b"quote",
         symbols: Some(&[]),
     }];
-    assert!(rt; subscribed(alloc, &schema, &asks)?.is_any());
-    Ok(())
+    assert!(rt; subscribed(&rt, alloc, &schema, &asks).is_any());
 }

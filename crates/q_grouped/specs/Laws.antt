@@ -27,11 +27,14 @@ together kind x y = written kind (Some (stored x +ℤ stored y))
 -- a group's items of rows joined are those of both parts, in order
 abbrev pub GroupOfJoined : Type 0
 GroupOfJoined =
-    (g : ℕ) (codes others : List ℕ) (xs ys : List Atom) → length codes ≡ length xs → group_of g (codes ++ others) (xs ++ ys) ≡ group_of g codes xs ++ group_of g others ys
+    (g : ℕ) (codes others : List ℕ) (xs ys : List Atom) → length codes ≡ length xs
+    → group_of g (codes ++ others) (xs ++ ys) ≡ group_of g codes xs ++ group_of g others ys
 
 -- the count is both counts together
 abbrev pub CountOfJoined : Type 0
-CountOfJoined = (kind : Kind) (xs ys : List Atom) → aggregate_of u.Count kind (xs ++ ys) ≡ together k.Long (aggregate_of u.Count kind xs) (aggregate_of u.Count kind ys)
+CountOfJoined =
+    (kind : Kind) (xs ys : List Atom)
+    → aggregate_of u.Count kind (xs ++ ys) ≡ together k.Long (aggregate_of u.Count kind xs) (aggregate_of u.Count kind ys)
 
 -- the sum is both sums together, each as the number that it is stored as
 abbrev pub SumOfJoined : Type 0

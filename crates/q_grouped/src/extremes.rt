@@ -1,14 +1,30 @@
 //! The least and the greatest item of each group.
-ghost use Rattle.std.specs.Prelude.{◌≡◌, ◌<◌, length, All, IfOk, IsTrue};
+ghost use Rattle.std.specs.Prelude.{◌≡◌, ◌<◌, length, fold, All, IfOk, IsTrue};
 ghost use Rattle.q_values.specs.Column.{contents};
 ghost use Rattle.q_verbs.specs.Kinds.{is_number};
 ghost use Rattle.q_verbs.specs.declared.verb.Verb1.TheVariants as u;
-ghost use Rattle.q_grouped.specs.Grouped.{aggregates};
+ghost use Rattle.q_grouped.specs.Grouped.{aggregates, by_group};
 
-use crate::fold::{Slice, fold_by};
+use crate::fold::{Fold, Slice, fold_by};
 use crate::steps::{Greatest, Least};
 use q_values::{Column, NoMemory};
 use std::alloc::Global;
+
+/// For each group the state after its items in order, from `start`. States and items are of one type.
+fn folded<F: Fold<T, T>, T: Copy>(
+    alloc: Global,
+    start: T,
+    items: &[T],
+    codes: &[u32],
+    groups: u32,
+) -> Result<Vec<T>, NoMemory>
+    requires len { length codes.now ≡ length items.now }
+    requires codes { All (λ code. code < groups) codes.now }
+    ensures value { IfOk result (λ v. v.items ≡ by_group (fold F.next start) groups codes.now items.now) }
+    ensures fits { IfOk result (λ _. All (λ x. IsTrue (F.fits x)) items.now) }
+{
+    fold_by::<F, T, T, _>(alloc, start, &Slice { items }, codes, groups)
+}
 
 /// For each group the least of its items but the nulls; without one the greatest value of the kind, from which the loop
 /// starts.
@@ -27,38 +43,23 @@ pub(crate) fn min_by(
 {
     match column {
         Column::Booleans(items) => {
-            let items = Slice {
-                items: items.as_slice(),
-            };
-            let least = fold_by::<Least, bool, bool, _>(alloc, true, &items, codes, groups)?;
+            let least = folded::<Least, bool>(alloc, true, items.as_slice(), codes, groups)?;
             Ok(Column::Booleans(least))
         }
         Column::Bytes(kind, items) => {
-            let items = Slice {
-                items: items.as_slice(),
-            };
-            let least = fold_by::<Least, u8, u8, _>(alloc, u8::MAX, &items, codes, groups)?;
+            let least = folded::<Least, u8>(alloc, u8::MAX, items.as_slice(), codes, groups)?;
             Ok(Column::Bytes(*kind, least))
         }
         Column::Shorts(items) => {
-            let items = Slice {
-                items: items.as_slice(),
-            };
-            let least = fold_by::<Least, i16, i16, _>(alloc, i16::MAX, &items, codes, groups)?;
+            let least = folded::<Least, i16>(alloc, i16::MAX, items.as_slice(), codes, groups)?;
             Ok(Column::Shorts(least))
         }
         Column::Integers(kind, items) => {
-            let items = Slice {
-                items: items.as_slice(),
-            };
-            let least = fold_by::<Least, i32, i32, _>(alloc, i32::MAX, &items, codes, groups)?;
+            let least = folded::<Least, i32>(alloc, i32::MAX, items.as_slice(), codes, groups)?;
             Ok(Column::Integers(*kind, least))
         }
         Column::Longs(kind, items) => {
-            let items = Slice {
-                items: items.as_slice(),
-            };
-            let least = fold_by::<Least, i64, i64, _>(alloc, i64::MAX, &items, codes, groups)?;
+            let least = folded::<Least, i64>(alloc, i64::MAX, items.as_slice(), codes, groups)?;
             Ok(Column::Longs(*kind, least))
         }
         Column::Symbols(_) => unreachable!(),
@@ -82,38 +83,23 @@ pub(crate) fn max_by(
 {
     match column {
         Column::Booleans(items) => {
-            let items = Slice {
-                items: items.as_slice(),
-            };
-            let most = fold_by::<Greatest, bool, bool, _>(alloc, false, &items, codes, groups)?;
+            let most = folded::<Greatest, bool>(alloc, false, items.as_slice(), codes, groups)?;
             Ok(Column::Booleans(most))
         }
         Column::Bytes(kind, items) => {
-            let items = Slice {
-                items: items.as_slice(),
-            };
-            let most = fold_by::<Greatest, u8, u8, _>(alloc, 0, &items, codes, groups)?;
+            let most = folded::<Greatest, u8>(alloc, 0, items.as_slice(), codes, groups)?;
             Ok(Column::Bytes(*kind, most))
         }
         Column::Shorts(items) => {
-            let items = Slice {
-                items: items.as_slice(),
-            };
-            let most = fold_by::<Greatest, i16, i16, _>(alloc, -i16::MAX, &items, codes, groups)?;
+            let most = folded::<Greatest, i16>(alloc, -i16::MAX, items.as_slice(), codes, groups)?;
             Ok(Column::Shorts(most))
         }
         Column::Integers(kind, items) => {
-            let items = Slice {
-                items: items.as_slice(),
-            };
-            let most = fold_by::<Greatest, i32, i32, _>(alloc, -i32::MAX, &items, codes, groups)?;
+            let most = folded::<Greatest, i32>(alloc, -i32::MAX, items.as_slice(), codes, groups)?;
             Ok(Column::Integers(*kind, most))
         }
         Column::Longs(kind, items) => {
-            let items = Slice {
-                items: items.as_slice(),
-            };
-            let most = fold_by::<Greatest, i64, i64, _>(alloc, -i64::MAX, &items, codes, groups)?;
+            let most = folded::<Greatest, i64>(alloc, -i64::MAX, items.as_slice(), codes, groups)?;
             Ok(Column::Longs(*kind, most))
         }
         Column::Symbols(_) => unreachable!(),

@@ -11,9 +11,8 @@ use qsql_eval::{Rows, Typed, check, eval};
 use qsql_parse::parse;
 use qsql_request::{Col, Query, Request, name_of_column};
 use schema_text::built_in_schema;
-use std::alloc::{AllocError, Global};
+use std::alloc::Global;
 use std::process::Abort;
-use std::test::Fail;
 
 // How many texts are answered.
 const WANTED: u32 = 1000;
@@ -33,50 +32,52 @@ fn stored(kind: Kind, number: i64) -> i64 {
     }
 }
 
-fn push_number(
-    alloc: Global,
-    out: &mut Vec<u8>,
-    kind: Kind,
-    number: i64,
-) -> Result<(), AllocError> {
+// Puts these bytes at the end of a text.
+pub(crate) fn put(rt: &impl Abort, out: &mut Vec<u8>, bytes: &[u8]) {
+    out.extend_from_slice(bytes).expect(rt, "memory");
+}
+
+fn push_number(rt: &impl Abort, alloc: Global, out: &mut Vec<u8>, kind: Kind, number: i64) {
     if kind == Kind::Symbol {
-        return match u8::try_from(number) {
-            Ok(letter) if letter > 0 => Ok(out.push(letter)?),
-            _ => Ok(()),
-        };
+        match u8::try_from(number) {
+            Ok(letter) if letter > 0 => out.push(letter).expect(rt, "memory"),
+            _ => {}
+        }
+        return;
     }
     let number = stored(kind, number);
-    let text = format!(in alloc; "{number}")?;
-    out.extend_from_slice(text.as_bytes())
+    let text = format!(in alloc; "{number}").expect(rt, "memory");
+    put(rt, out, text.as_bytes());
 }
 
 pub(crate) fn push_list(
+    rt: &impl Abort,
     alloc: Global,
     out: &mut Vec<u8>,
     kind: Kind,
     items: &[i64],
-) -> Result<(), AllocError> {
-    out.extend_from_slice(letter(kind))?;
-    out.extend_from_slice(b"[")?;
+) {
+    put(rt, out, letter(kind));
+    put(rt, out, b"[");
     let mut is_first = true;
     for item in items {
         if !is_first {
-            out.extend_from_slice(b" ")?;
+            put(rt, out, b" ");
         }
         is_first = false;
-        push_number(alloc, out, kind, *item)?;
+        push_number(rt, alloc, out, kind, *item);
     }
-    out.extend_from_slice(b"]")
+    put(rt, out, b"]")
 }
 
-fn push_slow(alloc: Global, out: &mut Vec<u8>, value: &Slow) -> Result<(), AllocError> {
+fn push_slow(rt: &impl Abort, alloc: Global, out: &mut Vec<u8>, value: &Slow) {
     match (value.is_atom, value.items.first()) {
         (true, Some(number)) => {
-            out.extend_from_slice(letter(value.kind))?;
-            out.extend_from_slice(b":")?;
-            push_number(alloc, out, value.kind, *number)
+            put(rt, out, letter(value.kind));
+            put(rt, out, b":");
+            push_number(rt, alloc, out, value.kind, *number)
         }
-        _ => push_list(alloc, out, value.kind, &value.items),
+        _ => push_list(rt, alloc, out, value.kind, &value.items),
     }
 }
 
@@ -95,18 +96,19 @@ fn limited<'a>(items: &'a [i64], first: &Option<i64>) -> &'a [i64] {
 
 // A column of a `select`: an atom is in each of the rows.
 fn push_column(
+    rt: &impl Abort,
     alloc: Global,
     out: &mut Vec<u8>,
     value: &Slow,
     count: usize,
     first: &Option<i64>,
-) -> Result<(), AllocError> {
+) {
     match (value.is_atom, value.items.first()) {
         (true, Some(number)) => {
-            let many = vec![in alloc; *number; count]?;
-            push_list(alloc, out, value.kind, limited(&many, first))
+            let many = vec![in alloc; *number; count].expect(rt, "memory");
+            push_list(rt, alloc, out, value.kind, limited(&many, first))
         }
-        _ => push_list(alloc, out, value.kind, limited(&value.items, first)),
+        _ => push_list(rt, alloc, out, value.kind, limited(&value.items, first)),
     }
 }
 
@@ -120,28 +122,32 @@ fn is_every_atom(values: &[Slow]) -> bool {
 }
 
 pub(crate) fn values_of(
+    rt: &impl Abort,
     alloc: Global,
     columns: &[Col],
     rows: &Rows,
     kept: &[usize],
-) -> Result<Vec<Slow>, AllocError> {
+) -> Vec<Slow> {
     let mut values = Vec::new(alloc);
     for column in columns {
-        values.push(value_of(alloc, &column.expr, rows, kept)?)?;
+        values
+            .push(value_of(rt, alloc, &column.expr, rows, kept))
+            .expect(rt, "memory");
     }
-    Ok(values)
+    values
 }
 
 // A `select` that names its columns.
 fn push_select(
+    rt: &impl Abort,
     alloc: Global,
     out: &mut Vec<u8>,
     query: &Query,
     rows: &Rows,
     kept: &[usize],
-) -> Result<(), AllocError> {
+) {
     let columns = query.columns.as_slice();
-    let values = values_of(alloc, columns, rows, kept)?;
+    let values = values_of(rt, alloc, columns, rows, kept);
     let count = if is_every_atom(&values) {
         1
     } else {
@@ -150,50 +156,49 @@ fn push_select(
     let mut is_first = true;
     for (column, value) in columns.iter().zip(values.iter()) {
         if !is_first {
-            out.extend_from_slice(b" ")?;
+            put(rt, out, b" ");
         }
         is_first = false;
-        out.extend_from_slice(name_of_column(column))?;
-        out.extend_from_slice(b"=")?;
-        push_column(alloc, out, value, count, &query.first)?;
+        put(rt, out, name_of_column(column));
+        put(rt, out, b"=");
+        push_column(rt, alloc, out, value, count, &query.first);
     }
-    Ok(())
 }
 
 // A `select` that names no columns: those of `trade` after `date`.
 fn push_every_column(
+    rt: &impl Abort,
     alloc: Global,
     out: &mut Vec<u8>,
     query: &Query,
     rows: &Rows,
     kept: &[usize],
-) -> Result<(), AllocError> {
+) {
     let texts: [&[u8]; 5] = [b"date", b"time", b"sym", b"price", b"size"];
     let mut is_first = true;
     for text in texts {
         if !is_first {
-            out.extend_from_slice(b" ")?;
+            put(rt, out, b" ");
         }
         is_first = false;
-        out.extend_from_slice(text)?;
-        out.extend_from_slice(b"=")?;
-        let value = column_of(alloc, rows, text, kept)?;
-        push_column(alloc, out, &value, kept.len(), &query.first)?;
+        put(rt, out, text);
+        put(rt, out, b"=");
+        let value = column_of(rt, alloc, rows, text, kept);
+        push_column(rt, alloc, out, &value, kept.len(), &query.first);
     }
-    Ok(())
 }
 
-fn push_names(out: &mut Vec<u8>, columns: &[Col]) -> Result<(), AllocError> {
-    out.extend_from_slice(b"s[")?;
+fn push_names(rt: &impl Abort, out: &mut Vec<u8>, columns: &[Col]) {
+    put(rt, out, b"s[");
     let mut is_first = true;
     for column in columns {
         if !is_first {
-            out.extend_from_slice(b" ")?;
+            put(rt, out, b" ");
         }
         is_first = false;
-        out.extend_from_slice(name_of_column(column))?;
+        put(rt, out, name_of_column(column));
     }
-    out.extend_from_slice(b"]!")
+    put(rt, out, b"]!")
 }
 
 // The kind of values that are all atoms of one kind.
@@ -207,117 +212,118 @@ fn one_kind(values: &[Slow]) -> Option<Kind> {
     Some(kind)
 }
 
-fn push_together(alloc: Global, out: &mut Vec<u8>, values: &[Slow]) -> Result<(), AllocError> {
+fn push_together(rt: &impl Abort, alloc: Global, out: &mut Vec<u8>, values: &[Slow]) {
     match one_kind(values) {
         Some(kind) => {
             let mut items = Vec::new(alloc);
             for value in values {
-                items.extend_from_slice(&value.items)?;
+                items.extend_from_slice(&value.items).expect(rt, "memory");
             }
-            push_list(alloc, out, kind, &items)
+            push_list(rt, alloc, out, kind, &items)
         }
         None => {
             for value in values {
-                push_slow(alloc, out, value)?;
-                out.extend_from_slice(b";")?;
+                push_slow(rt, alloc, out, value);
+                put(rt, out, b";");
             }
-            Ok(())
         }
     }
 }
 
 fn push_exec(
+    rt: &impl Abort,
     alloc: Global,
     out: &mut Vec<u8>,
     query: &Query,
     rows: &Rows,
     kept: &[usize],
-) -> Result<(), AllocError> {
+) {
     let columns = query.columns.as_slice();
-    let values = values_of(alloc, columns, rows, kept)?;
+    let values = values_of(rt, alloc, columns, rows, kept);
     if let [value] = values.as_slice() {
-        return push_slow(alloc, out, value);
+        push_slow(rt, alloc, out, value);
+        return;
     }
-    push_names(out, columns)?;
-    push_together(alloc, out, &values)
+    push_names(rt, out, columns);
+    push_together(rt, alloc, out, &values)
 }
 
-fn slow_answer(alloc: Global, query: &Query, rows: &Rows) -> Result<Vec<u8>, AllocError> {
+fn slow_answer(rt: &impl Abort, alloc: Global, query: &Query, rows: &Rows) -> Vec<u8> {
     let mut out = Vec::new(alloc);
-    let kept = kept_rows(alloc, query.phrases.as_slice(), rows, COUNT)?;
+    let kept = kept_rows(rt, alloc, query.phrases.as_slice(), rows, COUNT);
     if !query.by.is_empty() {
-        push_by(alloc, &mut out, query, rows, &kept)?;
+        push_by(rt, alloc, &mut out, query, rows, &kept);
     } else if query.exec {
-        push_exec(alloc, &mut out, query, rows, &kept)?;
+        push_exec(rt, alloc, &mut out, query, rows, &kept);
     } else if query.columns.is_empty() {
-        push_every_column(alloc, &mut out, query, rows, &kept)?;
+        push_every_column(rt, alloc, &mut out, query, rows, &kept);
     } else {
-        push_select(alloc, &mut out, query, rows, &kept)?;
+        push_select(rt, alloc, &mut out, query, rows, &kept);
     }
-    Ok(out)
+    out
 }
 
-fn answer(alloc: Global, typed: &Typed, rows: &Rows) -> Result<Vec<u8>, Fail> {
-    if !typed.fits(alloc, rows)? {
-        return Err(Fail::from("rows without the columns"));
+fn answer(rt: &impl Abort, alloc: Global, typed: &Typed, rows: &Rows) -> Vec<u8> {
+    if !typed.fits(alloc, rows).expect(rt, "memory") {
+        panic!(rt; "rows without the columns");
     }
-    let value = eval(alloc, typed, rows)?;
+    let value = eval(alloc, typed, rows).expect(rt, "memory");
     let mut out = Vec::new(alloc);
-    push_value(alloc, &mut out, &value)?;
-    Ok(out)
+    push_value(alloc, &mut out, &value).expect(rt, "memory");
+    out
 }
 
 // Whether both answers to the text are equal; `None` where the text is refused.
 fn is_same_answer(
+    rt: &impl Abort,
     alloc: Global,
     schema: &Schema,
     rows: &Rows,
     text: &[u8],
-) -> Result<Option<bool>, Fail> {
+) -> Option<bool> {
     let Ok(request) = parse(alloc, text) else {
-        return Ok(None);
+        return None;
     };
     let Request::Query(query) = &request else {
-        return Ok(None);
+        return None;
     };
     let Ok(typed) = check(alloc, query, schema) else {
-        return Ok(None);
+        return None;
     };
-    let found = answer(alloc, &typed, rows)?;
-    let wanted = slow_answer(alloc, query, rows)?;
-    Ok(Some(found == wanted))
+    let found = answer(rt, alloc, &typed, rows);
+    let wanted = slow_answer(rt, alloc, query, rows);
+    Some(found == wanted)
 }
 
 // Stops unless as many texts as are wanted are answered, of those that these seeds make.
-fn assert_answered(rt: &impl Abort, alloc: Global, has_by: bool) -> Result<(), Fail> {
-    let schema = built_in_schema(alloc)?;
-    let rows = rows(alloc)?;
+fn assert_answered(rt: &impl Abort, alloc: Global, has_by: bool) {
+    let schema = built_in_schema(alloc).expect(rt, "memory");
+    let rows = rows(rt, alloc);
     let mut answered = 0u32;
     for seed in 0..MOST {
         let mut texts = Texts::new(alloc, seed);
         if has_by {
-            texts.query_by()?;
+            texts.query_by(rt);
         } else {
-            texts.query()?;
+            texts.query(rt);
         }
         if answered == WANTED {
-            return Ok(());
+            return;
         }
-        if let Some(is_same) = is_same_answer(alloc, &schema, &rows, &texts.text)? {
+        if let Some(is_same) = is_same_answer(rt, alloc, &schema, &rows, &texts.text) {
             assert!(rt; is_same, "the text of seed {seed} has two answers");
             answered = answered.saturating_add(1);
         }
     }
     assert!(rt; answered == WANTED, "{answered} texts were answered");
-    Ok(())
 }
 
 #[test]
-fn a_thousand_texts(rt: HostRuntime) -> Result<(), Fail> {
+fn a_thousand_texts(rt: HostRuntime) {
     assert_answered(&rt, rt.alloc(), false)
 }
 
 #[test]
-fn a_thousand_texts_with_by(rt: HostRuntime) -> Result<(), Fail> {
+fn a_thousand_texts_with_by(rt: HostRuntime) {
     assert_answered(&rt, rt.alloc(), true)
 }

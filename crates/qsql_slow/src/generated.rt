@@ -4,7 +4,8 @@
 //! so that a text can be read without knowing that q reads from right to left. Some texts have a form that the language
 //! refuses, as a phrase without a column.
 
-use std::alloc::{AllocError, Global};
+use std::alloc::Global;
+use std::process::Abort;
 
 const LEAVES: [&[u8]; 16] = [
     b"price",
@@ -111,218 +112,216 @@ impl Texts {
         }
     }
 
-    fn put(&mut self, text: &[u8]) -> Result<(), AllocError> {
-        self.text.extend_from_slice(text)
+    fn put(&mut self, rt: &impl Abort, text: &[u8]) {
+        self.text.extend_from_slice(text).expect(rt, "memory");
     }
 
     // One of these.
-    fn pick(&mut self, texts: &[&[u8]]) -> Result<(), AllocError> {
+    fn pick(&mut self, rt: &impl Abort, texts: &[&[u8]]) {
         let count = u32::try_from(texts.len()).unwrap_or(0);
         let index = self.next(count) as usize;
         match texts.get(index) {
-            Some(text) => self.put(text),
-            None => Ok(()),
+            Some(text) => self.put(rt, text),
+            None => {}
         }
     }
 
-    fn leaf(&mut self) -> Result<(), AllocError> {
-        self.pick(&LEAVES)
+    fn leaf(&mut self, rt: &impl Abort) {
+        self.pick(rt, &LEAVES)
     }
 
     // A number of at most two leaves.
-    fn small(&mut self) -> Result<(), AllocError> {
+    fn small(&mut self, rt: &impl Abort) {
         match self.next(6) {
-            0 => self.leaf(),
+            0 => self.leaf(rt),
             1 => {
-                self.put(b"neg ")?;
-                self.leaf()
+                self.put(rt, b"neg ");
+                self.leaf(rt)
             }
             _ => {
-                self.put(b"(")?;
-                self.leaf()?;
-                self.put(b")")?;
-                self.pick(&OPERATORS)?;
-                self.put(b"(")?;
-                self.leaf()?;
-                self.put(b")")
+                self.put(rt, b"(");
+                self.leaf(rt);
+                self.put(rt, b")");
+                self.pick(rt, &OPERATORS);
+                self.put(rt, b"(");
+                self.leaf(rt);
+                self.put(rt, b")")
             }
         }
     }
 
     // A number of at most four leaves.
-    fn number(&mut self) -> Result<(), AllocError> {
+    fn number(&mut self, rt: &impl Abort) {
         match self.next(5) {
-            0 => self.small(),
+            0 => self.small(rt),
             1 => {
-                self.pick(&AGGREGATES)?;
-                self.small()
+                self.pick(rt, &AGGREGATES);
+                self.small(rt)
             }
-            2 => self.leaf(),
+            2 => self.leaf(rt),
             _ => {
-                self.put(b"(")?;
-                self.small()?;
-                self.put(b")")?;
-                self.pick(&OPERATORS)?;
-                self.put(b"(")?;
-                self.small()?;
-                self.put(b")")
+                self.put(rt, b"(");
+                self.small(rt);
+                self.put(rt, b")");
+                self.pick(rt, &OPERATORS);
+                self.put(rt, b"(");
+                self.small(rt);
+                self.put(rt, b")")
             }
         }
     }
 
-    fn comparison(&mut self) -> Result<(), AllocError> {
-        self.put(b"(")?;
-        self.small()?;
-        self.put(b")")?;
-        self.pick(&COMPARISONS)?;
-        self.put(b"(")?;
-        self.number()?;
-        self.put(b")")
+    fn comparison(&mut self, rt: &impl Abort) {
+        self.put(rt, b"(");
+        self.small(rt);
+        self.put(rt, b")");
+        self.pick(rt, &COMPARISONS);
+        self.put(rt, b"(");
+        self.number(rt);
+        self.put(rt, b")")
     }
 
-    fn test(&mut self) -> Result<(), AllocError> {
+    fn test(&mut self, rt: &impl Abort) {
         match self.next(5) {
             0 => {
-                self.put(b"(")?;
-                self.number()?;
-                self.put(b") within 0 50")
+                self.put(rt, b"(");
+                self.number(rt);
+                self.put(rt, b") within 0 50")
             }
-            1 => self.comparison(),
-            _ => self.pick(&TESTS),
+            1 => self.comparison(rt),
+            _ => self.pick(rt, &TESTS),
         }
     }
 
-    fn phrase(&mut self) -> Result<(), AllocError> {
+    fn phrase(&mut self, rt: &impl Abort) {
         match self.next(6) {
             0 => {
-                self.put(b"not ")?;
-                self.test()
+                self.put(rt, b"not ");
+                self.test(rt)
             }
             1 => {
-                self.put(b"(")?;
-                self.test()?;
+                self.put(rt, b"(");
+                self.test(rt);
                 let joins: [&[u8]; 2] = [b")&(", b")|("];
-                self.pick(&joins)?;
-                self.test()?;
-                self.put(b")")
+                self.pick(rt, &joins);
+                self.test(rt);
+                self.put(rt, b")")
             }
-            _ => self.test(),
+            _ => self.test(rt),
         }
     }
 
     // A column with the name `a`, `b` or `c`.
-    fn column(&mut self, name: u8, has_lists: bool) -> Result<(), AllocError> {
-        self.put(&[name, b':'])?;
+    fn column(&mut self, rt: &impl Abort, name: u8, has_lists: bool) {
+        self.put(rt, &[name, b':']);
         match self.next(8) {
-            0 => self.pick(&SHOWN),
-            1 => self.test(),
+            0 => self.pick(rt, &SHOWN),
+            1 => self.test(rt),
             2 => if has_lists {
-                self.pick(&LISTS)
+                self.pick(rt, &LISTS)
             } else {
-                self.small()
+                self.small(rt)
             },
-            _ => self.number(),
+            _ => self.number(rt),
         }
     }
 
-    fn columns(&mut self, has_lists: bool) -> Result<(), AllocError> {
-        self.column(b'a', has_lists)?;
+    fn columns(&mut self, rt: &impl Abort, has_lists: bool) {
+        self.column(rt, b'a', has_lists);
         if self.next(2) == 1 {
-            self.put(b",")?;
-            self.column(b'b', has_lists)?;
+            self.put(rt, b",");
+            self.column(rt, b'b', has_lists);
         }
         if self.next(3) == 1 {
-            self.put(b",")?;
-            self.column(b'c', has_lists)?;
+            self.put(rt, b",");
+            self.column(rt, b'c', has_lists);
         }
-        Ok(())
     }
 
-    fn phrases(&mut self) -> Result<(), AllocError> {
+    fn phrases(&mut self, rt: &impl Abort) {
         let count = self.next(4);
         if count > 0 {
-            self.put(b" where ")?;
-            self.phrase()?;
+            self.put(rt, b" where ");
+            self.phrase(rt);
         }
         for _ in 1..count {
-            self.put(b",")?;
-            self.phrase()?;
+            self.put(rt, b",");
+            self.phrase(rt);
         }
-        Ok(())
     }
 
     // A `select` without columns.
-    fn select_all(&mut self) -> Result<(), AllocError> {
+    fn select_all(&mut self, rt: &impl Abort) {
         let heads: [&[u8]; 4] = [b"select", b"select[3]", b"select[-2]", b"select[0]"];
-        self.pick(&heads)?;
-        self.put(b" from trade")
+        self.pick(rt, &heads);
+        self.put(rt, b" from trade")
     }
 
-    fn select(&mut self) -> Result<(), AllocError> {
+    fn select(&mut self, rt: &impl Abort) {
         let heads: [&[u8]; 4] = [b"select ", b"select ", b"select[2] ", b"select[-3] "];
-        self.pick(&heads)?;
-        self.columns(false)?;
-        self.put(b" from trade")
+        self.pick(rt, &heads);
+        self.columns(rt, false);
+        self.put(rt, b" from trade")
     }
 
-    fn exec(&mut self) -> Result<(), AllocError> {
-        self.put(b"exec ")?;
-        self.columns(true)?;
-        self.put(b" from trade")
+    fn exec(&mut self, rt: &impl Abort) {
+        self.put(rt, b"exec ");
+        self.columns(rt, true);
+        self.put(rt, b" from trade")
     }
 
     // A column with one item for each group.
-    fn group_column(&mut self, name: u8) -> Result<(), AllocError> {
-        self.put(&[name, b':'])?;
+    fn group_column(&mut self, rt: &impl Abort, name: u8) {
+        self.put(rt, &[name, b':']);
         match self.next(3) {
-            0 => self.pick(&BY_GROUP),
+            0 => self.pick(rt, &BY_GROUP),
             1 => {
-                self.pick(&AGGREGATES)?;
-                self.number()
+                self.pick(rt, &AGGREGATES);
+                self.number(rt)
             }
             _ => {
-                self.put(b"(")?;
-                self.pick(&AGGREGATES)?;
-                self.leaf()?;
-                self.put(b")")?;
-                self.pick(&OPERATORS)?;
-                self.put(b"(")?;
-                self.pick(&AGGREGATES)?;
-                self.small()?;
-                self.put(b")")
+                self.put(rt, b"(");
+                self.pick(rt, &AGGREGATES);
+                self.leaf(rt);
+                self.put(rt, b")");
+                self.pick(rt, &OPERATORS);
+                self.put(rt, b"(");
+                self.pick(rt, &AGGREGATES);
+                self.small(rt);
+                self.put(rt, b")")
             }
         }
     }
 
     /// Makes a query with `by`.
-    pub(crate) fn query_by(&mut self) -> Result<(), AllocError> {
+    pub(crate) fn query_by(&mut self, rt: &impl Abort) {
         match self.next(8) {
-            0 => self.put(b"select by ")?,
+            0 => self.put(rt, b"select by "),
             1 => {
-                self.put(b"exec ")?;
-                self.group_column(b'a')?;
-                self.put(b" by ")?;
+                self.put(rt, b"exec ");
+                self.group_column(rt, b'a');
+                self.put(rt, b" by ");
             }
             _ => {
-                self.put(b"select ")?;
-                self.group_column(b'a')?;
-                self.put(b",")?;
-                self.group_column(b'b')?;
-                self.put(b" by ")?;
+                self.put(rt, b"select ");
+                self.group_column(rt, b'a');
+                self.put(rt, b",");
+                self.group_column(rt, b'b');
+                self.put(rt, b" by ");
             }
         }
-        self.pick(&KEYS)?;
-        self.put(b" from trade")?;
-        self.phrases()
+        self.pick(rt, &KEYS);
+        self.put(rt, b" from trade");
+        self.phrases(rt)
     }
 
     /// Makes a query without `by`.
-    pub(crate) fn query(&mut self) -> Result<(), AllocError> {
+    pub(crate) fn query(&mut self, rt: &impl Abort) {
         match self.next(9) {
-            0 => self.select_all()?,
-            1 | 2 | 3 | 4 => self.select()?,
-            _ => self.exec()?,
+            0 => self.select_all(rt),
+            1 | 2 | 3 | 4 => self.select(rt),
+            _ => self.exec(rt),
         }
-        self.phrases()
+        self.phrases(rt)
     }
 }

@@ -7,7 +7,8 @@ use q_values::{Atom, Kind, Value, Vector};
 use q_verbs::{Verb, Verb1};
 use qsql_eval::Rows;
 use qsql_request::Expr;
-use std::alloc::{AllocError, Global};
+use std::alloc::Global;
+use std::process::Abort;
 
 /// A null.
 pub(crate) const NULL: i64 = i64::MIN;
@@ -23,13 +24,13 @@ pub(crate) struct Slow {
     pub items: Vec<i64>,
 }
 
-fn atom_of(alloc: Global, kind: Kind, number: i64) -> Result<Slow, AllocError> {
-    let items = Vec::from_slice(alloc, &[number])?;
-    Ok(Slow {
+fn atom_of(rt: &impl Abort, alloc: Global, kind: Kind, number: i64) -> Slow {
+    let items = Vec::from_slice(alloc, &[number]).expect(rt, "memory");
+    Slow {
         kind,
         is_atom: true,
         items,
-    })
+    }
 }
 
 fn list_of(kind: Kind, items: Vec<i64>) -> Slow {
@@ -68,17 +69,16 @@ pub(crate) fn number_of(atom: &Atom) -> i64 {
 }
 
 // The numbers of a column at these rows.
-fn numbers_at(alloc: Global, column: &Vector, kept: &[usize]) -> Result<Vec<i64>, AllocError> {
+fn numbers_at(rt: &impl Abort, alloc: Global, column: &Vector, kept: &[usize]) -> Vec<i64> {
     let mut items = Vec::new(alloc);
     for row in kept {
-        let number = match column.get(alloc, *row) {
-            Ok(Some(atom)) => number_of(&atom),
-            Ok(None) => NULL,
-            Err(_) => return Err(AllocError),
+        let number = match column.get(alloc, *row).expect(rt, "memory") {
+            Some(atom) => number_of(&atom),
+            None => NULL,
         };
-        items.push(number)?;
+        items.push(number).expect(rt, "memory");
     }
-    Ok(items)
+    items
 }
 
 fn column_named<'a>(rows: &'a Rows, name: &[u8]) -> Option<&'a Vector> {
@@ -94,28 +94,29 @@ fn column_named<'a>(rows: &'a Rows, name: &[u8]) -> Option<&'a Vector> {
 
 /// A column at these rows.
 pub(crate) fn column_of(
+    rt: &impl Abort,
     alloc: Global,
     rows: &Rows,
     name: &[u8],
     kept: &[usize],
-) -> Result<Slow, AllocError> {
+) -> Slow {
     match column_named(rows, name) {
-        Some(column) => Ok(list_of(column.kind(), numbers_at(alloc, column, kept)?)),
-        None => Ok(list_of(Kind::Boolean, Vec::new(alloc))),
+        Some(column) => list_of(column.kind(), numbers_at(rt, alloc, column, kept)),
+        None => list_of(Kind::Boolean, Vec::new(alloc)),
     }
 }
 
-fn literal_of(alloc: Global, value: &Value) -> Result<Slow, AllocError> {
+fn literal_of(rt: &impl Abort, alloc: Global, value: &Value) -> Slow {
     match value {
-        Value::Atom(atom) => atom_of(alloc, atom.kind(), number_of(atom)),
+        Value::Atom(atom) => atom_of(rt, alloc, atom.kind(), number_of(atom)),
         Value::Vector(vector) => {
             let mut every = Vec::new(alloc);
             for row in 0..vector.len() {
-                every.push(row)?;
+                every.push(row).expect(rt, "memory");
             }
-            Ok(list_of(vector.kind(), numbers_at(alloc, vector, &every)?))
+            list_of(vector.kind(), numbers_at(rt, alloc, vector, &every))
         }
-        _ => Ok(list_of(Kind::Boolean, Vec::new(alloc))),
+        _ => list_of(Kind::Boolean, Vec::new(alloc)),
     }
 }
 
@@ -186,7 +187,7 @@ pub(crate) fn item_at(side: &Slow, index: usize) -> i64 {
     }
 }
 
-fn by_item(alloc: Global, verb: Verb, left: &Slow, right: &Slow) -> Result<Slow, AllocError> {
+fn by_item(rt: &impl Abort, alloc: Global, verb: Verb, left: &Slow, right: &Slow) -> Slow {
     let is_atom = left.is_atom && right.is_atom;
     let count = if left.is_atom {
         right.items.len()
@@ -195,13 +196,15 @@ fn by_item(alloc: Global, verb: Verb, left: &Slow, right: &Slow) -> Result<Slow,
     };
     let mut items = Vec::new(alloc);
     for index in 0..count {
-        items.push(two_numbers(verb, item_at(left, index), item_at(right, index)))?;
+        items
+            .push(two_numbers(verb, item_at(left, index), item_at(right, index)))
+            .expect(rt, "memory");
     }
-    Ok(Slow {
+    Slow {
         kind: kind_of_two(verb, left.kind, right.kind),
         is_atom,
         items,
-    })
+    }
 }
 
 fn is_among(items: &[i64], number: i64) -> bool {
@@ -213,7 +216,7 @@ fn is_among(items: &[i64], number: i64) -> bool {
     false
 }
 
-fn tested(alloc: Global, verb: Verb, left: &Slow, right: &Slow) -> Result<Slow, AllocError> {
+fn tested(rt: &impl Abort, alloc: Global, verb: Verb, left: &Slow, right: &Slow) -> Slow {
     let mut items = Vec::new(alloc);
     for item in &left.items {
         let holds = if verb == Verb::In {
@@ -221,19 +224,19 @@ fn tested(alloc: Global, verb: Verb, left: &Slow, right: &Slow) -> Result<Slow, 
         } else {
             item_at(right, 0) <= *item && *item <= item_at(right, 1)
         };
-        items.push(i64::from(holds))?;
+        items.push(i64::from(holds)).expect(rt, "memory");
     }
-    Ok(Slow {
+    Slow {
         kind: Kind::Boolean,
         is_atom: left.is_atom,
         items,
-    })
+    }
 }
 
-fn two_sides(alloc: Global, verb: Verb, left: &Slow, right: &Slow) -> Result<Slow, AllocError> {
+fn two_sides(rt: &impl Abort, alloc: Global, verb: Verb, left: &Slow, right: &Slow) -> Slow {
     match verb {
-        Verb::In | Verb::Within => tested(alloc, verb, left, right),
-        _ => by_item(alloc, verb, left, right),
+        Verb::In | Verb::Within => tested(rt, alloc, verb, left, right),
+        _ => by_item(rt, alloc, verb, left, right),
     }
 }
 
@@ -287,116 +290,121 @@ fn first_or_null(kind: Kind, item: Option<&i64>) -> i64 {
     }
 }
 
-fn distinct_of(alloc: Global, items: &[i64]) -> Result<Vec<i64>, AllocError> {
+fn distinct_of(rt: &impl Abort, alloc: Global, items: &[i64]) -> Vec<i64> {
     let mut found = Vec::new(alloc);
     for item in items {
         if !is_among(&found, *item) {
-            found.push(*item)?;
+            found.push(*item).expect(rt, "memory");
         }
     }
-    Ok(found)
+    found
 }
 
-fn negated(alloc: Global, side: &Slow) -> Result<Slow, AllocError> {
+fn negated(rt: &impl Abort, alloc: Global, side: &Slow) -> Slow {
     let mut items = Vec::new(alloc);
     for item in &side.items {
-        items.push(item.wrapping_neg())?;
+        items.push(item.wrapping_neg()).expect(rt, "memory");
     }
-    Ok(Slow {
+    Slow {
         kind: Kind::Long,
         is_atom: side.is_atom,
         items,
-    })
+    }
 }
 
-fn inverted(alloc: Global, side: &Slow) -> Result<Slow, AllocError> {
+fn inverted(rt: &impl Abort, alloc: Global, side: &Slow) -> Slow {
     let mut items = Vec::new(alloc);
     for item in &side.items {
-        items.push(i64::from(*item == 0))?;
+        items.push(i64::from(*item == 0)).expect(rt, "memory");
     }
-    Ok(Slow {
+    Slow {
         kind: Kind::Boolean,
         is_atom: side.is_atom,
         items,
-    })
+    }
 }
 
-fn one_side(alloc: Global, verb: Verb1, side: &Slow) -> Result<Slow, AllocError> {
+fn one_side(rt: &impl Abort, alloc: Global, verb: Verb1, side: &Slow) -> Slow {
     match verb {
-        Verb1::Not => inverted(alloc, side),
-        Verb1::Neg => negated(alloc, side),
-        Verb1::Count => atom_of(alloc, Kind::Long, side.items.len() as i64),
-        Verb1::Sum => atom_of(alloc, kind_of_sum(side.kind), sum_of(&side.items)),
-        Verb1::Min => atom_of(alloc, side.kind, least_of(&side.items)),
-        Verb1::Max => atom_of(alloc, side.kind, greatest_of(&side.items)),
+        Verb1::Not => inverted(rt, alloc, side),
+        Verb1::Neg => negated(rt, alloc, side),
+        Verb1::Count => atom_of(rt, alloc, Kind::Long, side.items.len() as i64),
+        Verb1::Sum => atom_of(rt, alloc, kind_of_sum(side.kind), sum_of(&side.items)),
+        Verb1::Min => atom_of(rt, alloc, side.kind, least_of(&side.items)),
+        Verb1::Max => atom_of(rt, alloc, side.kind, greatest_of(&side.items)),
         Verb1::First => atom_of(
+            rt,
             alloc,
             side.kind,
             first_or_null(side.kind, side.items.first()),
         ),
         Verb1::Last => atom_of(
+            rt,
             alloc,
             side.kind,
             first_or_null(side.kind, side.items.last()),
         ),
-        Verb1::Distinct => Ok(list_of(side.kind, distinct_of(alloc, &side.items)?)),
+        Verb1::Distinct => list_of(side.kind, distinct_of(rt, alloc, &side.items)),
     }
 }
 
 /// The value of an expression over the rows with these indices.
 pub(crate) fn value_of(
+    rt: &impl Abort,
     alloc: Global,
     expr: &Expr,
     rows: &Rows,
     kept: &[usize],
-) -> Result<Slow, AllocError> {
+) -> Slow {
     match expr {
-        Expr::Literal(value) => literal_of(alloc, value),
-        Expr::Name(name) => column_of(alloc, rows, name.bytes(), kept),
+        Expr::Literal(value) => literal_of(rt, alloc, value),
+        Expr::Name(name) => column_of(rt, alloc, rows, name.bytes(), kept),
         Expr::One(verb, side) => {
-            let side = value_of(alloc, side, rows, kept)?;
-            one_side(alloc, *verb, &side)
+            let side = value_of(rt, alloc, side, rows, kept);
+            one_side(rt, alloc, *verb, &side)
         }
         Expr::Two(verb, left, right) => {
-            let left = value_of(alloc, left, rows, kept)?;
-            let right = value_of(alloc, right, rows, kept)?;
-            two_sides(alloc, *verb, &left, &right)
+            let left = value_of(rt, alloc, left, rows, kept);
+            let right = value_of(rt, alloc, right, rows, kept);
+            two_sides(rt, alloc, *verb, &left, &right)
         }
     }
 }
 
 // The rows, of those given, at which the phrase holds.
 fn rows_where(
+    rt: &impl Abort,
     alloc: Global,
     phrase: &Expr,
     rows: &Rows,
     given: &[usize],
-) -> Result<Vec<usize>, AllocError> {
-    let truths = value_of(alloc, phrase, rows, given)?;
+) -> Vec<usize> {
+    let truths = value_of(rt, alloc, phrase, rows, given);
     let mut kept = Vec::new(alloc);
     let mut index = 0usize;
     for row in given {
         if item_at(&truths, index) == 1 {
-            kept.push(*row)?;
+            kept.push(*row).expect(rt, "memory");
         }
         index = index.saturating_add(1);
     }
-    Ok(kept)
+    kept
 }
 
 /// The rows that the phrases keep, from left to right, of the first `count`.
 pub(crate) fn kept_rows(
+    rt: &impl Abort,
     alloc: Global,
     phrases: &[Expr],
     rows: &Rows,
     count: usize,
-) -> Result<Vec<usize>, AllocError> {
+) -> Vec<usize> {
     let mut kept = Vec::new(alloc);
     for row in 0..count {
-        kept.push(row)?;
+        kept.push(row).expect(rt, "memory");
     }
     for phrase in phrases {
-        kept = rows_where(alloc, phrase, rows, &kept)?;
+        kept = rows_where(rt, alloc, phrase, rows, &kept);
     }
-    Ok(kept)
+    kept
 }

@@ -3,7 +3,7 @@
 use q_values::{Column, Columns, IntegerKind, LongKind, Names, Sym, Symbols, Vector};
 use qsql_eval::Rows;
 use std::alloc::Global;
-use std::test::Fail;
+use std::process::Abort;
 
 /// How many rows there are.
 pub(crate) const COUNT: usize = 12;
@@ -25,53 +25,63 @@ const SIZES: [i64; COUNT] = [5, 100, 100, 7, 7, i64::MIN, 1, 1, 9, 50, i64::MIN,
 
 const PLACES: [i64; COUNT] = [0, 1, 2, 3, 4, 5, 6, 0, 1, 2, 3, 4];
 
-fn longs(alloc: Global, kind: LongKind, numbers: &[i64]) -> Result<Vector, Fail> {
-    let items = Vec::from_slice(alloc, numbers)?;
-    Ok(Vector::from_column(Column::Longs(kind, items)))
+fn longs(rt: &impl Abort, alloc: Global, kind: LongKind, numbers: &[i64]) -> Vector {
+    let items = Vec::from_slice(alloc, numbers).expect(rt, "memory");
+    Vector::from_column(Column::Longs(kind, items))
 }
 
-fn dates(alloc: Global) -> Result<Vector, Fail> {
-    let items = Vec::from_slice(alloc, &DATES)?;
-    Ok(Vector::from_column(Column::Integers(IntegerKind::Date, items)))
+fn dates(rt: &impl Abort, alloc: Global) -> Vector {
+    let items = Vec::from_slice(alloc, &DATES).expect(rt, "memory");
+    Vector::from_column(Column::Integers(IntegerKind::Date, items))
 }
 
-fn times(alloc: Global) -> Result<Vector, Fail> {
+fn times(rt: &impl Abort, alloc: Global) -> Vector {
     let mut items = Vec::new(alloc);
     for seconds in SECONDS {
-        items.push(seconds.wrapping_add(32_400).wrapping_mul(1_000_000_000))?;
+        items
+            .push(seconds.wrapping_add(32_400).wrapping_mul(1_000_000_000))
+            .expect(rt, "memory");
     }
-    Ok(Vector::from_column(Column::Longs(LongKind::Timespan, items)))
+    Vector::from_column(Column::Longs(LongKind::Timespan, items))
 }
 
-fn symbols(alloc: Global) -> Result<Vector, Fail> {
+fn symbols(rt: &impl Abort, alloc: Global) -> Vector {
     let mut items = Symbols::new(alloc);
     for letter in SYMBOLS {
-        let name = Sym::of(alloc, &[*letter])?;
-        items.push(name.bytes())?;
+        let name = Sym::of(alloc, &[*letter]).expect(rt, "memory");
+        items.push(name.bytes()).expect(rt, "memory");
     }
-    Ok(Vector::from_column(Column::Symbols(items)))
+    Vector::from_column(Column::Symbols(items))
 }
 
-fn names(alloc: Global) -> Result<Names, Fail> {
+fn names(rt: &impl Abort, alloc: Global) -> Names {
     let texts: [&[u8]; 6] = [b"date", b"time", b"sym", b"price", b"size", b"i"];
     let mut names = Names::new(alloc);
     for text in texts {
-        names.push(Sym::of(alloc, text)?)?;
+        names
+            .push(Sym::of(alloc, text).expect(rt, "memory"))
+            .expect(rt, "memory");
     }
-    Ok(names)
+    names
 }
 
 /// The rows: seven on 2024.01.02, which has ended, and five on the open date.
-pub(crate) fn rows(alloc: Global) -> Result<Rows, Fail> {
+pub(crate) fn rows(rt: &impl Abort, alloc: Global) -> Rows {
     let mut columns = Columns::new(alloc);
-    columns.push(dates(alloc)?)?;
-    columns.push(times(alloc)?)?;
-    columns.push(symbols(alloc)?)?;
-    columns.push(longs(alloc, LongKind::Long, &PRICES)?)?;
-    columns.push(longs(alloc, LongKind::Long, &SIZES)?)?;
-    columns.push(longs(alloc, LongKind::Long, &PLACES)?)?;
-    match Rows::new(names(alloc)?, columns) {
-        Some(rows) => Ok(rows),
-        None => Err(Fail::from("columns of different lengths")),
+    columns.push(dates(rt, alloc)).expect(rt, "memory");
+    columns.push(times(rt, alloc)).expect(rt, "memory");
+    columns.push(symbols(rt, alloc)).expect(rt, "memory");
+    columns
+        .push(longs(rt, alloc, LongKind::Long, &PRICES))
+        .expect(rt, "memory");
+    columns
+        .push(longs(rt, alloc, LongKind::Long, &SIZES))
+        .expect(rt, "memory");
+    columns
+        .push(longs(rt, alloc, LongKind::Long, &PLACES))
+        .expect(rt, "memory");
+    match Rows::new(names(rt, alloc), columns) {
+        Some(rows) => rows,
+        None => panic!(rt; "columns of different lengths"),
     }
 }

@@ -2,7 +2,8 @@
 //!
 //! A [`Scope`] lends named columns of one length. [`value_of`] is the value of an expression over it: an [`Operand`], which
 //! is one atom, or a vector that is lent or made. [`kept_places`] applies phrases from left to right, each to the rows that
-//! those before it keep, and gives the indices of the rows; [`kept_rows`] gives their columns. [`kind_of_expr`] finds the kind of an expression over the columns of a table, before any rows.
+//! those before it keep, and gives the indices of the rows; [`kept_rows`] gives their columns. [`kind_of_expr`] finds the
+//! kind of an expression over the columns of a table, before any rows.
 //!
 //! ```text
 //! let scope = Scope::new(&names, &columns);

@@ -1,10 +1,10 @@
 //! Queries over two dates: phrases, aggregates, groups, an as-of join, the count of updates and the open date.
-use crate::building::{Row, put_updates, text_of, update_by, update_of};
+use crate::building::{Row, put, put_updates, text_of, update_by, update_of};
 use crate::sitting::{Asked, Given, answers, done_times};
-use q_values::{NANOSECONDS_PER_DAY, NoMemory, Turn};
+use q_values::{NANOSECONDS_PER_DAY, Turn};
 use std::alloc::Global;
+use std::process::Abort;
 use std::sync::Wait;
-use std::test::Fail;
 use test_sessions::NOW;
 
 /// A moment of the next date.
@@ -41,7 +41,7 @@ fn row<'a>(minute: i64, sym: &'a [u8], numbers: &'a [i64]) -> Row<'a> {
 }
 
 /// Whether these texts are answered so after three updates of `trade` today and two on the next date.
-fn are_answered<R: Wait>(rt: &R, alloc: Global, texts: &[Asked]) -> Result<bool, NoMemory> {
+fn are_answered<R: Abort + Wait>(rt: &R, alloc: Global, texts: &[Asked]) -> bool {
     let rows = [
         row(570, b"b", &[10, 100]),
         row(571, b"a", &[20, 5]),
@@ -50,8 +50,8 @@ fn are_answered<R: Wait>(rt: &R, alloc: Global, texts: &[Asked]) -> Result<bool,
         row(571, b"a", &[21, 9]),
     ];
     let mut updates = Vec::new(alloc);
-    put_updates(alloc, &mut updates, b"trade", &rows)?;
-    let sent = done_times(alloc, 5)?;
+    put_updates(rt, alloc, &mut updates, b"trade", &rows);
+    let sent = done_times(rt, alloc, 5);
     let given = Given {
         updates: updates.as_slice(),
         readings: &READINGS,
@@ -63,14 +63,14 @@ fn are_answered<R: Wait>(rt: &R, alloc: Global, texts: &[Asked]) -> Result<bool,
 
 /// Whether these texts are answered so after one message, which is answered so and makes this turn; a turn that isn't
 /// logged leaves the chronicle empty.
-fn are_answered_after<R: Wait>(
+fn are_answered_after<R: Abort + Wait>(
     rt: &R,
     alloc: Global,
     now: i64,
     message: &[u8],
     texts: &[Asked],
-) -> Result<bool, NoMemory> {
-    let sent = done_times(alloc, 1)?;
+) -> bool {
+    let sent = done_times(rt, alloc, 1);
     let given = Given {
         updates: message,
         readings: &[now],
@@ -81,15 +81,15 @@ fn are_answered_after<R: Wait>(
 }
 
 /// Whether these texts are answered so after an update of `trade` for each of these two rows.
-fn are_answered_over<R: Wait>(
+fn are_answered_over<R: Abort + Wait>(
     rt: &R,
     alloc: Global,
     rows: [Row; 2],
     texts: &[Asked],
-) -> Result<bool, NoMemory> {
+) -> bool {
     let mut updates = Vec::new(alloc);
-    put_updates(alloc, &mut updates, b"trade", &rows)?;
-    let sent = done_times(alloc, 2)?;
+    put_updates(rt, alloc, &mut updates, b"trade", &rows);
+    let sent = done_times(rt, alloc, 2);
     let given = Given {
         updates: updates.as_slice(),
         readings: &[NOW],
@@ -103,19 +103,18 @@ fn are_answered_over<R: Wait>(
 }
 
 #[test]
-fn time_put_first(rt: HostRuntime) -> Result<(), Fail> {
+fn time_put_first(rt: HostRuntime) {
     let items = b"\0\0\x03\0\0\0\xf5KX\0\xf9B'\0\0\0\0\0\0\xf9\xc8\0\0\0\0\0\0\0";
-    let update = update_by(rt.alloc(), items)?;
+    let update = update_by(&rt, rt.alloc(), items);
     let texts: [Asked; 1] = [(
         b"exec time from trade",
         b"\x10\0\x01\0\0\0\x01\xf0\xd9\xce\x1a\x1f\0\0",
     )];
-    assert!(rt; are_answered_after(&rt, rt.alloc(), NOW + 1, update.as_slice(), &texts)?);
-    Ok(())
+    assert!(rt; are_answered_after(&rt, rt.alloc(), NOW + 1, update.as_slice(), &texts));
 }
 
 #[test]
-fn phrases_left_to_right(rt: HostRuntime) -> Result<(), Fail> {
+fn phrases_left_to_right(rt: HostRuntime) {
     let texts: [Asked; 3] = [
         (
             b"select sym,size from trade where size>5,i<2",
@@ -131,12 +130,11 @@ fn phrases_left_to_right(rt: HostRuntime) -> Result<(), Fail> {
             b"\x07\0\x05\0\0\0\0\0\0\0\0\0\0\0\x01\0\0\0\0\0\0\0\x02\0\0\0\0\0\0\0\0\0\0\0\0\0\0\0\x01\0\0\0\0\0\0\0",
         ),
     ];
-    assert!(rt; are_answered(&rt, rt.alloc(), &texts)?);
-    Ok(())
+    assert!(rt; are_answered(&rt, rt.alloc(), &texts));
 }
 
 #[test]
-fn aggregates_of_nothing(rt: HostRuntime) -> Result<(), Fail> {
+fn aggregates_of_nothing(rt: HostRuntime) {
     let texts: [Asked; 4] = [
         (
             b"exec min size from trade where size>1000",
@@ -155,30 +153,27 @@ fn aggregates_of_nothing(rt: HostRuntime) -> Result<(), Fail> {
             b"\xf9\0\0\0\0\0\0\0\0",
         ),
     ];
-    assert!(rt; are_answered(&rt, rt.alloc(), &texts)?);
-    Ok(())
+    assert!(rt; are_answered(&rt, rt.alloc(), &texts));
 }
 
 #[test]
-fn sums_with_nulls_and_beyond_the_end(rt: HostRuntime) -> Result<(), Fail> {
+fn sums_with_nulls_and_beyond_the_end(rt: HostRuntime) {
     let nulls = [row(570, b"a", &[1, i64::MIN]), row(570, b"a", &[1, 5])];
     let five: [Asked; 1] = [(b"exec sum size from trade", b"\xf9\x05\0\0\0\0\0\0\0")];
-    assert!(rt; are_answered_over(&rt, rt.alloc(), nulls, &five)?);
+    assert!(rt; are_answered_over(&rt, rt.alloc(), nulls, &five));
     let great = [row(570, b"a", &[1, i64::MAX]), row(570, b"a", &[1, 1])];
     let null: [Asked; 1] = [(b"exec sum size from trade", b"\xf9\0\0\0\0\0\0\0\x80")];
-    assert!(rt; are_answered_over(&rt, rt.alloc(), great, &null)?);
-    Ok(())
+    assert!(rt; are_answered_over(&rt, rt.alloc(), great, &null));
 }
 
 #[test]
-fn last_price_by_sym(rt: HostRuntime) -> Result<(), Fail> {
+fn last_price_by_sym(rt: HostRuntime) {
     let value =
         b"cb\0c\x0b\0\x01\0\0\0sym\0\0\0\x01\0\0\0\x0b\0\x03\0\0\0a\0b\0c\0b\0c\x0b\0\x01\0\0\0price\0\0\0\x01\0\0\0\
 \x07\0\x03\0\0\0\x15\0\0\0\0\0\0\0\x0b\0\0\0\0\0\0\0\x1e\0\0\0\0\0\0\0";
     let text = b"select last price by sym from trade";
     let texts: [Asked; 3] = [(text, value), (text, value), (text, value)];
-    assert!(rt; are_answered(&rt, rt.alloc(), &texts)?);
-    Ok(())
+    assert!(rt; are_answered(&rt, rt.alloc(), &texts));
 }
 
 // Two rows 2024.01.02 0D09:30 b 10 100.
@@ -188,19 +183,18 @@ const TWICE: &[u8] =
 \x07\0\x02\0\0\0\x0a\0\0\0\0\0\0\0\x0a\0\0\0\0\0\0\0\x07\0\x02\0\0\0d\0\0\0\0\0\0\0d\0\0\0\0\0\0\0";
 
 #[test]
-fn equal_rows_kept(rt: HostRuntime) -> Result<(), Fail> {
+fn equal_rows_kept(rt: HostRuntime) {
     let texts: [Asked; 2] = [
         (b"exec count i from trade", b"\xf9\x02\0\0\0\0\0\0\0"),
         (b"select from trade", TWICE),
     ];
     let rows = [row(570, b"b", &[10, 100]), row(570, b"b", &[10, 100])];
-    assert!(rt; are_answered_over(&rt, rt.alloc(), rows, &texts)?);
+    assert!(rt; are_answered_over(&rt, rt.alloc(), rows, &texts));
     let items =
         b"\0\0\x04\0\0\0\x10\0\x02\0\0\0\0\xf0\xd9\xce\x1a\x1f\0\0\0\xf0\xd9\xce\x1a\x1f\0\0\x0b\0\x02\0\0\0b\0b\0\
 \x07\0\x02\0\0\0\x0a\0\0\0\0\0\0\0\x0a\0\0\0\0\0\0\0\x07\0\x02\0\0\0d\0\0\0\0\0\0\0d\0\0\0\0\0\0\0";
-    let update = update_by(rt.alloc(), items)?;
-    assert!(rt; are_answered_after(&rt, rt.alloc(), NOW, update.as_slice(), &texts)?);
-    Ok(())
+    let update = update_by(&rt, rt.alloc(), items);
+    assert!(rt; are_answered_after(&rt, rt.alloc(), NOW, update.as_slice(), &texts));
 }
 
 const JOIN: &[u8] =
@@ -222,7 +216,7 @@ const SIX: [Turn; 6] = [
     Turn::Logged { place: 5, now: NOW },
 ];
 
-fn are_joined<R: Wait>(rt: &R, alloc: Global, texts: &[Asked]) -> Result<bool, NoMemory> {
+fn are_joined<R: Abort + Wait>(rt: &R, alloc: Global, texts: &[Asked]) -> bool {
     let trades = [
         row(570, b"a", &[1, 1]),
         row(571, b"a", &[2, 1]),
@@ -234,9 +228,9 @@ fn are_joined<R: Wait>(rt: &R, alloc: Global, texts: &[Asked]) -> Result<bool, N
         row(570, b"a", &[4, 5, 1, 1]),
     ];
     let mut updates = Vec::new(alloc);
-    put_updates(alloc, &mut updates, b"trade", &trades)?;
-    put_updates(alloc, &mut updates, b"quote", &quotes)?;
-    let sent = done_times(alloc, 6)?;
+    put_updates(rt, alloc, &mut updates, b"trade", &trades);
+    put_updates(rt, alloc, &mut updates, b"quote", &quotes);
+    let sent = done_times(rt, alloc, 6);
     let given = Given {
         updates: updates.as_slice(),
         readings: &[NOW],
@@ -247,33 +241,31 @@ fn are_joined<R: Wait>(rt: &R, alloc: Global, texts: &[Asked]) -> Result<bool, N
 }
 
 #[test]
-fn asof_join_ties(rt: HostRuntime) -> Result<(), Fail> {
+fn asof_join_ties(rt: HostRuntime) {
     let texts: [Asked; 1] = [(JOIN, JOINED)];
-    assert!(rt; are_joined(&rt, rt.alloc(), &texts)?);
-    Ok(())
+    assert!(rt; are_joined(&rt, rt.alloc(), &texts));
 }
 
 #[test]
-fn counts_and_dates(rt: HostRuntime) -> Result<(), Fail> {
+fn counts_and_dates(rt: HostRuntime) {
     let texts: [Asked; 2] = [
         (b".u.i", b"\xf9\x02\0\0\0\0\0\0\0"),
         (b".u.d", b"\xf2@\x22\0\0"),
     ];
-    assert!(rt; are_answered(&rt, rt.alloc(), &texts)?);
-    Ok(())
+    assert!(rt; are_answered(&rt, rt.alloc(), &texts));
 }
 
 /// An async update of `trade` by one row, and an async text.
-fn async_messages(alloc: Global) -> Result<Vec<u8>, NoMemory> {
-    let mut messages = update_of(alloc, 0, b"trade", row(570, b"b", &[10, 100]))?;
-    let text = text_of(alloc, 0, b"exec count i from trade")?;
-    messages.extend_from_slice(text.as_slice())?;
-    Ok(messages)
+fn async_messages(rt: &impl Abort, alloc: Global) -> Vec<u8> {
+    let mut messages = update_of(rt, alloc, 0, b"trade", row(570, b"b", &[10, 100]));
+    let text = text_of(rt, alloc, 0, b"exec count i from trade");
+    put(rt, &mut messages, text.as_slice());
+    messages
 }
 
 /// Whether an async update is logged and an async text passed over, neither with a response, and this text then answered.
-fn async_is_silent<R: Wait>(rt: &R, alloc: Global, texts: &[Asked]) -> Result<bool, NoMemory> {
-    let messages = async_messages(alloc)?;
+fn async_is_silent<R: Abort + Wait>(rt: &R, alloc: Global, texts: &[Asked]) -> bool {
+    let messages = async_messages(rt, alloc);
     let given = Given {
         updates: messages.as_slice(),
         readings: &[NOW],
@@ -284,11 +276,10 @@ fn async_is_silent<R: Wait>(rt: &R, alloc: Global, texts: &[Asked]) -> Result<bo
 }
 
 #[test]
-fn counts_and_async(rt: HostRuntime) -> Result<(), Fail> {
+fn counts_and_async(rt: HostRuntime) {
     let texts: [Asked; 2] = [
         (b"exec count i from trade", b"\xf9\x01\0\0\0\0\0\0\0"),
         (b".u.i", b"\xf9\x01\0\0\0\0\0\0\0"),
     ];
-    assert!(rt; async_is_silent(&rt, rt.alloc(), &texts)?);
-    Ok(())
+    assert!(rt; async_is_silent(&rt, rt.alloc(), &texts));
 }

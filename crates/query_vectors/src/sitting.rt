@@ -1,8 +1,9 @@
 //! What a session is given and asked, and whether it answers so.
-use crate::building::{message_of, text_of};
-use q_values::{Limits, NoMemory, Turn};
+use crate::building::{message_of, put, text_of};
+use q_values::{Limits, Turn};
 use session::End;
 use std::alloc::Global;
+use std::process::Abort;
 use std::sync::Wait;
 use test_sessions::bytes::{DONE, GREETED, GREETING};
 use test_sessions::{GREETED_TURN, Outcome, sat};
@@ -24,70 +25,70 @@ pub struct Given<'a> {
 }
 
 /// The bytes that come in: the handshake, the updates, and then a sync message for each text.
-fn input_of(alloc: Global, given: Given, texts: &[Asked]) -> Result<Vec<u8>, NoMemory> {
-    let mut input = Vec::from_slice(alloc, GREETING)?;
-    input.extend_from_slice(given.updates)?;
+fn input_of(rt: &impl Abort, alloc: Global, given: Given, texts: &[Asked]) -> Vec<u8> {
+    let mut input = Vec::from_slice(alloc, GREETING).expect(rt, "memory");
+    put(rt, &mut input, given.updates);
     for (text, _) in texts {
-        let message = text_of(alloc, 1, *text)?;
-        input.extend_from_slice(message.as_slice())?;
+        let message = text_of(rt, alloc, 1, *text);
+        put(rt, &mut input, message.as_slice());
     }
-    Ok(input)
+    input
 }
 
 /// The bytes that are to go out.
-fn output_of(alloc: Global, given: Given, texts: &[Asked]) -> Result<Vec<u8>, NoMemory> {
-    let mut output = Vec::from_slice(alloc, GREETED)?;
-    output.extend_from_slice(given.sent)?;
+fn output_of(rt: &impl Abort, alloc: Global, given: Given, texts: &[Asked]) -> Vec<u8> {
+    let mut output = Vec::from_slice(alloc, GREETED).expect(rt, "memory");
+    put(rt, &mut output, given.sent);
     for (_, value) in texts {
-        let response = message_of(alloc, 2, *value)?;
-        output.extend_from_slice(response.as_slice())?;
+        let response = message_of(rt, alloc, 2, *value);
+        put(rt, &mut output, response.as_slice());
     }
-    Ok(output)
+    output
 }
 
 /// The turns that are to be noted: those of the updates, and then one for each text, over a chronicle of this length.
-fn turns_of(alloc: Global, given: Given, count: usize, length: u64) -> Result<Vec<Turn>, NoMemory> {
-    let mut turns = vec![in alloc; GREETED_TURN; 1]?;
-    turns.extend_from_slice(given.turns)?;
+fn turns_of(rt: &impl Abort, alloc: Global, given: Given, count: usize, length: u64) -> Vec<Turn> {
+    let mut turns = vec![in alloc; GREETED_TURN; 1].expect(rt, "memory");
+    turns.extend_from_slice(given.turns).expect(rt, "memory");
     for _ in 0..count {
-        turns.push(Turn::Answered { length })?;
+        turns.push(Turn::Answered { length }).expect(rt, "memory");
     }
-    Ok(turns)
+    turns
 }
 
 /// Whether a session that is given these updates answers these texts so, over a chronicle of this length.
-pub fn answers<R: Wait>(
+pub fn answers<R: Abort + Wait>(
     rt: &R,
     alloc: Global,
     given: Given,
     length: u64,
     texts: &[Asked],
-) -> Result<bool, NoMemory> {
-    let input = input_of(alloc, given, texts)?;
-    let output = output_of(alloc, given, texts)?;
-    let turns = turns_of(alloc, given, texts.len(), length)?;
+) -> bool {
+    let input = input_of(rt, alloc, given, texts);
+    let output = output_of(rt, alloc, given, texts);
+    let turns = turns_of(rt, alloc, given, texts.len(), length);
     let limits = Limits::standard();
-    match sat(rt, alloc, &limits, given.readings, input.as_slice())? {
+    match sat(rt, alloc, &limits, given.readings, input.as_slice()).expect(rt, "memory") {
         Some(
             Outcome {
                 end,
                 link,
                 recorder,
             },
-        ) => Ok(
+        ) => {
             end == End::Closed
                 && link.taken() == output.as_slice()
-                && recorder.turns() == turns.as_slice(),
-        ),
-        None => Ok(false),
+                && recorder.turns() == turns.as_slice()
+        }
+        None => false,
     }
 }
 
 /// The responses to this number of updates that were logged.
-pub fn done_times(alloc: Global, times: usize) -> Result<Vec<u8>, NoMemory> {
+pub fn done_times(rt: &impl Abort, alloc: Global, times: usize) -> Vec<u8> {
     let mut sent = Vec::new(alloc);
     for _ in 0..times {
-        sent.extend_from_slice(DONE)?;
+        put(rt, &mut sent, DONE);
     }
-    Ok(sent)
+    sent
 }

@@ -10,6 +10,7 @@ pub mod PartLemmas
 pub mod PerformLemmas
 pub mod PlainLemmas
 pub mod PublishLemmas
+pub mod QuietEndLemmas
 pub mod RunLemmas
 pub mod ServedLemmas
 pub mod ServingLemmas

@@ -81,6 +81,17 @@ pub serves-then : (a b c : World) (x y z : State) (event : Event) (end : Option 
 serves-then a b c x y z event end (inl p) q = inl (performs-append a b c x y z (event ∷ []) [] end p q)
 serves-then a b c x y z event end (inr p) q = absurd (let h = p.0 in cc)
 
+-- where the session goes on, it may be from any state that is the same
+pub settles : (a b : World) (x y z : State) (heard : List Event) (end : Option End) → (end ≡ None → y ≡ z) → Performs heard a b x y end → Performs heard a b x z end
+settles a b x y z heard end same p = record {
+  after = p.after;
+  steps = p.steps;
+  works = p.works;
+  link = p.link;
+  events = p.events;
+  goes_on = λ none. p.goes_on none ∙ same none;
+}
+
 -- where the session ends, it doesn't matter which state it would have gone on from
 pub ends-anyhow : (a b : World) (x y z : State) (event : Event) (end : End) → ServesHeard event a b x y (Some end) → ServesHeard event a b x z (Some end)
 ends-anyhow a b x y z event end (inl p) = inl (record { after = p.after; steps = p.steps; works = p.works; link = p.link; events = p.events; goes_on = λ none. absurd cc })

@@ -11,7 +11,7 @@ use Rattle.q_values.specs.declared.turn.Turn.{Turn}
 use Rattle.q_values.specs.declared.turn.Turn.TheVariants as t
 use Rattle.session.specs.Acting.{Finishes, Performs}
 use Rattle.session.specs.Devices.{OnlyAsks, world_of, state_of, served_of}
-use Rattle.session.specs.Owing.{FitsPlant, OwesMessages, OwesTooMuch, told_up_to}
+use Rattle.session.specs.Owing.{FitsPlant, OwesMessages, OwesTooMuch, told_up_to, sent_up_to}
 use Rattle.session.specs.Run.{Advances, advanced}
 use Rattle.session.specs.Served.{published, Deed}
 use Rattle.session.specs.State.{State, is_owed}
@@ -19,7 +19,7 @@ use Rattle.session.specs.Subscribing.{Publishes, IsPaid}
 use Rattle.session.specs.declared.end.End.{End}
 use Rattle.session.specs.declared.session.Session.{Session}
 use Rattle.session.specs.declared.subscriber.Subscriber.{Subscriber}
-use Rattle.session.proofs.PerformLemmas.{performs-one}
+use Rattle.session.proofs.PerformLemmas.{performs-one, settles}
 use Rattle.session.proofs.ServedLemmas.{Idles, advances_idle, tells_short}
 use Rattle.session.proofs.StepLemmas.{works-none}
 use Rattle.session.proofs.ToldLemmas.{told-nil}
@@ -88,7 +88,7 @@ publishes_nothing access link clock notes s m of to asks still l some fits is pa
 pub publishes_told : {A L C G N : Type 0} (access : A → AccessView) (link : L → LinkView) (clock : C → Option (List ℤ)) (notes : N → Option (List Turn)) (s m z : Session A L C G N) (x : State) (from to : ℕ) (bytes : List ℕ) (end : Option End)
     → OnlyAsks s m → m.clock.now ≡ s.clock.now → Sees (access s.access.now) (access m.access.now)
     → OwesMessages (access s.access.now).frame s.subscriber.now (access m.access.now).seen from to bytes
-    → z.access.now ≡ m.access.now → z.clock.now ≡ m.clock.now → z.subscriber.now ≡ told_up_to to m.subscriber.now
+    → z.access.now ≡ m.access.now → z.clock.now ≡ m.clock.now → z.subscriber.now ≡ sent_up_to to end m.subscriber.now
     → Tells (notes m.recorder.now) (notes z.recorder.now) (t.Told from to ∷ [])
     → Finishes (link m.link.now) (link z.link.now) bytes end
     → x.known ≡ length (access s.access.now).seen → x.subscriber ≡ s.subscriber.now
@@ -98,28 +98,33 @@ publishes_told access link clock notes s m z x from to bytes end asks still l ow
     let b = access m.access.now in
     let of = owes.of in
     let size = reports_all a b l to owes.to_is in
-    let cursor : z.subscriber.now ≡ Some (record of { cursor = to }) = moved ∙ ap (told_up_to to) (asks.unheard.subscriber ∙ owes.is) in
+    let moves : Option Subscriber = Some (record of { cursor = to }) in
+    let cursor : end ≡ None → moves ≡ z.subscriber.now =
+    λ none. sym (moved ∙ ap (λ e. sent_up_to to e m.subscriber.now) none ∙ ap (told_up_to to) (asks.unheard.subscriber ∙ owes.is)) in
+    let y : State = record { known = length (access z.access.now).seen; subscriber = moves; due = false } in
     let deed : Deed = record { turns = t.Told from to ∷ []; sent = bytes; readings = []; made = []; snapshots = 0; ticks = 0 } in
-    let serves : Publishes a.frame b.seen (Some of) z.subscriber.now deed = inl (record {
+    let serves : Publishes a.frame b.seen (Some of) moves deed = inl (record {
       count = to;
       front = b.seen;
       is_front = record { count = owes.to_is; more = []; whole = sym (append-nil b.seen) };
       more = subst (λ n. n < to) owes.from_is owes.more;
-      after_it = cursor;
+      after_it = refl;
       fit = owes.fit;
       noted = ap (λ n. t.Told n to ∷ []) owes.from_is;
       sent = owes.sent;
       still = record { unread = refl; unmade = refl; unasked = (refl, refl) };
     }) in
-    performs-one (world_of access link clock notes s) (world_of access link clock notes z) x (state_of access z) published [] deed end
+    settles (world_of access link clock notes s) (world_of access link clock notes z) x y (state_of access z) [] end
+    (λ none. ap (λ o. record { known = length (access z.access.now).seen; subscriber = o; due = false }) (cursor none))
+    (performs-one (world_of access link clock notes s) (world_of access link clock notes z) x y published [] deed end
     known refl
     (ap clock (after ∙ still) ∙ sym (told-nil (clock s.clock.now)))
     (subst (λ r. Tells (notes r) (notes z.recorder.now) (t.Told from to ∷ [])) asks.recorder noted)
     (subst (λ v. Advances a (access v) (t.Told from to ∷ []) [] 0 0) (sym same) (whole_turn a b l (t.Told from to) to owes.to_is (record { each = (size, tt); last = sym size })))
-    (subst (λ v. Publishes a.frame (access v).seen x.subscriber z.subscriber.now deed) (sym same) (subst (λ y. Publishes a.frame b.seen y z.subscriber.now deed) (sym (of_x ∙ owes.is)) serves))
+    (subst (λ v. Publishes a.frame (access v).seen x.subscriber moves deed) (sym same) (subst (λ w. Publishes a.frame b.seen w moves deed) (sym (of_x ∙ owes.is)) serves))
     refl
     (subst (λ r. Finishes (link r) (link z.link.now) bytes end) asks.link sent)
-    refl
+    refl)
 
 -- what is owed wasn't told: the turn was noted, and nothing sent
 noted_alone : {A L C G N : Type 0} (access : A → AccessView) (link : L → LinkView) (clock : C → Option (List ℤ)) (notes : N → Option (List Turn)) (s m z : Session A L C G N) (of : Subscriber) (turn : Turn)

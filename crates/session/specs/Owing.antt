@@ -7,6 +7,7 @@ use Rattle.pubsub.specs.declared.request.SubRequest.{SubRequest}
 use Rattle.qsql_request.specs.Forms.{SubForm}
 use Rattle.session_requests.specs.Request.{Request, subscribe, text, subscription_in}
 use Rattle.session.specs.Subscribing.{owed, IsPaid, IsForm}
+use Rattle.session.specs.declared.end.End.{End}
 use Rattle.session.specs.declared.subscriber.Owed.{Owed}
 use Rattle.session.specs.declared.subscriber.Owed.TheVariants as o
 use Rattle.session.specs.declared.subscriber.Subscriber.{Subscriber}
@@ -20,6 +21,11 @@ cursor_of (Some subscriber) = subscriber.cursor
 abbrev pub told_up_to : ℕ → Option Subscriber → Option Subscriber
 told_up_to count None = None
 told_up_to count (Some subscriber) = Some (record subscriber { cursor = count })
+
+-- a subscriber after a write of what it was owed up to this length: it was told so far, unless the write failed
+abbrev pub sent_up_to : ℕ → Option End → Option Subscriber → Option Subscriber
+sent_up_to count None subscriber = told_up_to count subscriber
+sent_up_to count (Some end) subscriber = subscriber
 
 -- a subscriber to the tables of this plant, which was told of no more than is known
 abbrev pub FitsPlant : Frame → ℕ → Option Subscriber → Type 0

@@ -2,7 +2,7 @@
 ghost use Rattle.std.specs.Prelude.{◌≡◌, [], ◌∷◌, Some, length};
 ghost use Rattle.outside_api.specs.Told.{Tells};
 ghost use Rattle.session.specs.Acting.{Performs, Finishes};
-ghost use Rattle.session.specs.Owing.{FitsPlant, told_up_to};
+ghost use Rattle.session.specs.Owing.{FitsPlant, sent_up_to};
 ghost use Rattle.session.specs.declared.subscriber.Subscriber.{Subscriber};
 
 use crate::act::send;
@@ -18,21 +18,24 @@ use std::sync::Wait;
 impl<A: Access, L: Link, C: Clock, G: Gate, N: Recorder> Session<'_, A, L, C, G, N> {
     ghost use Rattle.session.specs.Devices.{world_of, state_of, served_of, HearsNothing};
 
-    /// Notes that the subscriber was told of the entries up to the length `to`, and sends it the messages. A write that fails
-    /// ends the session.
+    /// Notes that the subscriber is told of the entries up to the length `to`, and sends it the messages. A write that fails
+    /// ends the session and moves no cursor: what wasn't sent whole is owed still.
     pub fn tell(&mut self, from: u64, to: u64, messages: &[u8]) -> Option<End>
         ensures same { HearsNothing self.old self.new }
         ensures access { self.new.access.now ≡ self.old.access.now }
         ensures clock { self.new.clock.now ≡ self.old.clock.now }
-        ensures subscriber { self.new.subscriber.now ≡ told_up_to to self.old.subscriber.now }
+        ensures subscriber { self.new.subscriber.now ≡ sent_up_to to result self.old.subscriber.now }
         ensures noted { Tells (N.noted self.old.recorder.now) (N.noted self.new.recorder.now) (Turn.Told from to ∷ []) }
         ensures sent { Finishes (L.shown self.old.link.now) (L.shown self.new.link.now) messages.now result }
     {
+        self.recorder.note(Turn::Told { from, to });
+        if let Some(end) = send(self.link, messages) {
+            return Some(end);
+        }
         if let Some(subscriber) = &mut *self.subscriber {
             subscriber.cursor = to;
         }
-        self.recorder.note(Turn::Told { from, to });
-        send(self.link, messages)
+        None
     }
 
     /// Publishes what the subscriber is owed, if there is a subscriber. What can't be sent it is owed still.

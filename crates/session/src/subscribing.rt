@@ -70,7 +70,8 @@ impl<A: Access, L: Link, C: Clock, G: Gate, N: Recorder> Session<'_, A, L, C, G,
         request: &SubRequest,
     ) -> Result<Subscription, SubRefusal>
         ensures ok { IfOk result (λ s. s ≡ after_request request.now (chosen_by (A.shown self.now.access.now).frame self.now.subscriber.now)) }
-        ensures known { OnOk result (is_known request.now.tables (table_names (chosen_by (A.shown self.now.access.now).frame self.now.subscriber.now).schema) ≡ true) }
+        ensures known { OnOk result (is_known request.now.tables
+            (table_names (chosen_by (A.shown self.now.access.now).frame self.now.subscriber.now).schema) ≡ true) }
         ensures refused { IfErr result (Refuses request.now (chosen_by (A.shown self.now.access.now).frame self.now.subscriber.now).schema) }
     {
         match &*self.subscriber {

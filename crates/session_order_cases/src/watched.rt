@@ -12,6 +12,7 @@ use q_values::{Limits, NoMemory, Turn};
 use schema_text::{BUILT_IN, read_schema};
 use session::serve_session;
 use std::alloc::Global;
+use std::process::Abort;
 use std::sync::atomic::AtomicU64;
 use std::sync::atomic::Ordering::SeqCst;
 use std::sync::{Arc, Wait};
@@ -72,16 +73,44 @@ struct Calls {
 }
 
 impl Calls {
-    fn shared(&self) -> Result<Calls, NoMemory> {
-        Ok(Calls {
-            made: Arc::clone(&self.made)?,
-        })
+    fn none(rt: &impl Abort, alloc: Global) -> Calls {
+        Calls {
+            made: Arc::new(alloc, AtomicU64::new(0)).expect(rt, "memory"),
+        }
+    }
+
+    fn shared(&self, rt: &impl Abort) -> Calls {
+        Calls {
+            made: Arc::clone(&self.made).expect(rt, "memory"),
+        }
     }
 
     fn add(&self, call: Call) {
         let made = self.made.load(SeqCst);
         let next = made.wrapping_mul(16).wrapping_add(call.number());
         self.made.store(next, SeqCst);
+    }
+
+    // Devices that add their calls.
+
+    fn gate(&self, rt: &impl Abort) -> WatchedGate {
+        WatchedGate {
+            calls: self.shared(rt),
+        }
+    }
+
+    fn link(&self, rt: &impl Abort, link: MemLink) -> WatchedLink {
+        WatchedLink {
+            calls: self.shared(rt),
+            link,
+        }
+    }
+
+    fn recorder(&self, rt: &impl Abort, alloc: Global) -> WatchedRecorder {
+        WatchedRecorder {
+            calls: self.shared(rt),
+            recorder: MemRecorder::with_room(alloc, 64).expect(rt, "memory"),
+        }
     }
 }
 
@@ -182,39 +211,28 @@ impl Access for WatchedAccess {
 }
 
 // Serves the link over this plant, which has logged nothing, and gives the number of the calls.
-fn watch<R: Wait>(
+fn watch<R: Abort + Wait>(
     rt: &R,
     alloc: Global,
     limits: &Limits,
     plant: Plant<MemDisk>,
     link: MemLink,
     clock: &mut MemClock,
-) -> Result<Option<u64>, NoMemory>
+) -> Option<u64>
     requires limits { AreLimits limits.now }
     requires same { plant.memory.frame.limits ≡ limits.now }
 {
     if plant.next_by() != 1 {
-        return Ok(None);
+        return None;
     }
-    let calls = Calls {
-        made: Arc::new(alloc, AtomicU64::new(0))?,
-    };
-    let recorder = MemRecorder::with_room(alloc, 64)?;
+    let calls = Calls::none(rt, alloc);
     let mut access = WatchedAccess {
-        calls: calls.shared()?,
+        calls: calls.shared(rt),
         solo: Solo::new(plant),
     };
-    let mut link = WatchedLink {
-        calls: calls.shared()?,
-        link,
-    };
-    let mut gate = WatchedGate {
-        calls: calls.shared()?,
-    };
-    let mut turns = WatchedRecorder {
-        calls: calls.shared()?,
-        recorder,
-    };
+    let mut link = calls.link(rt, link);
+    let mut gate = calls.gate(rt);
+    let mut turns = calls.recorder(rt, alloc);
     let _report = serve_session(
         rt,
         alloc,
@@ -225,23 +243,23 @@ fn watch<R: Wait>(
         &mut turns,
         limits,
     );
-    Ok(Some(calls.made.load(SeqCst)))
+    Some(calls.made.load(SeqCst))
 }
 
 /// The number of the calls that a session over this link makes, where three read timeouts end it.
-pub fn calls_of<R: Wait>(
+pub fn calls_of<R: Abort + Wait>(
     rt: &R,
     alloc: Global,
     link: MemLink,
     clock: &mut MemClock,
-) -> Result<Option<u64>, NoMemory> {
+) -> Option<u64> {
     let mut limits = Limits::standard();
     limits.idle = 3;
     match read_schema(alloc, BUILT_IN) {
         Ok(schema) => {
-            let plant = new_plant(alloc, schema, TODAY, &limits)?;
+            let plant = new_plant(alloc, schema, TODAY, &limits).expect(rt, "memory");
             watch(rt, alloc, &limits, plant, link, clock)
         }
-        Err(_) => Ok(None),
+        Err(_) => None,
     }
 }

@@ -1,5 +1,5 @@
 -- The responses that take no memory.
-use Rattle.std.proofs.Common.{◌≡◌, ◌<◌, ◌+◌, ℕ, List, [], ◌∷◌, length, refl, ap, sym, ◌∙◌, codes, true, ltb, arith}
+use Rattle.std.proofs.Common.{◌≡◌, ◌<◌, ℕ, List, [], ◌∷◌, length, refl, ap, sym, ◌∙◌, codes, true, ltb, arith}
 use Rattle.std.proofs.lemmas.Bool.{lt-ltb}
 use Rattle.ipc_codec.specs.Lengths.{saturated}
 use Rattle.ipc_codec.specs.Written.{IsPlain, written}

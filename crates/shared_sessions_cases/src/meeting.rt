@@ -44,7 +44,7 @@ pub(crate) struct Client<'a> {
 }
 
 impl<'a> Client<'a> {
-    /// A client whose clock stands still.
+    /// A client whose clock always gives the same moment.
     pub(crate) fn new(parts: &'a [Part], barrier: &'a Barrier) -> Client<'a> {
         Client {
             parts,

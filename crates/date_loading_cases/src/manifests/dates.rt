@@ -10,12 +10,12 @@ use std::alloc::Global;
 use std::process::Abort;
 
 // A disk with a manifest of the built-in tables.
-fn started(alloc: Global) -> Result<MemDisk, ManifestRefusal> {
-    let schema = built_in_schema(alloc)?;
+fn started(rt: &impl Abort, alloc: Global) -> MemDisk {
+    let schema = built_in_schema(alloc).expect(rt, "memory");
     let mut disk = MemDisk::new(alloc);
-    let manifest = Manifest::make(alloc, &mut disk, &schema)?;
+    let manifest = Manifest::make(alloc, &mut disk, &schema).expect(rt, "a manifest");
     drop(manifest);
-    Ok(disk)
+    disk
 }
 
 // Opens this date by the pass 3, where it may be opened.
@@ -69,18 +69,19 @@ fn has_dates(
     Ok(dates == count && manifest.records().len() == dates.wrapping_add(2))
 }
 
-fn run_of_dates(alloc: Global) -> Result<bool, ManifestRefusal> {
-    let mut disk = started(alloc)?;
-    let first = open_all(alloc, &mut disk, 0, 10_000)?;
-    let second = open_all(alloc, &mut disk, 10_000, 10_000)?;
-    let earlier = open_all(alloc, &mut disk, 19_999, 1)?;
-    Ok(first && second && !earlier && has_dates(alloc, &mut disk, 0, 20_000)?)
+fn run_of_dates(rt: &impl Abort, alloc: Global) -> bool {
+    let mut disk = started(rt, alloc);
+    let first = open_all(alloc, &mut disk, 0, 10_000).expect(rt, "dates");
+    let second = open_all(alloc, &mut disk, 10_000, 10_000).expect(rt, "dates");
+    let earlier = open_all(alloc, &mut disk, 19_999, 1).expect(rt, "dates");
+    let whole = has_dates(alloc, &mut disk, 0, 20_000).expect(rt, "dates");
+    first && second && !earlier && whole
 }
 
 #[test]
 fn many_dates(rt: HostRuntime) {
     let alloc = rt.alloc();
-    assert!(rt; run_of_dates(alloc) == Ok(true));
+    assert!(rt; run_of_dates(&rt, alloc));
 }
 
 // Calls of which the one after `place` others fails.
@@ -94,24 +95,27 @@ fn one_failing(rt: &impl Abort, alloc: Global, place: usize) -> Callings {
 }
 
 // Opens a date while the call after `place` others fails: whether that is told, and a load then finds the tables, and at most this date.
-fn is_left_whole(rt: &impl Abort, alloc: Global, place: usize) -> Result<bool, ManifestRefusal> {
-    let mut disk = started(alloc)?;
-    let mut manifest = Manifest::load(alloc, &mut disk)?;
+fn is_left_whole(rt: &impl Abort, alloc: Global, place: usize) -> bool {
+    let mut disk = started(rt, alloc);
+    let Ok(mut manifest) = Manifest::load(alloc, &mut disk) else {
+        return false;
+    };
     disk.plan(one_failing(rt, alloc, place), None);
-    manifest.reserve()?;
+    manifest.reserve().expect(rt, "memory");
     if !manifest.is_clean() || !manifest.may_open(3, 5) {
-        return Ok(false);
+        return false;
     }
     let failed = manifest.opened(&mut disk, 3, 5).is_err();
     let unclean = !manifest.is_clean();
-    let found = Manifest::load(alloc, &mut disk)?.records().len();
-    Ok(failed && unclean && (found == 2 || found == 3))
+    let loaded = Manifest::load(alloc, &mut disk).expect(rt, "a manifest");
+    let found = loaded.records().len();
+    failed && unclean && (found == 2 || found == 3)
 }
 
 #[test]
 fn failed_calls_leave_a_manifest(rt: HostRuntime) {
     let alloc = rt.alloc();
     for place in 0..4 {
-        assert!(rt; is_left_whole(&rt, alloc, place) == Ok(true));
+        assert!(rt; is_left_whole(&rt, alloc, place));
     }
 }

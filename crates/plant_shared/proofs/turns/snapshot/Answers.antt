@@ -5,7 +5,8 @@ use Rattle.plant_lock.specs.Told.{Told}
 use Rattle.plant_shared.specs.Shared.{locked, SnapsPass}
 use Rattle.std.specs.Prelude.{IfOk}
 use Rattle.plant_core.proofs.TurnLemmas.{none_added}
-use Rattle.plant_shared.proofs.SharedLemmas.{looked, snaps_shared}
+use Rattle.plant_shared.proofs.PassLemmas.{looked}
+use Rattle.plant_shared.proofs.SharedLemmas.{snaps_shared}
 use Rattle.plant_shared.proofs.turns.snapshot.Goals as goal
 
 pub give-requires-clause-history : goal.give-requires-clause-history

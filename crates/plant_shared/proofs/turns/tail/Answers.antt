@@ -5,7 +5,8 @@ use Rattle.plant_lock.specs.Told.{Told}
 use Rattle.plant_shared.specs.Shared.{locked, TailsPass}
 use Rattle.std.specs.Prelude.{IfOk}
 use Rattle.plant_core.proofs.TurnLemmas.{none_added}
-use Rattle.plant_shared.proofs.SharedLemmas.{looked, tails_shared}
+use Rattle.plant_shared.proofs.PassLemmas.{looked}
+use Rattle.plant_shared.proofs.SharedLemmas.{tails_shared}
 use Rattle.plant_shared.proofs.turns.tail.Goals as goal
 
 -- what the pass had seen begins the plant's chronicle

@@ -4,7 +4,8 @@ use Rattle.plant_memory.specs.Memory.{MemoryView}
 use Rattle.plant_lock.specs.Told.{Told}
 use Rattle.plant_shared.specs.Took.{Took, given}
 use Rattle.plant_shared.specs.Shared.{locked, IsLatest, TicksPass, latest_tick}
-use Rattle.plant_shared.proofs.SharedLemmas.{can_give, frame_kept, is_found, origin_is, is_given, stays_pass, tick_is, ticks_shared, latest_ticks}
+use Rattle.plant_shared.proofs.PassLemmas.{can_give, frame_kept, is_found, origin_is, is_given, stays_pass, tick_is}
+use Rattle.plant_shared.proofs.SharedLemmas.{ticks_shared, latest_ticks}
 use Rattle.plant_shared.proofs.turns.tick.Goals as goal
 
 pub give-requires : goal.give-requires

@@ -4,7 +4,8 @@ use Rattle.plant_memory.specs.Memory.{MemoryView}
 use Rattle.plant_lock.specs.Told.{Told}
 use Rattle.plant_shared.specs.Took.{Took, given}
 use Rattle.plant_shared.specs.Shared.{locked, IsLatest, UpdatesPass, latest_update}
-use Rattle.plant_shared.proofs.SharedLemmas.{can_give, frame_kept, is_found, origin_is, is_given, stays_pass, update_is, updates_shared, latest_updates}
+use Rattle.plant_shared.proofs.PassLemmas.{can_give, frame_kept, is_found, origin_is, is_given, stays_pass, update_is}
+use Rattle.plant_shared.proofs.SharedLemmas.{updates_shared, latest_updates}
 use Rattle.plant_shared.proofs.turns.update.Goals as goal
 
 pub give-requires : goal.give-requires

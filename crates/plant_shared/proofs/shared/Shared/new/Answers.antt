@@ -1,5 +1,5 @@
 use Rattle.std.proofs.Common.{refl}
-use Rattle.plant_shared.proofs.SharedLemmas.{latest_fresh}
+use Rattle.plant_shared.proofs.PassLemmas.{latest_fresh}
 use Rattle.plant_shared.proofs.shared.Shared.new.Goals as goal
 
 pub invariant_of-result : goal.invariant_of-result

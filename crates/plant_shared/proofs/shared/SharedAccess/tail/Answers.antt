@@ -1,5 +1,5 @@
 use Rattle.std.proofs.Common.{◌≡◌, Some, rules, refl, sym, ◌∙◌}
-use Rattle.plant_shared.proofs.SharedLemmas.{kept_is}
+use Rattle.plant_shared.proofs.PassLemmas.{kept_is}
 use Rattle.plant_shared.proofs.shared.SharedAccess.tail.Goals as goal
 
 pub tail-pass-requires-clause-seen : goal.tail-pass-requires-clause-seen

@@ -1,6 +1,6 @@
 use Rattle.std.proofs.Common.{◌≡◌, Some, w64, to_z, of_z, rules, refl, sym, subst, ◌∙◌}
 use Rattle.plant_shared.specs.Shared.{IsLatest}
-use Rattle.plant_shared.proofs.SharedLemmas.{kept_is}
+use Rattle.plant_shared.proofs.PassLemmas.{kept_is}
 use Rattle.plant_shared.proofs.shared.SharedAccess.tick.Goals as goal
 
 pub invariant_of-self : goal.invariant_of-self

@@ -1,6 +1,7 @@
 use Rattle.std.proofs.Common.{refl, ◌∙◌}
 use Rattle.session.proofs.EventLemmas.{greeting_goes, message_goes, outside_goes}
-use Rattle.session.proofs.StepLemmas.{more_step, idle_goes, bad_end, failed_end, input_end}
+use Rattle.session.proofs.QuietEndLemmas.{bad_end, failed_end, input_end}
+use Rattle.session.proofs.StepLemmas.{more_step, idle_goes}
 use Rattle.session.proofs.session.Session.serve_next.Goals as goal
 
 pub returns-in-More-clause-goes : goal.returns-in-More-clause-goes
