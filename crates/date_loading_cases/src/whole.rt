@@ -1,5 +1,6 @@
 //! Plants whose files are sound.
 use crate::plant::{FIRST, Found, SECOND, add, load, one_date, two_dates};
+use date_loading::LoadRefusal;
 use date_logs::format;
 use outside_mem::{Leaving, MemDisk};
 use schema_text::built_in_schema;
@@ -66,18 +67,20 @@ fn no_date_is_loaded(rt: HostRuntime) {
 }
 
 // Whether an update that is added after a load is loaded next time.
-fn goes_on(rt: &impl Abort, alloc: Global) -> bool {
-    let schema = built_in_schema(alloc).expect(rt, "memory");
-    let (mut disk, _logs) = one_date(rt, alloc, &schema, 2, 1).expect(rt, "a disk");
-    let Ok((_founds, Some(mut logs))) = load(alloc, &mut disk, &schema, FIRST) else {
-        return false;
+fn goes_on(rt: &impl Abort, alloc: Global) -> Result<bool, LoadRefusal> {
+    let schema = built_in_schema(alloc)?;
+    let Some((mut disk, _logs)) = one_date(rt, alloc, &schema, 2, 1) else {
+        return Ok(false);
+    };
+    let (_founds, Some(mut logs)) = load(alloc, &mut disk, &schema, FIRST)? else {
+        return Ok(false);
     };
     let added = add(rt, alloc, &mut disk, &mut logs, &schema, 3, 1);
-    let (founds, _logs) = load(alloc, &mut disk, &schema, FIRST).expect(rt, "a load");
-    added && founds.as_slice() == [first(3, 1)].as_slice()
+    let (founds, _logs) = load(alloc, &mut disk, &schema, FIRST)?;
+    Ok(added && founds.as_slice() == [first(3, 1)].as_slice())
 }
 
 #[test]
 fn a_loaded_plant_goes_on(rt: HostRuntime) {
-    assert!(rt; goes_on(&rt, rt.alloc()));
+    assert!(rt; matches!(goes_on(&rt, rt.alloc()), Ok(true)));
 }
