@@ -1,6 +1,8 @@
 #!/usr/bin/env python3
 """Times a date in memory, compared with plain vectors in Rust: its updates, a copy of it, its end, and reading a column.
 
+A column is also compared with the same rows in blocks in Rust, which lie in memory as the plant's do.
+
 Prints a table of times, each the best of all rounds, and a table of memory, from runs of their own. Needs Linux, rustc and
 the kit's `rt`, and nothing else but Python 3. Rows for which there isn't enough memory are left out.
 """
@@ -29,6 +31,8 @@ def times(program, loop, rows, size, runs):
     for step in ("log", "read", "sort"):
         if best["day", step][1] != rows or best["loop", step][1] != rows:
             sys.exit(f"day.py: {step} was not of {rows} rows")
+    if best["loop", "parts"][1] != rows:
+        sys.exit(f"day.py: parts was not of {rows} rows")
     return {key: took for key, (took, _) in best.items()}
 
 
@@ -44,14 +48,15 @@ def memory(program, state, rows, size, runs):
 
 def show_times(measured):
     print(f"{'rows':>11} {'update':>7} {'make ns':>8} {'log ns':>7} {'loop ns':>8} {'copy us':>8} {'roll ms':>8} {'symbols':>8} {'sort':>7} {'loop sort':>10}", end=" ")
-    print(f"{'read ms':>8} {'copy ms':>8} {'ratio':>6} {'ended ms':>9}")
+    print(f"{'read ms':>8} {'copy ms':>8} {'ratio':>6} {'parts ms':>9} {'ratio':>6} {'ended ms':>9}")
     for (rows, size), best in measured.items():
         roll = best["day", "order"] + best["day", "close"]
         log, loop_log = ((best[who, "log"] - best[who, "make"]) / rows for who in ("day", "loop"))
         print(f"{rows:11,} {size:7,} {best['day', 'make'] / rows:8.1f} {log:7.1f} {loop_log:8.1f} {best['day', 'copy'] / 1e3:8.1f}", end=" ")
         print(f"{roll / 1e6:8.2f} {best['day', 'symbols'] / 1e6:8.2f} {best['day', 'sort'] / 1e6:7.2f} {best['loop', 'sort'] / 1e6:10.2f}", end=" ")
-        read, copied = best["day", "read"], best["loop", "read"]
-        print(f"{read / 1e6:8.3f} {copied / 1e6:8.3f} {read / copied:6.2f} {best['day', 'ended'] / 1e6:9.2f}")
+        read, copied, parts = best["day", "read"], best["loop", "read"], best["loop", "parts"]
+        print(f"{read / 1e6:8.3f} {copied / 1e6:8.3f} {read / copied:6.2f}", end=" ")
+        print(f"{parts / 1e6:9.3f} {read / parts:6.2f} {best['day', 'ended'] / 1e6:9.2f}")
 
 
 def show_memory(program, given, runs):

@@ -39,6 +39,11 @@ CALLS = (
     ("symbols", "in_50", "s in fifty"),
     ("symbols", "like", 's like "S4*"'),
     ("symbols", "order", "iasc s"),
+    ("long_symbols", "equal", "l=m"),
+    ("long_symbols", "below", "l<m"),
+    ("long_symbols", "in_50", "l in fifty"),
+    ("long_symbols", "like", 'l like "S4*"'),
+    ("long_symbols", "order", "iasc l"),
     ("groups", "symbols_100", "by 100 symbols"),
     ("sum_by", "symbols_100", "sum by them"),
     ("last_by", "symbols_100", "last by them"),
@@ -75,7 +80,7 @@ def main():
             programs.best_of([program, *arguments], own)
             programs.best_of(beside, arrays)
             programs.best_of([loop, *arguments], loops)
-    counts = {"symbols": options.symbols, **dict.fromkeys(("groups", "sum_by", "last_by", "max_by"), options.rows)}
+    counts = {"symbols": options.symbols, "long_symbols": options.symbols, **dict.fromkeys(("groups", "sum_by", "last_by", "max_by"), options.rows)}
     print(f"{'':18} {'rows':>11} {'ms':>9} {'ns/row':>8} {'numpy ms':>9} {'to numpy':>8} {'loop ms':>9} {'to loop':>8}")
     for what, call, shown in CALLS:
         took, total = own[what, call]

@@ -48,48 +48,7 @@ pub fn append_block(
     }
 }
 
-// Puts a block's column at the end, lent; nothing where the block has none.
-fn add_column<'a>(
-    parts: &mut Vec<&'a Vector>,
-    block: &'a Block,
-    table: u32,
-    column: usize,
-) -> Result<(), NoMemory>
-    ensures { OnOk result (flat_map (λ part. part.now.atoms) parts.new.items
-        ≡ flat_map (λ part. part.now.atoms) parts.old.items ++ joined table column block.now) }
-{
-    if let Some(found) = block.column(table, column) {
-        parts.push(found)?;
-    }
-    Ok(())
-}
-
-// The `n` atoms from the index `from` on of these vectors, in order; fewer where they end before.
-fn join_parts(
-    alloc: Global,
-    parts: &[&Vector],
-    kind: Kind,
-    from: usize,
-    n: usize,
-) -> Result<Vector, NoMemory>
-    ensures { IfOk result (λ found. found ≡ record {
-      kind = kind;
-      atoms = take n (drop from (flat_map (λ part. part.now.atoms) parts.now));
-    }) }
-{
-    let mut found = Vector::new(alloc, kind);
-    found.reserve(n)?;
-    let mut skip = from;
-    for part in parts {
-        let left = n - found.len();
-        append_part(&mut found, part, skip, left)?;
-        skip = skip.saturating_sub(part.len());
-    }
-    Ok(found)
-}
-
-/// The `n` atoms from the row `from` on of a table's column in the blocks; fewer where it ends before. All columns are found
-/// before the first is copied, so that the processor looks for many at once.
+/// The `n` atoms from the row `from` on of a table's column in the blocks; fewer where it ends before.
 pub fn join_blocks(
     alloc: Global,
     blocks: &[&Block],
@@ -104,11 +63,12 @@ pub fn join_blocks(
       atoms = take n (drop from (joined table column (flat_map (λ block. block.now) blocks.now)));
     }) }
 {
-    let mut parts = Vec::with_capacity(alloc, blocks.len())?;
+    let mut found = Vector::new(alloc, kind);
+    found.reserve(n)?;
+    let mut skip = from;
     for block in blocks {
-        add_column(&mut parts, block, table, column)?;
+        skip = append_block(&mut found, block, table, column, skip, n)?;
     }
-    let found = join_parts(alloc, &parts, kind, from, n)?;
     Ok(found)
 }
 

@@ -1,5 +1,5 @@
 //! Messages of batches of updates, which have one message for each table.
-ghost use Rattle.std.specs.Prelude.{◌≡◌, ◌<◌, ◌≤◌, ◌++◌, [], ◌∷◌, true, length, map, option_copied, IfOk, OnOk};
+ghost use Rattle.std.specs.Prelude.{◌≡◌, ◌≢◌, ◌<◌, ◌≤◌, ◌++◌, [], ◌∷◌, true, length, map, option_copied, IfOk, OnOk};
 ghost use Rattle.std.specs.List.{AllByRecursion, flat_map};
 ghost use Rattle.pubsub.specs.Parts.{ArePassed};
 ghost use Rattle.std.specs.Bool.{OnTrue, OnFalse};
@@ -140,6 +140,14 @@ fn count_updates(entry: &Entry) -> usize
     }
 }
 
+// Whether a batch of this many updates takes no more.
+fn is_full(updates: usize) -> bool
+    ensures full { OnTrue result (updates ≡ 16) }
+    ensures more { OnFalse result (updates ≢ 16) }
+{
+    updates == BATCH
+}
+
 // How many entries the first batch has: those up to its last update, or up to a roll or the end.
 fn batch_len(entries: &[Entry]) -> usize
     ensures batch { IsBatch entries.now result }
@@ -153,7 +161,7 @@ fn batch_len(entries: &[Entry]) -> usize
             return i;
         }
         count += count_updates(entry);
-        if count == BATCH {
+        if is_full(count) {
             return i + 1;
         }
     }

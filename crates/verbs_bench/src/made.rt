@@ -121,3 +121,34 @@ pub fn first_symbols(alloc: Global, count: u32) -> Result<Vector> {
     }
     Ok(items)
 }
+
+// A letter and three digits, and then as many letters as bring it to 5 to 20 bytes.
+fn long_name_of(alloc: Global, n: u32) -> Result<Sym> {
+    let digit = |d: u32| b'0' + (d % 10) as u8;
+    let mut bytes = [b'a'; 20];
+    bytes[0] = b'S';
+    bytes[1] = digit(n / 100);
+    bytes[2] = digit(n / 10);
+    bytes[3] = digit(n);
+    let length = 5 + (n % 16) as usize;
+    Ok(Sym::of(alloc, &bytes[..length])?)
+}
+
+/// `count` symbols of 5 to 20 bytes, in no order.
+pub fn long_symbols(alloc: Global, count: u32, step: u64) -> Result<Vector> {
+    let mut items = Vector::new(alloc, Kind::Symbol);
+    for i in 0..count {
+        let number = ((u64::from(i).wrapping_mul(step) >> 32) % 1000) as u32;
+        items.push(Atom::Symbol(long_name_of(alloc, number)?))?;
+    }
+    Ok(items)
+}
+
+/// The first `count` of those symbols.
+pub fn first_long_symbols(alloc: Global, count: u32) -> Result<Vector> {
+    let mut items = Vector::new(alloc, Kind::Symbol);
+    for number in 0..count {
+        items.push(Atom::Symbol(long_name_of(alloc, number)?))?;
+    }
+    Ok(items)
+}

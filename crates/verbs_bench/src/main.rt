@@ -17,6 +17,7 @@
 //! symbols in_50 NANOSECONDS SUM
 //! symbols like NANOSECONDS SUM
 //! symbols order NANOSECONDS NUMBER
+//! long_symbols order NANOSECONDS NUMBER
 //! groups symbols_100 NANOSECONDS GROUPS
 //! sum_by symbols_100 NANOSECONDS SUM
 //! groups dates NANOSECONDS GROUPS
@@ -44,6 +45,7 @@ fn main(rt: HostRuntime) -> Result<()> {
     if let Some(count) = arguments.next() {
         let count = count.as_str().parse::<u32>()?;
         names::report_symbols(&rt, count)?;
+        names::report_long_symbols(&rt, count)?;
     }
     if let Some(count) = arguments.next() {
         let count = count.as_str().parse::<u32>()?;

@@ -18,12 +18,12 @@ fn number_of_order(order: &[usize]) -> i64 {
     number.cast_signed()
 }
 
-fn order_timed<R: Clock + Print>(rt: &R, alloc: Global, items: &Vector) -> Result<()> {
+fn order_timed<R: Clock + Print>(rt: &R, alloc: Global, name: &str, items: &Vector) -> Result<()> {
     let start = Instant::now(rt)?;
     let order = items.order(alloc)?;
     let nanos = start.elapsed(rt)?.as_nanos();
     let number = number_of_order(order.as_slice());
-    println!(rt; "symbols order {nanos} {number}")?;
+    println!(rt; "{name} {nanos} {number}")?;
     Ok(())
 }
 
@@ -41,8 +41,8 @@ fn names_timed<R: Clock + Print>(
         one_timed(rt, alloc, "symbols equal_one", Verb::Eq, left, name)?;
         in_timed(rt, alloc, "symbols in", left, &five)?;
         in_timed(rt, alloc, "symbols in_50", left, &fifty)?;
-        like_timed(rt, alloc, left)?;
-        order_timed(rt, alloc, left)?;
+        like_timed(rt, alloc, "symbols like", left)?;
+        order_timed(rt, alloc, "symbols order", left)?;
     }
     Ok(())
 }
@@ -57,4 +57,20 @@ pub fn report_symbols<R: Clock + Print + AllocGlobal>(rt: &R, count: u32) -> Res
     }
     let name = Atom::Symbol(Sym::of(alloc, b"S042")?);
     names_timed(rt, alloc, &left, &right, &name)
+}
+
+/// Times the verbs over `count` symbols of 5 to 20 bytes.
+pub fn report_long_symbols<R: Clock + Print + AllocGlobal>(rt: &R, count: u32) -> Result<()> {
+    let alloc = rt.alloc();
+    let left = made::long_symbols(alloc, count, made::STEP)?;
+    let right = made::long_symbols(alloc, count, made::OTHER_STEP)?;
+    let fifty = made::first_long_symbols(alloc, 50)?;
+    for _ in 0..ROUNDS {
+        columns_timed(rt, alloc, "long_symbols equal", Verb::Eq, &left, &right)?;
+        columns_timed(rt, alloc, "long_symbols below", Verb::Lt, &left, &right)?;
+        in_timed(rt, alloc, "long_symbols in_50", &left, &fifty)?;
+        like_timed(rt, alloc, "long_symbols like", &left)?;
+        order_timed(rt, alloc, "long_symbols order", &left)?;
+    }
+    Ok(())
 }

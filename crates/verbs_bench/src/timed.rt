@@ -186,7 +186,12 @@ pub fn in_timed<R: Clock + Print>(
 }
 
 /// Times `like` with a pattern that a symbol begins with.
-pub fn like_timed<R: Clock + Print>(rt: &R, alloc: Global, items: &Vector) -> Result<()> {
+pub fn like_timed<R: Clock + Print>(
+    rt: &R,
+    alloc: Global,
+    name: &str,
+    items: &Vector,
+) -> Result<()> {
     if items.kind() != Kind::Symbol {
         bail!("no symbols");
     }
@@ -194,7 +199,7 @@ pub fn like_timed<R: Clock + Print>(rt: &R, alloc: Global, items: &Vector) -> Re
     let found = is_like(alloc, &Side::Column(items), PREFIX)?;
     let nanos = start.elapsed(rt)?.as_nanos();
     let sum = sum_of(alloc, &found)?;
-    println!(rt; "symbols like {nanos} {sum}")?;
+    println!(rt; "{name} {nanos} {sum}")?;
     Ok(())
 }
 
