@@ -240,7 +240,7 @@ fn cause_at<O: Outside>(outside: &mut O, alloc: Global, path: &str) -> Option<Ca
 
 #[test]
 fn folders_are_made_opened_and_locked(rt: HostRuntime) {
-    let path = fresh_path(&rt, "folder").expect(&rt, "failed");
+    let path = fresh_path(&rt, "folder").expect(&rt, "a folder");
     let alloc = rt.alloc();
     let wakers = Wakers::new(rt.alloc());
     let mut outside = StandardOutside::new(&rt, &wakers, FullWriter);
@@ -250,28 +250,28 @@ fn folders_are_made_opened_and_locked(rt: HostRuntime) {
     );
     let mut disk = outside
         .make_folder(alloc, path.as_str())
-        .expect(&rt, "failed");
-    disk.write_at(0, 0, b"abc").expect(&rt, "failed");
+        .expect(&rt, "a folder");
+    disk.write_at(0, 0, b"abc").expect(&rt, "a disk");
     assert_eq!(rt;
         cause_at(&mut outside, alloc, path.as_str()),
         Some(Cause::InUse)
     );
     outside.keep(disk);
     assert_eq!(rt; cause_at(&mut outside, alloc, path.as_str()), None);
-    let file = format!(in alloc; "{path}/f0").expect(&rt, "failed");
+    let file = format!(in alloc; "{path}/f0").expect(&rt, "memory");
     assert_eq!(rt;
         cause_at(&mut outside, alloc, file.as_str()),
         Some(Cause::NotAFolder)
     );
     let bytes = outside
         .read_file(alloc, file.as_str())
-        .expect(&rt, "failed");
+        .expect(&rt, "a file");
     assert_eq!(rt; bytes.as_slice(), b"abc".as_slice());
-    let absent = format!(in alloc; "{path}/f1").expect(&rt, "failed");
+    let absent = format!(in alloc; "{path}/f1").expect(&rt, "memory");
     let refused = outside.read_file(alloc, absent.as_str());
     assert!(rt; matches!(&refused, Err(FileRefusal::MakeFault(Cause::Missing))));
     let _reading = outside.clock().now();
-    fs::remove_dir_all(&rt, path.as_str()).expect(&rt, "failed");
+    fs::remove_dir_all(&rt, path.as_str()).expect(&rt, "a file");
 }
 
 /// A port of this machine that nothing listens on.
@@ -282,39 +282,39 @@ fn free_port(rt: &HostRuntime) -> io::Result<u16> {
 
 #[test]
 fn a_port_is_listened_on_once(rt: HostRuntime) {
-    let port = free_port(&rt).expect(&rt, "failed");
+    let port = free_port(&rt).expect(&rt, "a port");
     let wakers = Wakers::new(rt.alloc());
     let mut outside = StandardOutside::new(&rt, &wakers, FullWriter);
-    outside.listen(port).expect(&rt, "failed");
+    outside.listen(port).expect(&rt, "a port");
     let mut other = StandardOutside::new(&rt, &wakers, FullWriter);
     let refused = MakeFault {
         cause: Cause::PortInUse,
     };
     assert_eq!(rt; other.listen(port), Err(refused));
     assert!(rt;
-        outside.accept().expect(&rt, "failed").is_none(),
+        outside.accept().expect(&rt, "a connection").is_none(),
         "no connection came"
     );
 }
 
 #[test]
 fn a_connection_is_a_link(rt: HostRuntime) {
-    let port = free_port(&rt).expect(&rt, "failed");
+    let port = free_port(&rt).expect(&rt, "a port");
     let wakers = Wakers::new(rt.alloc());
     let mut outside = StandardOutside::new(&rt, &wakers, FullWriter);
-    outside.listen(port).expect(&rt, "failed");
-    let mut client = TcpStream::connect(&rt, ("127.0.0.1", port)).expect(&rt, "failed");
-    let Some(mut link) = outside.accept().expect(&rt, "failed") else {
+    outside.listen(port).expect(&rt, "a port");
+    let mut client = TcpStream::connect(&rt, ("127.0.0.1", port)).expect(&rt, "a connection");
+    let Some(mut link) = outside.accept().expect(&rt, "a connection") else {
         panic!(rt; "no connection");
     };
     assert_eq!(rt; read_one(&mut link), (Got::Idle, 0));
-    client.write_all(&[7]).expect(&rt, "failed");
+    client.write_all(&[7]).expect(&rt, "a connection");
     assert_eq!(rt; read_one(&mut link), (Got::Bytes(1), 7));
     assert!(rt; write_one(&mut link).is_ok());
     let clock = outside.clock();
     let recorder = outside.recorder();
     outside.back(Some(link), Some(clock), Some(recorder));
     let mut all = Vec::new(rt.alloc());
-    client.read_to_end(&mut all).expect(&rt, "failed");
+    client.read_to_end(&mut all).expect(&rt, "a connection");
     assert_eq!(rt; all.as_slice(), [3].as_slice());
 }

@@ -14,7 +14,7 @@ const FILE: u64 = 1_008_767;
 fn payload(rt: &impl Abort, alloc: Global) -> Payload
     ensures { 0 < length result.bytes }
 {
-    let mut payload = Payload::with_room(alloc, 80).expect(rt, "failed");
+    let mut payload = Payload::with_room(alloc, 80).expect(rt, "memory");
     payload.fill(&[7; 80]);
     payload
 }
@@ -52,12 +52,12 @@ fn found<D: Disk>(alloc: Global, disk: &mut D) -> Option<(usize, bool)> {
 
 #[test]
 fn thousand_records_are_found_again(rt: HostRuntime) {
-    let path = fresh_path(&rt, "journal").expect(&rt, "failed");
+    let path = fresh_path(&rt, "journal").expect(&rt, "a folder");
     let mut disk = made(&rt, path.as_str()).expect(&rt, "no disk");
     assert!(rt; fill(&rt, rt.alloc(), &mut disk, 1_000));
     drop(disk);
     let mut disk = opened(&rt, path.as_str()).expect(&rt, "no disk");
     assert_eq!(rt; found(rt.alloc(), &mut disk), Some((1_000, true)));
     assert_eq!(rt; disk.faults(), 0);
-    fs::remove_dir_all(&rt, path.as_str()).expect(&rt, "failed");
+    fs::remove_dir_all(&rt, path.as_str()).expect(&rt, "a file");
 }

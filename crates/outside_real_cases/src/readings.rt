@@ -49,7 +49,7 @@ fn known_times(rt: HostRuntime) {
 // It was 2026 when this was written.
 #[test]
 fn machine_time(rt: HostRuntime) {
-    let mut clock = RealClock::new(rt.clone().expect(&rt, "failed"));
+    let mut clock = RealClock::new(rt.clone().expect(&rt, "memory"));
     assert!(rt; clock.now() > 820_000_000_000_000_000);
     assert_eq!(rt; clock.faults(), 0);
 }

@@ -60,40 +60,40 @@ fn look_at(disk: &mut RealDisk) -> Result<([u64; 3], [u8; 3]), DiskFault> {
 
 #[test]
 fn written_bytes_are_found_again(rt: HostRuntime) {
-    let path = fresh_path(&rt, "found").expect(&rt, "failed");
+    let path = fresh_path(&rt, "found").expect(&rt, "a folder");
     let mut disk = sent(made(&rt, path.as_str()).expect(&rt, "no disk"));
-    write_two(&mut disk).expect(&rt, "failed");
+    write_two(&mut disk).expect(&rt, "a disk");
     assert_eq!(rt;
-        look_at(&mut disk).expect(&rt, "failed"),
+        look_at(&mut disk).expect(&rt, "a disk"),
         ([5, 1, 0], *b"bXY")
     );
     assert_eq!(rt; disk.faults(), 0);
     drop(disk);
     let mut disk = opened(&rt, path.as_str()).expect(&rt, "no disk");
     assert_eq!(rt;
-        look_at(&mut disk).expect(&rt, "failed"),
+        look_at(&mut disk).expect(&rt, "a disk"),
         ([5, 1, 0], *b"bXY")
     );
-    let whole = format!(in rt.alloc(); "{path}/f0").expect(&rt, "failed");
-    let bytes = read_file(&rt, rt.alloc(), whole.as_str(), 5).expect(&rt, "failed");
+    let whole = format!(in rt.alloc(); "{path}/f0").expect(&rt, "memory");
+    let bytes = read_file(&rt, rt.alloc(), whole.as_str(), 5).expect(&rt, "a file");
     assert_eq!(rt; bytes.as_slice(), b"abXYe".as_slice());
-    let last = format!(in rt.alloc(); "{path}/f18446744073709551615").expect(&rt, "failed");
-    assert!(rt; fs::exists(&rt, last.as_str()).expect(&rt, "failed"));
-    let absent = format!(in rt.alloc(); "{path}/f7").expect(&rt, "failed");
-    assert!(rt; !fs::exists(&rt, absent.as_str()).expect(&rt, "failed"));
-    fs::remove_dir_all(&rt, path.as_str()).expect(&rt, "failed");
+    let last = format!(in rt.alloc(); "{path}/f18446744073709551615").expect(&rt, "memory");
+    assert!(rt; fs::exists(&rt, last.as_str()).expect(&rt, "a file"));
+    let absent = format!(in rt.alloc(); "{path}/f7").expect(&rt, "memory");
+    assert!(rt; !fs::exists(&rt, absent.as_str()).expect(&rt, "a file"));
+    fs::remove_dir_all(&rt, path.as_str()).expect(&rt, "a file");
 }
 
 #[test]
 fn faults_are_counted(rt: HostRuntime) {
-    let path = fresh_path(&rt, "faults").expect(&rt, "failed");
+    let path = fresh_path(&rt, "faults").expect(&rt, "a folder");
     let mut disk = made(&rt, path.as_str()).expect(&rt, "no disk");
-    let folder = format!(in rt.alloc(); "{path}/f1").expect(&rt, "failed");
-    fs::create_dir(&rt, folder.as_str()).expect(&rt, "failed");
-    let full = format!(in rt.alloc(); "{path}/f2").expect(&rt, "failed");
-    symlink(&rt, "/dev/full", full.as_str()).expect(&rt, "failed");
+    let folder = format!(in rt.alloc(); "{path}/f1").expect(&rt, "memory");
+    fs::create_dir(&rt, folder.as_str()).expect(&rt, "a file");
+    let full = format!(in rt.alloc(); "{path}/f2").expect(&rt, "memory");
+    symlink(&rt, "/dev/full", full.as_str()).expect(&rt, "a file");
     let mut buf = [0; 2];
-    disk.write_at(0, 0, b"a").expect(&rt, "failed");
+    disk.write_at(0, 0, b"a").expect(&rt, "a disk");
     assert!(rt; disk.read(0, 0, &mut buf).is_err(), "a read past the end");
     assert!(rt;
         disk.read(3, 0, &mut buf).is_err(),
@@ -115,29 +115,29 @@ fn faults_are_counted(rt: HostRuntime) {
     assert!(rt; disk.write_at(2, 0, b"a").is_err(), "a full disk");
     assert_eq!(rt; disk.faults(), 7);
     assert_eq!(rt; disk.size(0), Ok(1));
-    fs::remove_dir_all(&rt, path.as_str()).expect(&rt, "failed");
+    fs::remove_dir_all(&rt, path.as_str()).expect(&rt, "a file");
 }
 
 // The superuser may write into any folder.
 #[test]
 fn read_only_folder(rt: HostRuntime) {
-    let path = fresh_path(&rt, "read_only").expect(&rt, "failed");
+    let path = fresh_path(&rt, "read_only").expect(&rt, "a folder");
     let mut disk = made(&rt, path.as_str()).expect(&rt, "no disk");
     let mut permissions = fs::metadata(&rt, path.as_str())
-        .expect(&rt, "failed")
+        .expect(&rt, "a file")
         .permissions();
     permissions.set_readonly(true);
-    fs::set_permissions(&rt, path.as_str(), permissions).expect(&rt, "failed");
-    let other = format!(in rt.alloc(); "{path}/other").expect(&rt, "failed");
+    fs::set_permissions(&rt, path.as_str(), permissions).expect(&rt, "a file");
+    let other = format!(in rt.alloc(); "{path}/other").expect(&rt, "memory");
     let is_superuser = fs::write(&rt, other.as_str(), b"").is_ok();
     assert_eq!(rt; disk.write_at(0, 0, b"a").is_ok(), is_superuser);
     assert_eq!(rt; disk.faults() == 0, is_superuser);
     let mut permissions = fs::metadata(&rt, path.as_str())
-        .expect(&rt, "failed")
+        .expect(&rt, "a file")
         .permissions();
     permissions.set_readonly(false);
-    fs::set_permissions(&rt, path.as_str(), permissions).expect(&rt, "failed");
-    fs::remove_dir_all(&rt, path.as_str()).expect(&rt, "failed");
+    fs::set_permissions(&rt, path.as_str(), permissions).expect(&rt, "a file");
+    fs::remove_dir_all(&rt, path.as_str()).expect(&rt, "a file");
 }
 
 fn refusal_of(rt: &HostRuntime, path: &str) -> Option<FolderRefusal> {
@@ -146,20 +146,20 @@ fn refusal_of(rt: &HostRuntime, path: &str) -> Option<FolderRefusal> {
 
 #[test]
 fn folder_is_opened_once(rt: HostRuntime) {
-    let path = fresh_path(&rt, "lock").expect(&rt, "failed");
+    let path = fresh_path(&rt, "lock").expect(&rt, "a folder");
     assert_eq!(rt;
         refusal_of(&rt, path.as_str()),
         Some(FolderRefusal::Missing)
     );
     let mut disk = made(&rt, path.as_str()).expect(&rt, "no disk");
     assert_eq!(rt; refusal_of(&rt, path.as_str()), Some(FolderRefusal::InUse));
-    disk.write_at(0, 0, b"a").expect(&rt, "failed");
-    let file = format!(in rt.alloc(); "{path}/f0").expect(&rt, "failed");
+    disk.write_at(0, 0, b"a").expect(&rt, "a disk");
+    let file = format!(in rt.alloc(); "{path}/f0").expect(&rt, "memory");
     assert_eq!(rt;
         refusal_of(&rt, file.as_str()),
         Some(FolderRefusal::NotAFolder)
     );
-    let within = format!(in rt.alloc(); "{path}/f0/x").expect(&rt, "failed");
+    let within = format!(in rt.alloc(); "{path}/f0/x").expect(&rt, "memory");
     assert_eq!(rt;
         refusal_of(&rt, within.as_str()),
         Some(FolderRefusal::NotAFolder)
@@ -168,18 +168,18 @@ fn folder_is_opened_once(rt: HostRuntime) {
     assert_eq!(rt; refusal_of(&rt, path.as_str()), None);
     let again = made(&rt, path.as_str()).expect(&rt, "no disk");
     drop(again);
-    fs::remove_dir_all(&rt, path.as_str()).expect(&rt, "failed");
+    fs::remove_dir_all(&rt, path.as_str()).expect(&rt, "a file");
 }
 
 #[test]
 fn file_read_whole(rt: HostRuntime) {
-    let path = fresh_path(&rt, "whole").expect(&rt, "failed");
+    let path = fresh_path(&rt, "whole").expect(&rt, "a folder");
     let missing = read_file(&rt, rt.alloc(), path.as_str(), 100);
     assert_eq!(rt; missing.err(), Some(ReadRefusal::Missing));
-    fs::write(&rt, path.as_str(), b"abc").expect(&rt, "failed");
-    let bytes = read_file(&rt, rt.alloc(), path.as_str(), 3).expect(&rt, "failed");
+    fs::write(&rt, path.as_str(), b"abc").expect(&rt, "a file");
+    let bytes = read_file(&rt, rt.alloc(), path.as_str(), 3).expect(&rt, "a file");
     assert_eq!(rt; bytes.as_slice(), b"abc".as_slice());
     let too_long = read_file(&rt, rt.alloc(), path.as_str(), 2);
     assert_eq!(rt; too_long.err(), Some(ReadRefusal::TooLong));
-    fs::remove_file(&rt, path.as_str()).expect(&rt, "failed");
+    fs::remove_file(&rt, path.as_str()).expect(&rt, "a file");
 }

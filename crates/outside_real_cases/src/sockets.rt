@@ -36,20 +36,20 @@ fn bytes_pass_and_a_read_times_out(rt: HostRuntime) {
     let wakers = Wakers::new(rt.alloc());
     let (mut client, stream) = connected(&rt).expect(&rt, "no port");
     let mut link = sent(SocketLink::new(&rt, &wakers, stream));
-    let start = Instant::now(&rt).expect(&rt, "failed");
+    let start = Instant::now(&rt).expect(&rt, "a reading");
     assert_eq!(rt; read_two(&mut link), (Got::Idle, [0, 0]));
-    let waited = start.elapsed(&rt).expect(&rt, "failed");
+    let waited = start.elapsed(&rt).expect(&rt, "a reading");
     assert!(rt; waited >= Duration::from_millis(45) && waited < Duration::from_millis(2_000));
-    client.write_all(b"abc").expect(&rt, "failed");
+    client.write_all(b"abc").expect(&rt, "a connection");
     assert_eq!(rt; read_two(&mut link), (Got::Bytes(2), *b"ab"));
     assert_eq!(rt; read_two(&mut link), (Got::Bytes(1), *b"c\x00"));
-    client.shutdown(Shutdown::Write).expect(&rt, "failed");
+    client.shutdown(Shutdown::Write).expect(&rt, "a connection");
     assert_eq!(rt; read_two(&mut link), (Got::End, [0, 0]));
     assert_eq!(rt; read_two(&mut link), (Got::End, [0, 0]));
     assert!(rt; link.write(b"xyz").is_ok(), "the client may still read");
     drop(link);
     let mut all = Vec::new(rt.alloc());
-    client.read_to_end(&mut all).expect(&rt, "failed");
+    client.read_to_end(&mut all).expect(&rt, "a connection");
     assert_eq!(rt; all.as_slice(), b"xyz".as_slice());
 }
 
@@ -72,14 +72,14 @@ fn ten_million_bytes_in_one_write(rt: HostRuntime) {
     let (client, stream) = connected(&rt).expect(&rt, "no port");
     let mut link = SocketLink::new(&rt, &wakers, stream);
     let mut bytes = Vec::new(rt.alloc());
-    bytes.resize(10_000_000, 7).expect(&rt, "failed");
+    bytes.resize(10_000_000, 7).expect(&rt, "memory");
     let reader = match thread::spawn(&rt, move || read_all(client)) {
         Ok(reader) => reader,
         Err(_) => panic!(rt; "no thread"),
     };
     assert!(rt; link.write(&bytes).is_ok());
     drop(link);
-    assert_eq!(rt; reader.join(&rt).expect(&rt, "failed"), 10_000_000);
+    assert_eq!(rt; reader.join(&rt).expect(&rt, "a result"), 10_000_000);
 }
 
 // A client that closes without having read what it was sent resets the connection.
@@ -100,14 +100,17 @@ fn a_client_that_vanishes_is_a_fault(rt: HostRuntime) {
 #[test]
 fn clients_that_are_gone_before_they_are_accepted(rt: HostRuntime) {
     let wakers = Wakers::new(rt.alloc());
-    let open = OpenPort::listen(&rt, free_port(&rt).expect(&rt, "no port")).expect(&rt, "failed");
+    let open = OpenPort::listen(&rt, free_port(&rt).expect(&rt, "no port")).expect(&rt, "a port");
     for _ in 0..5u32 {
-        let client = TcpStream::connect(&rt, ("127.0.0.1", open.port())).expect(&rt, "failed");
+        let client = TcpStream::connect(&rt, ("127.0.0.1", open.port())).expect(
+            &rt,
+            "a connection",
+        );
         drop(client);
     }
     let mut accepted = 0u32;
     for _ in 0..5u32 {
-        if let Some(stream) = open.accept(&rt).expect(&rt, "failed") {
+        if let Some(stream) = open.accept(&rt).expect(&rt, "a connection") {
             let mut link = SocketLink::new(&rt, &wakers, stream);
             assert_eq!(rt; read_two(&mut link), (Got::End, [0, 0]));
             accepted = accepted.wrapping_add(1);
@@ -124,11 +127,11 @@ fn reads_time_out_soon_after_a_publication(rt: HostRuntime) {
     let (client, stream) = connected(&rt).expect(&rt, "no port");
     let mut link = SocketLink::new(&rt, &wakers, stream);
     assert!(rt; link.write(b"told").is_ok());
-    let start = Instant::now(&rt).expect(&rt, "failed");
+    let start = Instant::now(&rt).expect(&rt, "a reading");
     for _ in 0..20u32 {
         assert_eq!(rt; read_two(&mut link), (Got::Idle, [0, 0]));
     }
-    let waited = start.elapsed(&rt).expect(&rt, "failed");
+    let waited = start.elapsed(&rt).expect(&rt, "a reading");
     assert!(rt; waited < Duration::from_millis(900));
     drop(client);
 }
@@ -136,15 +139,15 @@ fn reads_time_out_soon_after_a_publication(rt: HostRuntime) {
 #[test]
 fn a_port_is_listened_on_once(rt: HostRuntime) {
     let port = free_port(&rt).expect(&rt, "no port");
-    let open = OpenPort::listen(&rt, port).expect(&rt, "failed");
+    let open = OpenPort::listen(&rt, port).expect(&rt, "a port");
     assert_eq!(rt; open.port(), port);
     assert_eq!(rt; OpenPort::listen(&rt, port).err(), Some(PortRefusal::InUse));
-    let start = Instant::now(&rt).expect(&rt, "failed");
+    let start = Instant::now(&rt).expect(&rt, "a reading");
     assert!(rt;
-        open.accept(&rt).expect(&rt, "failed").is_none(),
+        open.accept(&rt).expect(&rt, "a connection").is_none(),
         "no connection came"
     );
-    let waited = start.elapsed(&rt).expect(&rt, "failed");
+    let waited = start.elapsed(&rt).expect(&rt, "a reading");
     assert!(rt; waited >= Duration::from_millis(45) && waited < Duration::from_millis(2_000));
     drop(open);
     assert!(rt; OpenPort::listen(&rt, port).is_ok(), "it is free again");

@@ -10,10 +10,10 @@ use std::time::{Clock, Duration, Instant};
 
 /// Reads until the client wasn't told anything for more than a second, so that reads wait for 50 milliseconds again.
 fn calm_down<R: Clock + Abort, L: Link>(rt: &R, link: &mut L) {
-    let start = Instant::now(rt).expect(rt, "failed");
+    let start = Instant::now(rt).expect(rt, "a reading");
     for _ in 0..u64::MAX {
         assert_eq!(rt; read_two(link), (Got::Idle, [0, 0]));
-        if start.elapsed(rt).expect(rt, "failed") > Duration::from_millis(1_100) {
+        if start.elapsed(rt).expect(rt, "a reading") > Duration::from_millis(1_100) {
             return;
         }
     }
@@ -21,17 +21,17 @@ fn calm_down<R: Clock + Abort, L: Link>(rt: &R, link: &mut L) {
 
 /// How long this number of reads take, each of which times out.
 fn time_of<R: Clock + Abort, L: Link>(rt: &R, link: &mut L, reads: u32) -> Duration {
-    let start = Instant::now(rt).expect(rt, "failed");
+    let start = Instant::now(rt).expect(rt, "a reading");
     for _ in 0..reads {
         assert_eq!(rt; read_two(link), (Got::Idle, [0, 0]));
     }
-    start.elapsed(rt).expect(rt, "failed")
+    start.elapsed(rt).expect(rt, "a reading")
 }
 
 /// A client that sends a byte every two milliseconds, and its link: each of its reads but the first wakes others.
 fn act<R: Clock + Abort, L: Link + Drop>(rt: &R, mut client: TcpStream, mut link: L, bytes: u32) {
     for _ in 0..bytes {
-        client.write_all(b"x").expect(rt, "failed");
+        client.write_all(b"x").expect(rt, "a connection");
         assert_eq!(rt; read_two(&mut link), (Got::Bytes(1), *b"x\x00"));
         thread::sleep(rt, Duration::from_millis(2));
     }
@@ -66,18 +66,18 @@ fn bytes_and_the_end_of_a_joined_connection(rt: HostRuntime) {
     let wakers = Wakers::new(rt.alloc());
     let (mut client, stream) = connected(&rt).expect(&rt, "no port");
     let mut link = SocketLink::new(&rt, &wakers, stream);
-    client.write_all(b"abcde").expect(&rt, "failed");
+    client.write_all(b"abcde").expect(&rt, "a connection");
     thread::sleep(&rt, Duration::from_millis(20));
     assert!(rt; link.write(b"told").is_ok());
     assert_eq!(rt; read_two(&mut link), (Got::Bytes(2), *b"ab"));
     assert_eq!(rt; read_two(&mut link), (Got::Bytes(2), *b"cd"));
     assert_eq!(rt; read_two(&mut link), (Got::Bytes(1), *b"e\x00"));
     assert_eq!(rt; read_two(&mut link), (Got::Idle, [0, 0]));
-    client.write_all(b"fg").expect(&rt, "failed");
+    client.write_all(b"fg").expect(&rt, "a connection");
     thread::sleep(&rt, Duration::from_millis(20));
     assert_eq!(rt; read_two(&mut link), (Got::Bytes(2), *b"fg"));
     assert_eq!(rt; read_two(&mut link), (Got::Idle, [0, 0]));
-    client.shutdown(Shutdown::Write).expect(&rt, "failed");
+    client.shutdown(Shutdown::Write).expect(&rt, "a connection");
     thread::sleep(&rt, Duration::from_millis(20));
     assert_eq!(rt; read_two(&mut link), (Got::End, [0, 0]));
     link.leave();

@@ -47,18 +47,18 @@ pub fn serve<R: Abort + Threads + Wait + Sync, O: Outside>(
     let mut words = Vec::new(alloc);
     for word in ["serve", "--port"] {
         words
-            .push(String::from_str(alloc, word).expect(rt, "failed"))
-            .expect(rt, "failed");
+            .push(String::from_str(alloc, word).expect(rt, "memory"))
+            .expect(rt, "memory");
     }
     words
-        .push(format!(in alloc; "{port}").expect(rt, "failed"))
-        .expect(rt, "failed");
+        .push(format!(in alloc; "{port}").expect(rt, "memory"))
+        .expect(rt, "memory");
     words
-        .push(String::from_str(alloc, "--sessions").expect(rt, "failed"))
-        .expect(rt, "failed");
+        .push(String::from_str(alloc, "--sessions").expect(rt, "memory"))
+        .expect(rt, "memory");
     words
-        .push(format!(in alloc; "{sessions}").expect(rt, "failed"))
-        .expect(rt, "failed");
+        .push(format!(in alloc; "{sessions}").expect(rt, "memory"))
+        .expect(rt, "memory");
     run(rt, alloc, &words, outside)
 }
 
@@ -75,13 +75,13 @@ where
     F: FnOnce(&HostRuntime, Global, u16) -> io::Result<T> + Send + Drop + 'static,
     requires { F.IsAlwaysCallable clients }
 {
-    let (theirs, alloc) = (rt.clone().expect(threads, "failed"), rt.alloc());
-    let port = free_port(rt).expect(threads, "failed");
+    let (theirs, alloc) = (rt.clone().expect(threads, "memory"), rt.alloc());
+    let port = free_port(rt).expect(threads, "a port");
     let found = thread::spawn(threads, move || clients(&theirs, alloc, port)).expect(
-        threads, "failed",
+        threads, "a thread",
     );
     assert_eq!(threads; serve(threads, alloc, port, sessions, outside), 0);
-    found.join(threads).expect(threads, "failed")
+    found.join(threads).expect(threads, "a result")
 }
 
 /// A connection to the port, as soon as something listens on it.

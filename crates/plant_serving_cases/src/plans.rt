@@ -22,18 +22,18 @@ fn two(rt: &HostRuntime, alloc: Global, port: u16) -> io::Result<u64> {
 #[test]
 fn sessions_go_on_after_the_port_failed(rt: HostRuntime) {
     let (theirs, alloc, port) = (
-        rt.clone().expect(&rt, "failed"),
+        rt.clone().expect(&rt, "memory"),
         rt.alloc(),
-        free_port(&rt).expect(&rt, "failed"),
+        free_port(&rt).expect(&rt, "a port"),
     );
-    let clients = thread::spawn(&rt, move || two(&theirs, alloc, port)).expect(&rt, "failed");
+    let clients = thread::spawn(&rt, move || two(&theirs, alloc, port)).expect(&rt, "a thread");
     let wakers = Wakers::new(rt.alloc());
     let mut outside = PlannedOutside::failing_after(&rt, &wakers, 2);
     assert_eq!(rt; serve(&rt, alloc, port, 3, &mut outside), 9);
-    assert_eq!(rt; clients.join(&rt).expect(&rt, "failed"), 200);
+    assert_eq!(rt; clients.join(&rt).expect(&rt, "a result"), 200);
     let line = format!(in alloc;
         "plant: cannot listen\nplant: port {port}: the system refused it\n"
-    ).expect(&rt, "failed");
+    ).expect(&rt, "memory");
     assert_eq!(rt; outside.errors(), line.as_bytes());
 }
 
@@ -80,28 +80,28 @@ fn feed_beside(
 #[test]
 fn gates_run_beside(rt: HostRuntime) {
     let (asks, feeds, alloc, port) = (
-        rt.clone().expect(&rt, "failed"),
-        rt.clone().expect(&rt, "failed"),
+        rt.clone().expect(&rt, "memory"),
+        rt.clone().expect(&rt, "memory"),
         rt.alloc(),
-        free_port(&rt).expect(&rt, "failed"),
+        free_port(&rt).expect(&rt, "a port"),
     );
-    let has_connected = Arc::new(alloc, AtomicBool::new(false)).expect(&rt, "failed");
-    let was_answered = Arc::new(alloc, AtomicBool::new(false)).expect(&rt, "failed");
+    let has_connected = Arc::new(alloc, AtomicBool::new(false)).expect(&rt, "memory");
+    let was_answered = Arc::new(alloc, AtomicBool::new(false)).expect(&rt, "memory");
     let (connected, answered) = (
-        has_connected.clone().expect(&rt, "failed"),
-        was_answered.clone().expect(&rt, "failed"),
+        has_connected.clone().expect(&rt, "memory"),
+        was_answered.clone().expect(&rt, "memory"),
     );
     let wakers = Wakers::new(rt.alloc());
     let mut outside = PlannedOutside::holding_first(&rt, &wakers, was_answered);
     let first = thread::spawn(&rt, move || ask_held(&asks, alloc, port, &has_connected)).expect(
-        &rt, "failed",
+        &rt, "a thread",
     );
     let second = thread::spawn(&rt, move || {
         feed_beside(&feeds, alloc, port, &connected, &answered)
     })
-    .expect(&rt, "failed");
+    .expect(&rt, "a thread");
     assert_eq!(rt; serve(&rt, alloc, port, 2, &mut outside), 0);
-    assert_eq!(rt; first.join(&rt).expect(&rt, "failed"), [0, 1]);
-    assert_eq!(rt; second.join(&rt).expect(&rt, "failed"), 1);
+    assert_eq!(rt; first.join(&rt).expect(&rt, "a result"), [0, 1]);
+    assert_eq!(rt; second.join(&rt).expect(&rt, "a result"), 1);
     assert_eq!(rt; outside.errors(), b"".as_slice());
 }
