@@ -9,7 +9,7 @@ use Rattle.day_rows.specs.declared.entry.Entry.{Entry}
 use Rattle.day_rows.specs.declared.entry.Entry.TheVariants as e
 use Rattle.day_rows.specs.declared.schema.Shape.{Shape}
 use Rattle.pubsub.specs.Filters.{Subscribed}
-use Rattle.pubsub.specs.Steps.{IsBatch, IsRoll, told_one, date_after}
+use Rattle.pubsub.specs.Steps.{IsBatch, IsRoll, told_one, date_after, table_told, tables_told}
 use Rattle.pubsub.specs.Told.{Publication, published, rows_told, end_told, lines_in, updates_today, batches_of, batch_told, told_today, told_later, told}
 
 -- ---- cutting after every 16
@@ -151,9 +151,24 @@ range_from : (a n : ℕ) → range_with_len a (suc n) ≡ range_with_len a n ++ 
 range_from a zero = ap (λ (k : ℕ). k ∷ []) (omega arith)
 range_from a (suc n) = ap (λ (l : List ℕ). a ∷ l) (range_from (a + 1) n ∙ ap (λ (k : ℕ). range_with_len (a + 1) n ++ k ∷ []) (omega arith))
 
-pub tables_more : (f : ℕ → List Publication) (n : ℕ) → flat_map f (range_with_len 0 (n + 1)) ≡ flat_map f (range_with_len 0 n) ++ f n
+tables_more : (f : ℕ → List Publication) (n : ℕ) → flat_map f (range_with_len 0 (n + 1)) ≡ flat_map f (range_with_len 0 n) ++ f n
 tables_more f n =
     rw add-one
     (ap (flat_map f) (range_from 0 n ∙ ap (λ (k : ℕ). range_with_len 0 n ++ k ∷ []) (omega arith))
     ∙ flat_map-append f (range_with_len 0 n) (n ∷ [])
     ∙ ap (λ (ps : List Publication). flat_map f (range_with_len 0 n) ++ ps) (append-nil (f n)))
+
+-- before the first table
+pub no_table : (before : List Publication) (s : Subscribed) (batch : List Entry) → before ≡ before ++ tables_told s batch 0
+unfolding tables_told
+no_table before s batch = sym (append-nil before)
+
+-- one more table
+pub one_more_table : (before : List Publication) (s : Subscribed) (batch : List Entry) (n : ℕ) → (before ++ tables_told s batch n) ++ table_told s batch n ≡ before ++ tables_told s batch (n + 1)
+unfolding tables_told
+one_more_table before s batch n = append_assoc before (tables_told s batch n) (table_told s batch n) ∙ ap (λ (ps : List Publication). before ++ ps) (sym (tables_more (table_told s batch) n))
+
+-- all tables
+pub all_tables : (before after : List Publication) (s : Subscribed) (schema : List Shape) (batch : List Entry) (n : ℕ) → s.schema ≡ schema → n ≡ length schema → after ≡ before ++ tables_told s batch n → after ≡ before ++ batch_told s batch
+unfolding tables_told table_told
+all_tables before after s schema batch n own all told = told ∙ ap (λ (k : ℕ). before ++ tables_told s batch k) (all ∙ ap length (sym own))

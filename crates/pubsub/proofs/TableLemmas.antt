@@ -82,10 +82,10 @@ pub some_of : (n : ℕ) → (n == 0) ≡ false → 0 < n
 some_of zero e = cc
 some_of (suc n) e = omega arith
 
-pub table_told : (s : Subscribed) (schema : List Shape) (table : ℕ) (shape : Shape) (chosen : Filter) (lines : List (List Atom)) (parts : List Part) (message : TapMessage) (before after : List TapMessage) → s.schema ≡ schema → slice_get schema table ≡ Some shape → slice_get s.filters table ≡ Some chosen
+pub message_told : (s : Subscribed) (schema : List Shape) (table : ℕ) (shape : Shape) (chosen : Filter) (lines : List (List Atom)) (parts : List Part) (message : TapMessage) (before after : List TapMessage) → s.schema ≡ schema → slice_get schema table ≡ Some shape → slice_get s.filters table ≡ Some chosen
     → ArePassed chosen schema table lines parts → 0 < length parts → publication message ≡ upd shape.table (grid_of shape (flat_map part_lines parts)) → after ≡ before ++ message ∷ []
     → map publication after ≡ map publication before ++ rows_told s table lines
-table_told s schema table shape chosen lines parts message before after own known given are some is pushed =
+message_told s schema table shape chosen lines parts message before after own known given are some is pushed =
     ap (map publication) pushed
     ∙ told_push before message (upd shape.table (grid_of shape (flat_map part_lines parts))) is
     ∙ ap (λ (ps : List Publication). map publication before ++ ps)

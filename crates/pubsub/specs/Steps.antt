@@ -1,6 +1,6 @@
 -- What is told of one entry after the other.
 use Rattle.std.specs.Prelude.{◌≡◌, ◌<◌, ◌==◌, ◌⊎◌, ℕ, ℤ, if◌then◌else◌, Option, Some, None, List, [], ◌∷◌, length, take, drop, filter, slice_get}
-use Rattle.std.specs.List.{AllByRecursion}
+use Rattle.std.specs.List.{AllByRecursion, flat_map, range_with_len}
 use Rattle.q_values.specs.Contents.{Contents}
 use Rattle.day_rows.specs.Chronicle.{KeepsDate}
 use Rattle.day_rows.specs.Day.{AreColumns}
@@ -42,6 +42,14 @@ IsPassedIn chosen schema table entry None = filter (passes chosen) (lines_in tab
 IsPassedIn chosen schema table entry (Some part) =
     (part_lines part ≡ filter (passes chosen) (lines_in table entry)) × (0 < length (part_lines part))
     × (shape : Shape) × (slice_get schema table ≡ Some shape) × IsPart shape.kinds part
+
+-- what is told of the rows that a batch has for a table
+unfoldable pub table_told : Subscribed → List Entry → ℕ → List Publication
+table_told subscribed batch table = rows_told subscribed table (flat_map (lines_in table) batch)
+
+-- what is told of a batch for the first n tables, in the schema's order
+unfoldable pub tables_told : Subscribed → List Entry → ℕ → List Publication
+tables_told subscribed batch n = flat_map (table_told subscribed batch) (range_with_len 0 n)
 
 abbrev pub IsRoll : Entry → Type 0
 IsRoll (e.Upd by table columns) = ⊥

@@ -4,8 +4,8 @@ ghost use Rattle.std.specs.List.{AllByRecursion, flat_map};
 ghost use Rattle.pubsub.specs.Parts.{ArePassed};
 ghost use Rattle.std.specs.Bool.{OnTrue, OnFalse};
 ghost use Rattle.day_rows.specs.Chronicle.{KeepsDate};
-ghost use Rattle.pubsub.specs.Steps.{IsPassedIn, IsBatch, IsRoll, BeginsWithin, columns_in};
-ghost use Rattle.pubsub.specs.Told.{publication, rows_told, lines_in, updates_today, batch_told, told};
+ghost use Rattle.pubsub.specs.Steps.{IsPassedIn, IsBatch, IsRoll, BeginsWithin, columns_in, table_told};
+ghost use Rattle.pubsub.specs.Told.{publication, lines_in, updates_today, batch_told, told};
 ghost use Rattle.plant_memory.specs.Memory.{IsOfSchema};
 
 use crate::filter::Filter;
@@ -75,6 +75,7 @@ fn parts_of<'a>(
     Ok(parts)
 }
 
+// Adds the message of the rows that a batch has for a table, if any of them are chosen.
 fn tell_table(
     alloc: Global,
     schema: &Schema,
@@ -87,7 +88,7 @@ fn tell_table(
     requires table { table < length schema.now }
     requires updates { AllByRecursion (IsOfSchema schema.now) batch.now }
     ensures { OnOk result (map publication messages.new.items
-        ≡ map publication messages.old.items ++ rows_told subscription.now table (flat_map (lines_in table) batch.now)) }
+        ≡ map publication messages.old.items ++ table_told subscription.now batch.now table) }
 {
     let chosen = subscription.filter(table);
     let found = parts_of(alloc, schema, chosen, table, batch)?;
@@ -100,6 +101,7 @@ fn tell_table(
     Ok(())
 }
 
+#[tactic(auto, using(crate::proofs::BatchLemmas::no_table, crate::proofs::BatchLemmas::one_more_table))]
 // Adds what is told of a batch: at most one message for each table.
 fn tell_batch(
     alloc: Global,

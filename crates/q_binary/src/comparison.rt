@@ -1,5 +1,5 @@
 //! Verbs that compare two columns item by item.
-ghost use Rattle.std.specs.Prelude.{◌≡◌, ◌≢◌, IsTrue, length, IfOk};
+ghost use Rattle.std.specs.Prelude.{◌≡◌, ◌≢◌, ℕ, IsTrue, length, IfOk, IfSome};
 ghost use Rattle.std.specs.Ordering.{nat_cmp};
 ghost use Rattle.std.specs.Cmp.Lexicographic.{slice_cmp};
 ghost use Rattle.std.specs.Simd.Lanes.{zip2};
@@ -15,7 +15,7 @@ use q_lanes::{
     Above, AtLeast, AtMost, Below, Cells, Ordered, Other, Relation, Same, Step, Texts, WideSide,
     booleans, zip_lanes,
 };
-use q_values::{NoMemory, ShortSymbol, Vector};
+use q_values::{Arena, Form, NoMemory, ShortSymbol, Vector};
 use q_verbs::{Side, Verb};
 use std::alloc::{AllocError, Global};
 
@@ -50,6 +50,35 @@ fn compare_texts<P: Relation>(
     Ok(values)
 }
 
+// The symbols of a column in an arena, where some have had more than eight bytes.
+fn long_texts<'a>(texts: &'a Texts<'_>) -> Option<&'a Arena>
+    ensures { IfSome result (λ arena. (n : ℕ) → text_items n texts.now ≡ arena.now) }
+{
+    match texts {
+        Texts::Each(symbols) => match symbols.form() {
+            Form::Long(arena) => Some(arena),
+            Form::Short(_) => None,
+        },
+        Texts::Every(_) => None,
+    }
+}
+
+// The same of two columns in arenas, so that no item's form is looked at.
+fn compare_arenas<P: Relation>(
+    alloc: Global,
+    left: &Arena,
+    right: &Arena,
+) -> Result<Vec<bool>, AllocError>
+    requires { length left.now ≡ length right.now }
+    ensures { IfOk result (λ v. v.items ≡ zip2 (λ s t. P.relates (slice_cmp nat_cmp s t)) left.now right.now) }
+{
+    let mut values = Vec::with_capacity(alloc, left.len())?;
+    for i in 0..left.len() {
+        values.push_reserved(P::holds(left.at(i).cmp(right.at(i))));
+    }
+    Ok(values)
+}
+
 fn compare_symbols<P: Relation>(
     alloc: Global,
     count: usize,
@@ -65,7 +94,10 @@ fn compare_symbols<P: Relation>(
         (Some(some), Some(others)) => {
             zip_lanes::<Compared<P>, ShortSymbol, bool>(alloc, count, &some, &others)
         }
-        _ => compare_texts::<P>(alloc, count, left, right),
+        _ => match (long_texts(left), long_texts(right)) {
+            (Some(some), Some(others)) => compare_arenas::<P>(alloc, some, others),
+            _ => compare_texts::<P>(alloc, count, left, right),
+        },
     }
 }
 

@@ -1,16 +1,9 @@
-use Rattle.std.proofs.Common.{ℕ, ◌++◌, List, ap, map, sym, ◌∙◌}
-use Rattle.std.specs.List.{flat_map, range_with_len}
-use Rattle.std.proofs.lemmas.List.{append_assoc}
-use Rattle.pubsub.specs.Told.{Publication, publication, rows_told, lines_in}
-use Rattle.pubsub.proofs.BatchLemmas.{tables_more}
+use Rattle.std.proofs.Common.{◌≡◌, length, map, arith}
+use Rattle.pubsub.specs.Told.{publication}
+use Rattle.pubsub.proofs.BatchLemmas.{all_tables}
 use Rattle.pubsub.proofs.batches.tell_batch.Goals as goal
 
-pub loop-table-preserved : goal.loop-table-preserved
-loop-table-preserved c =
-    let told = λ (table : ℕ). rows_told c.args.subscription.now table (flat_map (lines_in table) c.args.batch.now) in
-    let before = map publication c.args.messages.now.items in
-    let n = c.loop-table.table in
-    c.in_ok-tell_table.ensures
-    ∙ ap (λ (ps : List Publication). ps ++ told n) c.loop-table.invariant
-    ∙ append_assoc before (flat_map told (range_with_len 0 n)) (told n)
-    ∙ ap (λ (ps : List Publication). before ++ ps) (sym (tables_more told n))
+pub returns : goal.returns
+returns c =
+    let all : c.loop-table.table ≡ length c.args.schema.now = omega (arith, c.loop-table-test.false, c.loop-table.auto.table-end, c.len-table-end.ensures.value) in
+    all_tables (map publication c.args.messages.now.items) (map publication c.loop-table.messages.items) c.args.subscription.now c.args.schema.now c.args.batch.now c.loop-table.table c.requires.own all c.loop-table.invariant

@@ -1,7 +1,7 @@
 use Rattle.std.proofs.Common.{◌≡◌, ◌++◌, map}
-use Rattle.std.specs.List.{flat_map, range_with_len}
-use Rattle.pubsub.specs.Told.{publication, rows_told, lines_in}
+use Rattle.pubsub.specs.Told.{publication}
+use Rattle.pubsub.specs.Steps.{tables_told}
 use Rattle.pubsub.proofs.batches.tell_batch.Given as goal
 
 abbrev pub invariant-loop-table : goal.invariant-loop-table
-invariant-loop-table l = map publication l.messages.items ≡ map publication l.fn.messages.items ++ flat_map (λ table. rows_told l.subscription table (flat_map (lines_in table) l.batch)) (range_with_len 0 l.table)
+invariant-loop-table l = map publication l.messages.items ≡ map publication l.fn.messages.items ++ tables_told l.subscription l.batch l.table
