@@ -1,8 +1,9 @@
 //! Publications: what a subscriber is told after each message and each read timeout (KX, u.q).
-ghost use Rattle.std.specs.Prelude.{◌≡◌, [], ◌∷◌, Some, length};
+ghost use Rattle.std.specs.Prelude.{◌≡◌, [], ◌∷◌, Some, length, IfNone};
 ghost use Rattle.outside_api.specs.Told.{Tells};
 ghost use Rattle.session.specs.Acting.{Performs, Finishes};
 ghost use Rattle.session.specs.Owing.{FitsPlant, sent_up_to};
+ghost use Rattle.session.specs.Subscribing.{IsPaid};
 ghost use Rattle.session.specs.declared.subscriber.Subscriber.{Subscriber};
 
 use crate::act::send;
@@ -25,6 +26,7 @@ impl<A: Access, L: Link, C: Clock, G: Gate, N: Recorder> Session<'_, A, L, C, G,
         ensures access { self.new.access.now ≡ self.old.access.now }
         ensures clock { self.new.clock.now ≡ self.old.clock.now }
         ensures subscriber { self.new.subscriber.now ≡ sent_up_to to result self.old.subscriber.now }
+        ensures paid { IfNone result (IsPaid self.new.subscriber.now to) }
         ensures noted { Tells (N.noted self.old.recorder.now) (N.noted self.new.recorder.now) (Turn.Told from to ∷ []) }
         ensures sent { Finishes (L.shown self.old.link.now) (L.shown self.new.link.now) messages.now result }
     {

@@ -13,7 +13,7 @@ ghost use Rattle.session.specs.Owing.{FitsPlant, IsSubscriptionTo};
 ghost use Rattle.session_replies.specs.Reply.{reply, replied};
 ghost use Rattle.session_requests.specs.Request.{request_of};
 ghost use Rattle.session.specs.Served.{asked};
-ghost use Rattle.session.specs.Subscribing.{chosen_by};
+ghost use Rattle.session.specs.Subscribing.{chosen_by, IsPaid};
 
 use crate::answer::{Answer, replying, short};
 use crate::end::End;
@@ -103,8 +103,10 @@ impl<A: Access, L: Link, C: Clock, G: Gate, N: Recorder> Session<'_, A, L, C, G,
         Ok(Some(reply))
     }
 
-    /// Notes that a subscription holds from the length `to` on, and sends the response. A write that fails ends the session.
+    /// Notes that a subscription holds from the length `to` on, up to which the client was told all that the former one chose,
+    /// and sends the response. A write that fails ends the session.
     fn take_up(&mut self, subscription: Subscription, reply: Option<Reply>, to: u64) -> Option<End>
+        requires paid { IsPaid self.old.subscriber.now to }
         ensures same { HearsNothing self.old self.new }
         ensures access { self.new.access.now ≡ self.old.access.now }
         ensures clock { self.new.clock.now ≡ self.old.clock.now }

@@ -1,7 +1,8 @@
 //! Tests of sessions that share one plant over a disk in memory, through `shared_sessions::serve_shared`.
 //!
 //! ```text
-//! told         a session asks, another's update is answered, and the first one asks again; a third one is told of it
+//! told         a session asks, another's update is answered, and the first one asks again; a third one is told of it; one that
+//!              chooses anew is told of it first
 //! threads      four feeds and four readers beside each other, each on a thread of its own
 //! subscribers  two feeds and three subscribers beside each other, while a date ends
 //! ```

@@ -1,7 +1,9 @@
-//! A session that asks again once another's update was answered, and one that is told of it without asking.
-use crate::bytes::{BOTH, COUNT, DONE, GREETED, GREETING, TO_ALL, TOLD, UPDATE};
+//! A session that asks again once another's update was answered, and two that are told of it without asking.
+use crate::bytes::{
+    BOTH, COUNT, DONE, GREETED, GREETING, TO_AB_AND_CD, TO_ALL, TOLD, TRADE, UPDATE,
+};
 use crate::checks::Heard;
-use crate::meeting::{Client, Part, serve_three};
+use crate::meeting::{Client, Part, serve_three, serve_two};
 use crate::plants::{NOW, opened};
 use q_values::Turn;
 use std::alloc::Global;
@@ -34,6 +36,15 @@ const LISTENS: &[Part] = &[
     Part::Meets,
     Part::Meets,
     Part::Idles(1),
+];
+
+// Subscribes to everything, and once the update was answered to two other symbols of its table.
+const CHOOSES_ANEW: &[Part] = &[
+    Part::Sends(GREETING),
+    Part::Sends(TO_ALL),
+    Part::Meets,
+    Part::Meets,
+    Part::Sends(TO_AB_AND_CD),
 ];
 
 // The answers 0 and 1.
@@ -71,6 +82,18 @@ fn three_over_memory<R: Threads + Abort + Wait + Sync>(
     serve_three(rt, alloc, &lock, pass, &schema, &limits, clients)
 }
 
+// One that feeds, and one that chooses anew.
+fn two_over_memory<R: Threads + Abort + Wait + Sync>(rt: &R, alloc: Global) -> (Heard, Heard) {
+    let opened = opened(rt, alloc).expect(rt, "memory");
+    let (lock, pass, schema, limits) = opened.expect(rt, "a pass");
+    let barrier = Barrier::new(2);
+    let clients = [
+        Client::new(FEEDS, &barrier),
+        Client::new(CHOOSES_ANEW, &barrier),
+    ];
+    serve_two(rt, alloc, &lock, pass, &schema, &limits, clients)
+}
+
 // One session finds no update, another's is answered, and the first one then finds it. A third one is subscribed to
 // everything; it is told of the update when its next read times out.
 #[test]
@@ -97,5 +120,22 @@ fn told_before_asked(rt: HostRuntime) -> Result<(), Fail> {
     ];
     assert_eq!(rt; listened.turns.as_slice(), told.as_slice());
     assert!(rt; is_sent(listened.sent.as_slice(), &[GREETED, BOTH, TOLD]));
+    Ok(())
+}
+
+// A session's update is answered, of which a subscriber wasn't told yet. It is told of it before it is subscribed to symbols
+// that the update doesn't have.
+#[test]
+fn told_before_chosen_anew(rt: HostRuntime) -> Result<(), Fail> {
+    let (fed, chosen) = two_over_memory(&rt, rt.alloc());
+    assert!(rt; is_sent(fed.sent.as_slice(), &[GREETED, DONE]));
+    let told = [
+        GREETED_TURN,
+        Turn::Subscribed { length: 0 },
+        Turn::Told { from: 0, to: 1 },
+        Turn::Subscribed { length: 1 },
+    ];
+    assert_eq!(rt; chosen.turns.as_slice(), told.as_slice());
+    assert!(rt; is_sent(chosen.sent.as_slice(), &[GREETED, BOTH, TOLD, TRADE]));
     Ok(())
 }
