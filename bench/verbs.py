@@ -43,6 +43,8 @@ CALLS = (
     ("long_symbols", "below", "l<m"),
     ("long_symbols", "in_50", "l in fifty"),
     ("long_symbols", "like", 'l like "S4*"'),
+    ("long_symbols", "within", "l within two names"),
+    ("long_symbols", "distinct", "distinct l"),
     ("long_symbols", "order", "iasc l"),
     ("groups", "symbols_100", "by 100 symbols"),
     ("sum_by", "symbols_100", "sum by them"),

@@ -1,10 +1,12 @@
 //! The verbs over columns of symbols, timed as `timed` does it.
 
 use crate::made;
-use crate::timed::{ROUNDS, columns_timed, in_timed, like_timed, one_timed};
+use crate::timed::{ROUNDS, columns_timed, in_timed, like_timed, one_timed, sum_of};
 use anyhow::{Result, bail};
-use q_values::{Atom, Sym, Vector};
-use q_verbs::Verb;
+use q_matching::is_within;
+use q_unary::unary;
+use q_values::{Atom, Kind, Sym, Vector};
+use q_verbs::{Side, Verb, Verb1, result_kind1};
 use std::alloc::Global;
 use std::rt::Clock;
 use std::time::Instant;
@@ -24,6 +26,38 @@ fn order_timed<R: Clock + Print>(rt: &R, alloc: Global, name: &str, items: &Vect
     let nanos = start.elapsed(rt)?.as_nanos();
     let number = number_of_order(order.as_slice());
     println!(rt; "{name} {nanos} {number}")?;
+    Ok(())
+}
+
+// Times `within` between two symbols.
+fn within_timed<R: Clock + Print>(rt: &R, alloc: Global, name: &str, items: &Vector) -> Result<()> {
+    if items.kind() != Kind::Symbol {
+        bail!("no symbols");
+    }
+    let low = Atom::Symbol(Sym::of(alloc, b"S2")?);
+    let high = Atom::Symbol(Sym::of(alloc, b"S6")?);
+    let start = Instant::now(rt)?;
+    let found = is_within(alloc, &Side::Column(items), &low, &high)?;
+    let nanos = start.elapsed(rt)?.as_nanos();
+    let sum = sum_of(alloc, &found)?;
+    println!(rt; "{name} {nanos} {sum}")?;
+    Ok(())
+}
+
+fn distinct_timed<R: Clock + Print>(
+    rt: &R,
+    alloc: Global,
+    name: &str,
+    items: &Vector,
+) -> Result<()> {
+    if result_kind1(Verb1::Distinct, items.kind()).is_none() {
+        bail!("no such kind");
+    }
+    let start = Instant::now(rt)?;
+    let found = unary(alloc, Verb1::Distinct, items)?;
+    let nanos = start.elapsed(rt)?.as_nanos();
+    let count = found.len();
+    println!(rt; "{name} {nanos} {count}")?;
     Ok(())
 }
 
@@ -70,6 +104,8 @@ pub fn report_long_symbols<R: Clock + Print + AllocGlobal>(rt: &R, count: u32) -
         columns_timed(rt, alloc, "long_symbols below", Verb::Lt, &left, &right)?;
         in_timed(rt, alloc, "long_symbols in_50", &left, &fifty)?;
         like_timed(rt, alloc, "long_symbols like", &left)?;
+        within_timed(rt, alloc, "long_symbols within", &left)?;
+        distinct_timed(rt, alloc, "long_symbols distinct", &left)?;
         order_timed(rt, alloc, "long_symbols order", &left)?;
     }
     Ok(())
