@@ -15,8 +15,9 @@ import subprocess
 import sys
 import tempfile
 
+import programs
+
 HERE = os.path.dirname(os.path.realpath(__file__))
-ROOT = os.path.dirname(HERE)
 CLOCK = "2024.01.02D09:30:00.000000000"
 HALF_PAST_NINE = (9 * 60 + 30) * 60 * 10**9
 REPLY = 10  # bytes of the response (::)
@@ -55,15 +56,6 @@ def compiled(folder):
     program = os.path.join(folder, "durable")
     subprocess.run([os.environ.get("CC", "cc"), "-O2", "-o", program, os.path.join(HERE, "durable.c")], check=True)
     return program
-
-
-def built(named):
-    """The plant itself, without the script that builds and starts it."""
-    if named is not None:
-        return named
-    plant = os.path.join(ROOT, "bin", "plant")
-    subprocess.run([plant, "--version"], stdout=subprocess.DEVNULL, check=True)
-    return os.path.join(ROOT, "crates", "plant_cli", "out", "plant_cli")
 
 
 def asked(durable, count, message, *command):
@@ -113,7 +105,7 @@ def main():
     options = parser.parse_args()
     if min(options.updates, options.batches, options.runs) < 1:
         parser.error("N is at least 1")
-    plant = built(options.program)
+    plant = programs.plant(options.program)
     with tempfile.TemporaryDirectory(dir=options.folder) as folder:
         durable = compiled(folder)
         compare(durable, plant, folder, 1, options.updates, options.runs)

@@ -102,6 +102,7 @@ def main():
     parser.add_argument("--clickhouse-threads", type=int, default=1, metavar="N", help="threads of a query of ClickHouse (1)")
     parser.add_argument("--python", default=sys.executable, help="a Python that has numpy and pandas (the one that runs this)")
     options = parser.parse_args()
+    programs.ask_for_large_pages()
     if min(options.runs, options.clickhouse_threads, *options.rows) < 1:
         parser.error("N is at least 1")
     if subprocess.run([options.python, "-c", "import numpy, pandas"], stderr=subprocess.DEVNULL).returncode != 0:

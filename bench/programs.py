@@ -7,6 +7,11 @@ import sys
 HERE = os.path.dirname(os.path.realpath(__file__))
 
 
+def ask_for_large_pages():
+    """Has the C library ask for large pages in each program that is run from now on, as numpy does by itself."""
+    os.environ.setdefault("GLIBC_TUNABLES", "glibc.malloc.hugetlb=1")
+
+
 def proved(crate):
     """Builds a proved program where it isn't built, and returns its path. Without arguments the program does nothing."""
     folder = os.path.join(os.path.dirname(HERE), "crates", crate)
@@ -14,6 +19,15 @@ def proved(crate):
     if done.returncode != 0:
         sys.exit(f"{crate} cannot be built\n{done.stdout}")
     return os.path.join(folder, "out", crate)
+
+
+def plant(named):
+    """The plant itself, without the script that builds and starts it."""
+    if named is not None:
+        return named
+    root = os.path.dirname(HERE)
+    subprocess.run([os.path.join(root, "bin", "plant"), "--version"], stdout=subprocess.DEVNULL, check=True)
+    return os.path.join(root, "crates", "plant_cli", "out", "plant_cli")
 
 
 def compiled(folder, name, *options, edition="2021"):

@@ -33,8 +33,9 @@ ROOT = os.path.dirname(HERE)
 sys.path[:0] = [HERE, os.path.join(ROOT, "clients", "python")]
 
 from bars import draw  # noqa: E402
-from durable import built, update  # noqa: E402
+from durable import update  # noqa: E402
 from plant_client import Client, Vector  # noqa: E402
+from programs import plant as plant_program  # noqa: E402
 from subscribers import compare_subscribers  # noqa: E402
 
 SYMBOLS = 100
@@ -288,7 +289,7 @@ def print_queries(lines):
 
 
 def found_programs(options):
-    programs = {"plant": built(options.program), "redis": shutil.which("redis-server")}
+    programs = {"plant": plant_program(options.program), "redis": shutil.which("redis-server")}
     folders = sorted(glob.glob("/usr/lib/postgresql/*/bin"), key=lambda at: int(at.split("/")[4]))
     programs["postgres"] = folders[-1] if folders else None
     for name, source in (("clients", "serve.c"), ("subscribers", "subscribe.c")):

@@ -31,7 +31,7 @@ CALLS = (
     ("ints", "above_300", "a>300"),
     ("ints", "xbar_300", "300 xbar a"),
     ("dates", "above", "date>date"),
-    ("longs", "filter", "x where one in 16"),
+    ("longs", "filter", "x where a tenth"),
     ("longs", "in", "x in five"),
     ("symbols", "equal", "s=t"),
     ("symbols", "equal_one", "s=`S042"),
@@ -68,6 +68,7 @@ def main():
     parser.add_argument("--program", help="the program, if it is built already")
     parser.add_argument("--python", default=sys.executable, help="a Python that has numpy (the one that runs this)")
     options = parser.parse_args()
+    programs.ask_for_large_pages()
     if min(options.longs, options.symbols, options.rows, options.runs) < 1:
         parser.error("N is at least 1")
     if subprocess.run([options.python, "-c", "import numpy"], stderr=subprocess.DEVNULL).returncode != 0:

@@ -56,7 +56,7 @@ def report(count):
         timed("ints", "xbar_300", lambda: a // 300 * 300)
         timed("dates", "above", lambda: a > b)
     few, five = codes(count), numpy.array([2, 3, 5, 7, 11])
-    kept = few < 1
+    kept = a < 1_677_722
     for _ in range(ROUNDS):
         timed("longs", "filter", lambda: x[numpy.flatnonzero(kept)])
         timed("longs", "in", lambda: numpy.isin(few, five))

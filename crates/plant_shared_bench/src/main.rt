@@ -21,6 +21,9 @@
 //! arguments it prints nothing.
 #![tactic(auto)]
 
+ghost use Rattle.std.specs.Prelude.{◌≡◌, []};
+ghost use Rattle.plant_shared.specs.Shared.{IsPass};
+
 mod feeding;
 mod plants;
 mod reading;
@@ -30,10 +33,13 @@ use crate::feeding::{feed_as, feed_by_four, feed_by_two, feed_solo};
 use crate::plants::{opened, with_day};
 use crate::reading::{beside_one, beside_two, longest_alone, longest_beside};
 use anyhow::{Result, bail};
+use day_rows::Schema;
+use outside_mem::MemDisk;
+use plant_shared::{Lock, PlantPass};
 use std::alloc::Global;
 use std::env;
 use std::rt::Clock;
-use std::sync::Wait;
+use std::sync::{Arc, Wait};
 use std::thread::Threads;
 use std::time::Instant;
 
@@ -48,21 +54,24 @@ fn solo<R: Clock + Print + Wait>(rt: &R, alloc: Global, count: u32) -> Result<()
     Ok(())
 }
 
-// By one thread, two and four.
-fn feeds<R: Clock + Print + Threads + Wait + Sync>(
+// Prints what updates by one thread, two or four take.
+fn time_feeds<R: Clock + Print + Threads + Wait + Sync>(
     rt: &R,
     alloc: Global,
+    lock: &Lock<MemDisk>,
+    pass: PlantPass<MemDisk>,
+    schema: &Arc<Schema>,
     count: u32,
     threads: u32,
-) -> Result<()> {
-    let Some((lock, pass, schema)) = opened(rt, alloc)? else {
-        bail!("plant_shared_bench: no lock")
-    };
+) -> Result<()>
+    requires pass { IsPass lock.now.id pass × (pass.mine ≡ []) }
+    requires schema { schema.now.value ≡ lock.now.made.memory.frame.schema }
+{
     let start = Instant::now(rt)?;
     let logged = match threads {
-        1 => feed_as(rt, alloc, &lock, pass, &schema, count),
-        2 => feed_by_two(rt, alloc, &lock, pass, &schema, count),
-        _ => feed_by_four(rt, alloc, &lock, pass, &schema, count),
+        1 => feed_as(rt, alloc, lock, pass, schema, count),
+        2 => feed_by_two(rt, alloc, lock, pass, schema, count),
+        _ => feed_by_four(rt, alloc, lock, pass, schema, count),
     };
     let nanos = start.elapsed(rt)?.as_nanos();
     if !logged {
@@ -72,20 +81,36 @@ fn feeds<R: Clock + Print + Threads + Wait + Sync>(
     Ok(())
 }
 
-// By one feed beside a reader, and by two beside two.
-fn beside<R: Clock + Print + Threads + Wait + Sync>(
+// By one thread, two and four, each over a new plant.
+fn feeds<R: Clock + Print + Threads + Wait + Sync>(
     rt: &R,
     alloc: Global,
     count: u32,
-    pairs: u32,
+    threads: u32,
 ) -> Result<()> {
     let Some((lock, pass, schema)) = opened(rt, alloc)? else {
         bail!("plant_shared_bench: no lock")
     };
+    time_feeds(rt, alloc, &lock, pass, &schema, count, threads)
+}
+
+// Prints what updates by one feed beside a reader, or by two beside two, take.
+fn time_beside<R: Clock + Print + Threads + Wait + Sync>(
+    rt: &R,
+    alloc: Global,
+    lock: &Lock<MemDisk>,
+    pass: PlantPass<MemDisk>,
+    schema: &Arc<Schema>,
+    count: u32,
+    pairs: u32,
+) -> Result<()>
+    requires pass { IsPass lock.now.id pass × (pass.mine ≡ []) }
+    requires schema { schema.now.value ≡ lock.now.made.memory.frame.schema }
+{
     let start = Instant::now(rt)?;
     let taken = match pairs {
-        1 => beside_one(rt, alloc, &lock, pass, &schema, count),
-        _ => beside_two(rt, alloc, &lock, pass, &schema, count),
+        1 => beside_one(rt, alloc, lock, pass, schema, count),
+        _ => beside_two(rt, alloc, lock, pass, schema, count),
     };
     let nanos = start.elapsed(rt)?.as_nanos();
     let Some(taken) = taken else {
@@ -95,7 +120,44 @@ fn beside<R: Clock + Print + Threads + Wait + Sync>(
     Ok(())
 }
 
-// The longest update of a feed over a day of this many rows, without a reader and beside one.
+// By one feed beside a reader, and by two beside two, each over a new plant.
+fn beside<R: Clock + Print + Threads + Wait + Sync>(
+    rt: &R,
+    alloc: Global,
+    count: u32,
+    pairs: u32,
+) -> Result<()> {
+    let Some((lock, pass, schema)) = opened(rt, alloc)? else {
+        bail!("plant_shared_bench: no lock")
+    };
+    time_beside(rt, alloc, &lock, pass, &schema, count, pairs)
+}
+
+// Prints the longest update of a feed over the plant's day, without a reader or beside one.
+fn time_longest<R: Clock + Print + Threads + Wait + Sync>(
+    rt: &R,
+    alloc: Global,
+    lock: &Lock<MemDisk>,
+    pass: PlantPass<MemDisk>,
+    schema: &Arc<Schema>,
+    count: u32,
+    readers: u32,
+) -> Result<()>
+    requires pass { IsPass lock.now.id pass × (pass.mine ≡ []) }
+    requires schema { schema.now.value ≡ lock.now.made.memory.frame.schema }
+{
+    let found = match readers {
+        0 => longest_alone(rt, alloc, lock, pass, schema, count),
+        _ => longest_beside(rt, alloc, lock, pass, schema, count),
+    };
+    let Some((nanos, taken)) = found else {
+        bail!("plant_shared_bench: an update was not logged")
+    };
+    println!(rt; "longest {readers} {nanos} {taken}")?;
+    Ok(())
+}
+
+// The longest update over a day of this many rows, without a reader or beside one.
 fn longest<R: Clock + Print + Threads + Wait + Sync>(
     rt: &R,
     alloc: Global,
@@ -109,15 +171,7 @@ fn longest<R: Clock + Print + Threads + Wait + Sync>(
     let Some(pass) = with_day(rt, alloc, &lock, pass, &schema, rows) else {
         bail!("plant_shared_bench: the day was not logged")
     };
-    let found = match readers {
-        0 => longest_alone(rt, alloc, &lock, pass, &schema, count),
-        _ => longest_beside(rt, alloc, &lock, pass, &schema, count),
-    };
-    let Some((nanos, taken)) = found else {
-        bail!("plant_shared_bench: an update was not logged")
-    };
-    println!(rt; "longest {readers} {nanos} {taken}")?;
-    Ok(())
+    time_longest(rt, alloc, &lock, pass, &schema, count, readers)
 }
 
 fn report<R: Clock + Print + Threads + Wait + Sync>(

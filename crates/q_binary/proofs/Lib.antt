@@ -1,3 +1,4 @@
+pub mod DivisorLemmas
 pub mod ChoiceLemmas
 pub mod KindLemmas
 pub mod LawLemmas

@@ -5,10 +5,11 @@ ghost use Rattle.q_values.specs.Column.{contents, integer_kind, long_kind};
 ghost use Rattle.q_values.specs.declared.kind.Kind.TheVariants as k;
 ghost use Rattle.q_verbs.specs.Kinds.{is_computed};
 ghost use Rattle.q_lanes.specs.Lanes.{lane_items};
-ghost use Rattle.q_verbs.specs.Places.{operation, computes};
+ghost use Rattle.q_verbs.specs.Places.{operation, computes, multiple_of};
 ghost use Rattle.q_binary.specs.Computed.{computed, given_items, computed_sides};
 ghost use Rattle.q_verbs.specs.Sides.{side_kind, spread};
 
+use crate::multiples::multiples_of;
 use crate::operation::{
     Computed, DaysAndSpan, Difference, Greater, Lesser, Multiple, Operation, Product, Quotient,
     Remainder, SpanAndDays, Sum,
@@ -56,7 +57,7 @@ impl<T: Number> Task<'_, T> {
             Verb::Mul => self.results::<Product, U>(alloc),
             Verb::Div => self.results::<Quotient, U>(alloc),
             Verb::Mod => self.results::<Remainder, U>(alloc),
-            Verb::Xbar => self.results::<Multiple, U>(alloc),
+            Verb::Xbar => self.multiples(alloc),
             Verb::Lesser => self.results::<Lesser, U>(alloc),
             Verb::Greater => self.results::<Greater, U>(alloc),
             _ => unreachable!(),
@@ -78,6 +79,21 @@ impl<T: Number> Task<'_, T> {
             self.results::<SpanAndDays, U>(alloc)
         } else {
             self.results::<Sum, U>(alloc)
+        }
+    }
+
+    // Where one width above 0 stands beside a column, no item is divided by it.
+    fn multiples<U: Reduced>(&self, alloc: Global) -> Result<Vec<U>, AllocError>
+        requires left { length (lane_items self.now.count self.now.left) ≡ self.now.count }
+        requires right { length (lane_items self.now.count self.now.right) ≡ self.now.count }
+        ensures { IfOk result (λ v. v.items ≡ zip2 (λ x y. U.of (computed multiple_of (T.number x) (T.number y)))
+            (lane_items self.now.count self.now.left) (lane_items self.now.count self.now.right)) }
+    {
+        match (&self.left, &self.right) {
+            (Lane::Every(width), Lane::Each(items)) if width.widened() > 0 => {
+                multiples_of(alloc, width.widened(), items)
+            }
+            _ => self.results::<Multiple, U>(alloc),
         }
     }
 

@@ -1,5 +1,5 @@
 //! Verbs that compare two columns item by item.
-ghost use Rattle.std.specs.Prelude.{◌≡◌, ◌≢◌, ℕ, IsTrue, length, IfOk, IfSome};
+ghost use Rattle.std.specs.Prelude.{◌≡◌, ◌≢◌, IsTrue, length, IfOk};
 ghost use Rattle.std.specs.Ordering.{nat_cmp};
 ghost use Rattle.std.specs.Cmp.Lexicographic.{slice_cmp};
 ghost use Rattle.std.specs.Simd.Lanes.{zip2};
@@ -12,10 +12,10 @@ ghost use Rattle.q_verbs.specs.Sides.{side_kind, spread};
 ghost use Rattle.q_verbs.specs.Places.{is_comparison, holds};
 
 use q_lanes::{
-    Above, AtLeast, AtMost, Below, Cells, Ordered, Other, Relation, Same, Step, Texts, WideSide,
-    booleans, zip_lanes,
+    Above, AtLeast, AtMost, Below, Cells, Ordered, Other, Relation, Same, Step, TextList, Texts,
+    WideSide, booleans, zip_lanes,
 };
-use q_values::{Arena, Form, NoMemory, ShortSymbol, Vector};
+use q_values::{NoMemory, ShortSymbol, Vector};
 use q_verbs::{Side, Verb};
 use std::alloc::{AllocError, Global};
 
@@ -32,53 +32,25 @@ impl<P: Relation, T: Ordered> Step<T, bool> for Compared<P> {
     }
 }
 
-fn compare_texts<P: Relation>(
+// Two lists of one length, each kept in its own way.
+fn compare_lists<P: Relation, L: TextList, R: TextList>(
     alloc: Global,
-    count: usize,
-    left: &Texts<'_>,
-    right: &Texts<'_>,
+    left: &L,
+    right: &R,
 ) -> Result<Vec<bool>, AllocError>
-    requires left { length (text_items count left.now) ≡ count }
-    requires right { length (text_items count right.now) ≡ count }
-    ensures { IfOk result (λ v. v.items ≡ zip2
-        (λ s t. P.relates (slice_cmp nat_cmp s t)) (text_items count left.now) (text_items count right.now)) }
+    requires { length (L.texts left.now) ≡ length (R.texts right.now) }
+    ensures { IfOk result (λ v. v.items
+        ≡ zip2 (λ s t. P.relates (slice_cmp nat_cmp s t)) (L.texts left.now) (R.texts right.now)) }
 {
+    let count = left.count();
     let mut values = Vec::with_capacity(alloc, count)?;
     for i in 0..count {
-        values.push_reserved(P::holds(left.at(count, i).cmp(right.at(count, i))));
+        values.push_reserved(P::holds(left.text(i).cmp(right.text(i))));
     }
     Ok(values)
 }
 
-// The symbols of a column in an arena, where some have had more than eight bytes.
-fn long_texts<'a>(texts: &'a Texts<'_>) -> Option<&'a Arena>
-    ensures { IfSome result (λ arena. (n : ℕ) → text_items n texts.now ≡ arena.now) }
-{
-    match texts {
-        Texts::Each(symbols) => match symbols.form() {
-            Form::Long(arena) => Some(arena),
-            Form::Short(_) => None,
-        },
-        Texts::Every(_) => None,
-    }
-}
-
-// The same of two columns in arenas, so that no item's form is looked at.
-fn compare_arenas<P: Relation>(
-    alloc: Global,
-    left: &Arena,
-    right: &Arena,
-) -> Result<Vec<bool>, AllocError>
-    requires { length left.now ≡ length right.now }
-    ensures { IfOk result (λ v. v.items ≡ zip2 (λ s t. P.relates (slice_cmp nat_cmp s t)) left.now right.now) }
-{
-    let mut values = Vec::with_capacity(alloc, left.len())?;
-    for i in 0..left.len() {
-        values.push_reserved(P::holds(left.at(i).cmp(right.at(i))));
-    }
-    Ok(values)
-}
-
+// Short symbols are compared as numbers, and columns in arenas are read as they are.
 fn compare_symbols<P: Relation>(
     alloc: Global,
     count: usize,
@@ -90,14 +62,16 @@ fn compare_symbols<P: Relation>(
     ensures { IfOk result (λ v. v.items ≡ zip2
         (λ s t. P.relates (slice_cmp nat_cmp s t)) (text_items count left.now) (text_items count right.now)) }
 {
-    match (left.short(), right.short()) {
-        (Some(some), Some(others)) => {
-            zip_lanes::<Compared<P>, ShortSymbol, bool>(alloc, count, &some, &others)
+    if let (Some(some), Some(others)) = (left.short(), right.short()) {
+        return zip_lanes::<Compared<P>, ShortSymbol, bool>(alloc, count, &some, &others);
+    }
+    match (left.arena(), right.arena()) {
+        (Some(some), Some(others)) => compare_lists::<P, _, _>(alloc, some, others),
+        (Some(some), None) => compare_lists::<P, _, _>(alloc, some, &right.beside(count)),
+        (None, Some(others)) => compare_lists::<P, _, _>(alloc, &left.beside(count), others),
+        (None, None) => {
+            compare_lists::<P, _, _>(alloc, &left.beside(count), &right.beside(count))
         }
-        _ => match (long_texts(left), long_texts(right)) {
-            (Some(some), Some(others)) => compare_arenas::<P>(alloc, some, others),
-            _ => compare_texts::<P>(alloc, count, left, right),
-        },
     }
 }
 

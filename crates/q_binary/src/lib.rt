@@ -21,7 +21,9 @@ mod arithmetic;
 mod by_place;
 mod choice;
 mod comparison;
+mod divisor;
 pub mod laws;
+mod multiples;
 mod operation;
 
 pub use by_place::binary;

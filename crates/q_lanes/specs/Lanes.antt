@@ -7,8 +7,8 @@ use Rattle.q_values.specs.declared.kind.Kind.{Kind}
 use Rattle.q_values.specs.declared.kind.Kind.TheVariants as k
 use Rattle.q_lanes.specs.declared.lane.Lane.{Lane}
 use Rattle.q_lanes.specs.declared.lane.Lane.TheVariants as l
-use Rattle.q_lanes.specs.declared.cells.Texts.{Texts}
-use Rattle.q_lanes.specs.declared.cells.Texts.TheVariants as t
+use Rattle.q_lanes.specs.declared.texts.Texts.{Texts}
+use Rattle.q_lanes.specs.declared.texts.Texts.TheVariants as t
 use Rattle.q_lanes.specs.declared.cells.Cells.{Cells}
 use Rattle.q_lanes.specs.declared.cells.Cells.TheVariants as c
 

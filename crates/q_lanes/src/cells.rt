@@ -1,64 +1,15 @@
 //! The items of a side in the storage of their kind.
-ghost use Rattle.std.specs.Prelude.{◌≡◌, ◌<◌, ◌≢◌, ℕ, length, replicate, Some, slice_get, IfSome};
+ghost use Rattle.std.specs.Prelude.{◌≡◌, ◌≢◌, ℕ, replicate};
 ghost use Rattle.q_values.specs.Atom.{kind_of};
 ghost use Rattle.q_values.specs.Column.{contents};
 ghost use Rattle.q_values.specs.declared.kind.Kind.TheVariants as k;
-ghost use Rattle.q_lanes.specs.Lanes.{lane_items, text_items, cell_kind, cell_atoms};
+ghost use Rattle.q_lanes.specs.Lanes.{cell_kind, cell_atoms};
 ghost use Rattle.q_verbs.specs.Sides.{side_kind, spread};
 
 use crate::lane::Lane;
-use q_values::{
-    Atom, ByteKind, Column, Element, Form, IntegerKind, LongKind, ShortSymbol, Sym, Symbols,
-};
+use crate::texts::Texts;
+use q_values::{Atom, ByteKind, Column, Element, IntegerKind, LongKind};
 use q_verbs::Side;
-
-/// The symbols of a side.
-#[derive(Drop)]
-pub enum Texts<'a> {
-    /// Those of a column.
-    Each(&'a Symbols),
-    /// That of an atom.
-    Every(&'a Sym),
-}
-
-impl Texts<'_> {
-    /// The symbols in eight bytes each, where all are so short.
-    pub fn short(&self) -> Option<Lane<'_, ShortSymbol>>
-        ensures { IfSome result (λ lane. (n : ℕ) → lane_items n lane ≡ text_items n self.now) }
-    {
-        match self {
-            Texts::Each(symbols) => match symbols.form() {
-                Form::Short(items) => Some(Lane::Each(items)),
-                Form::Long(_) => None,
-            },
-            Texts::Every(symbol) => match ShortSymbol::of(symbol.bytes()) {
-                Some(short) => Some(Lane::Every(short)),
-                None => None,
-            },
-        }
-    }
-
-    /// The number of symbols of a column; 1 of an atom.
-    pub fn count(&self) -> usize
-        ensures { result ≡ length (text_items 1 self.now) }
-    {
-        match self {
-            Texts::Each(symbols) => symbols.len(),
-            Texts::Every(_) => 1,
-        }
-    }
-
-    /// The bytes of the symbol at the index, of `count` symbols.
-    pub fn at(&self, _count: usize, i: usize) -> &[u8]
-        requires { i < length (text_items _count self.now) }
-        ensures { slice_get (text_items _count self.now) i ≡ Some result.now }
-    {
-        match self {
-            Texts::Each(symbols) => symbols.at(i),
-            Texts::Every(symbol) => symbol.bytes(),
-        }
-    }
-}
 
 /// The items of a side.
 #[derive(Drop)]

@@ -2,7 +2,8 @@
 //!
 //! - A [`Lane`] has items of one type: those of a column, or one item that stands at each index. [`zip_lanes`] makes the
 //!   results of a [`Step`] for each two items of two lanes, and [`map_items`] those of a [`Rule`] for each item of a slice.
-//! - [`Cells`] are the items of a side (`q_verbs::Side`) in the storage of their kind, and [`Texts`] its symbols.
+//! - [`Cells`] are the items of a side (`q_verbs::Side`) in the storage of their kind, and [`Texts`] its symbols, which a
+//!   loop reads as a [`TextList`].
 //! - [`Wide`] and [`WideSide`] are numbers of 64 bits: lent where a column has that width, made where it is narrower.
 //! - [`Number`] and [`Reduced`] widen a number and reduce a result, with the null of each width.
 //! - [`Ordered`] compares items as what they are worth, and a [`Relation`] is decided by their order.
@@ -24,12 +25,14 @@ mod cells;
 mod lane;
 mod number;
 mod order;
+mod texts;
 mod vectors;
 mod wide;
 
-pub use cells::{Cells, Texts};
+pub use cells::Cells;
 pub use lane::{Items, Lane, Rule, Step, map_items, zip_lanes};
 pub use number::{Number, Reduced, low_32, widened_all};
 pub use order::{Above, AtLeast, AtMost, Below, Ordered, Other, Relation, Same, order_of};
-pub use vectors::{booleans, texts_of};
+pub use texts::{Beside, TextList, Texts, texts_of};
+pub use vectors::booleans;
 pub use wide::{Wide, WideSide, number_of_atom};

@@ -1,6 +1,6 @@
 -- Whether an item is among others.
-use Rattle.std.proofs.Common.{◌≡◌, ◌<◌, ◌+◌, ℕ, ℤ, Bool, true, false, if◌then◌else◌, List, [], ◌∷◌, ◌||◌, length, get_or, take, map, Option, Some, None, cond, ◌&&◌, refl, sym, ap, ◌∙◌, arith, slice_get, FitsSigned}
-use Rattle.std.proofs.lemmas.List.{take_more}
+use Rattle.std.proofs.Common.{◌≡◌, ◌<◌, ◌+◌, ℕ, ℤ, Bool, true, false, if◌then◌else◌, List, [], ◌∷◌, ◌||◌, length, get_or, take, map, Option, Some, None, cond, ◌&&◌, refl, sym, ap, ◌∙◌, arith, slice_get, FitsSigned, Bor}
+use Rattle.std.proofs.lemmas.List.{take_more, get_or_default}
 use Rattle.std.proofs.lemmas.List.Folds.{list_any-append}
 use Rattle.std.proofs.lemmas.Option.{get_or_from_slice_get}
 use Rattle.std.specs.List.{list_any}
@@ -57,6 +57,20 @@ among_through same g h left items us vs d e =
     ∙ map_through (λ w. list_any (same w) (map g items)) g h left us d
     ∙ ap (λ l. map (λ u. list_any (same (h u)) l) us) e
     ∙ map_same (λ u. list_any (same (h u)) (map h vs)) (λ u. list_any (λ v. same (h u) (h v)) vs) us (λ u. sym (any-mapped (same (h u)) h vs))
+
+-- one more text, of those that are lent
+pub any_more_lent : (p : List ℕ → Bool) (xs : List (Bor (List ℕ))) (i : ℕ) (d : Bor (List ℕ)) → i < length xs → list_any (λ t. p t.now) (take (i + 1) xs) ≡ (list_any (λ t. p t.now) (take i xs) || p (get_or xs i d).now)
+any_more_lent p xs i d h = any_more_at (λ t. p t.now) xs i (get_or xs i d) h (get_or_default xs i d (get_or xs i d) h)
+
+-- among texts that are lent
+pub among_lent : (same : List ℕ → List ℕ → Bool) (us : List (List ℕ)) (items : List (Bor (List ℕ))) (vs : List (List ℕ)) → map (λ t. t.now) items ≡ vs → map (λ s. list_any (λ t. same s t.now) items) us ≡ map (λ s. list_any (same s) vs) us
+among_lent same us items vs e =
+    map_same (λ s. list_any (λ t. same s t.now) items) (λ s. list_any (same s) (map (λ t. t.now) items)) us (λ s. any-mapped (same s) (λ t. t.now) items)
+    ∙ ap (λ l. map (λ s. list_any (same s) l) us) e
+
+-- one text among texts that are lent, as a set of them has it
+pub any_lent : (eq same : List ℕ → List ℕ → Bool) (x : List ℕ) (items : List (Bor (List ℕ))) → ((s t : List ℕ) → eq s t ≡ same s t) → list_any (λ t. eq x t.now) items ≡ list_any (λ t. same x t.now) items
+any_lent eq same x items e = any_same (λ t. eq x t.now) (λ t. same x t.now) items (λ t. e x t.now)
 
 -- the same, where the test is another one that agrees with a set
 pub among_read : {X W : Type 0} (test : X → Bool) (eq : X → X → Bool) (same : W → W → Bool) (g : X → W) (left items : List X) (us vs : List W) → ((q : X) → test q ≡ list_any (eq q) items) → ((x y : X) → eq x y ≡ same (g x) (g y)) → map g left ≡ us → map g items ≡ vs → map test left ≡ map (λ u. list_any (same u) vs) us

@@ -7,7 +7,7 @@ ghost use Rattle.std.specs.Cmp.Lexicographic.{slice_cmp};
 ghost use Rattle.q_lanes.specs.Lanes.{text_items};
 
 use crate::among_numbers::FEW;
-use q_lanes::{Texts, texts_of};
+use q_lanes::{TextList, Texts, texts_of};
 use q_values::ShortSymbol;
 use std::alloc::{AllocError, Global};
 use std::collections::HashSet;
@@ -37,56 +37,69 @@ fn among_items<T: Eq + Hash + Copy>(
     Ok(values)
 }
 
-fn is_one_of_symbols(items: &Texts<'_>, x: &[u8]) -> bool
-    ensures { result ≡ list_any (λ t. is_eq (slice_cmp nat_cmp x.now t)) (text_items 1 items.now) }
+fn is_one_of(items: &[&[u8]], x: &[u8]) -> bool
+    ensures { result ≡ list_any (λ t. is_eq (slice_cmp nat_cmp x.now t.now)) items.now }
 {
     let mut found = false;
-    for i in 0..items.count() {
-        found |= x == items.at(1, i);
+    for i in 0..items.len() {
+        found |= x == items[i];
     }
     found
 }
 
-fn among_few_symbols(
-    alloc: Global,
-    left: &Texts<'_>,
-    items: &Texts<'_>,
-) -> Result<Vec<bool>, AllocError>
+fn among_few<L: TextList>(alloc: Global, left: &L, items: &[&[u8]]) -> Result<Vec<bool>, AllocError>
     ensures { IfOk result (λ v. v.items
-        ≡ map (λ s. list_any (λ t. is_eq (slice_cmp nat_cmp s t)) (text_items 1 items.now)) (text_items 1 left.now)) }
+        ≡ map (λ s. list_any (λ t. is_eq (slice_cmp nat_cmp s t.now)) items.now) (L.texts left.now)) }
 {
     let mut values = Vec::with_capacity(alloc, left.count())?;
     for i in 0..left.count() {
-        values.push_reserved(is_one_of_symbols(items, left.at(1, i)));
+        values.push_reserved(is_one_of(items, left.text(i)));
     }
     Ok(values)
 }
 
-fn among_many_symbols(
+fn among_many<'a, L: TextList>(
     alloc: Global,
-    left: &Texts<'_>,
-    items: &Texts<'_>,
+    left: &'a L,
+    items: &[&'a [u8]],
 ) -> Result<Vec<bool>, AllocError>
     ensures { IfOk result (λ v. v.items
-        ≡ map (λ s. list_any (λ t. is_eq (slice_cmp nat_cmp s t)) (text_items 1 items.now)) (text_items 1 left.now)) }
+        ≡ map (λ s. list_any (λ t. is_eq (slice_cmp nat_cmp s t.now)) items.now) (L.texts left.now)) }
 {
-    let left_texts = texts_of(alloc, left)?;
-    let texts = texts_of(alloc, items)?;
-    let set = set_of(alloc, &texts)?;
-    let values = among_items(alloc, &left_texts, &set)?;
+    let set = set_of(alloc, items)?;
+    let mut values = Vec::with_capacity(alloc, left.count())?;
+    for i in 0..left.count() {
+        values.push_reserved(set.contains(&left.text(i)));
+    }
     Ok(values)
+}
+
+fn among_list<'a, L: TextList>(
+    alloc: Global,
+    left: &'a L,
+    items: &'a Texts<'_>,
+) -> Result<Vec<bool>, AllocError>
+    ensures { IfOk result (λ v. v.items
+        ≡ map (λ s. list_any (λ t. is_eq (slice_cmp nat_cmp s t)) (text_items 1 items.now)) (L.texts left.now)) }
+{
+    let others = items.beside(1);
+    let texts = texts_of(alloc, &others)?;
+    if texts.len() <= FEW {
+        let values = among_few(alloc, left, &texts)?;
+        Ok(values)
+    } else {
+        let values = among_many(alloc, left, &texts)?;
+        Ok(values)
+    }
 }
 
 fn among_texts(alloc: Global, left: &Texts<'_>, items: &Texts<'_>) -> Result<Vec<bool>, AllocError>
     ensures { IfOk result (λ v. v.items
         ≡ map (λ s. list_any (λ t. is_eq (slice_cmp nat_cmp s t)) (text_items 1 items.now)) (text_items 1 left.now)) }
 {
-    if items.count() <= FEW {
-        let values = among_few_symbols(alloc, left, items)?;
-        Ok(values)
-    } else {
-        let values = among_many_symbols(alloc, left, items)?;
-        Ok(values)
+    match left.arena() {
+        Some(arena) => among_list(alloc, arena, items),
+        None => among_list(alloc, &left.beside(1), items),
     }
 }
 

@@ -9,7 +9,7 @@ ghost use Rattle.q_lanes.specs.Lanes.{text_items};
 ghost use Rattle.q_verbs.specs.Sides.{side_kind, items_of};
 ghost use Rattle.q_verbs.specs.Like.{fits_byte, matches, IsRow, IsFront};
 
-use q_lanes::{Cells, Texts, booleans};
+use q_lanes::{Cells, TextList, Texts, booleans};
 use q_values::{NoMemory, Vector};
 use q_verbs::Side;
 use std::alloc::{AllocError, Global};
@@ -145,15 +145,24 @@ fn is_match(row: &mut Vec<bool>, pattern: &[u8], text: &[u8]) -> Result<bool, Al
     }
 }
 
-fn like_texts(alloc: Global, items: &Texts<'_>, pattern: &[u8]) -> Result<Vec<bool>, AllocError>
-    ensures { IfOk result (λ v. v.items ≡ map (matches pattern.now) (text_items 1 items.now)) }
+fn like_list<L: TextList>(alloc: Global, items: &L, pattern: &[u8]) -> Result<Vec<bool>, AllocError>
+    ensures { IfOk result (λ v. v.items ≡ map (matches pattern.now) (L.texts items.now)) }
 {
     let mut row = Vec::new(alloc);
     let mut values = Vec::with_capacity(alloc, items.count())?;
     for i in 0..items.count() {
-        values.push_reserved(is_match(&mut row, pattern, items.at(1, i))?);
+        values.push_reserved(is_match(&mut row, pattern, items.text(i))?);
     }
     Ok(values)
+}
+
+fn like_texts(alloc: Global, items: &Texts<'_>, pattern: &[u8]) -> Result<Vec<bool>, AllocError>
+    ensures { IfOk result (λ v. v.items ≡ map (matches pattern.now) (text_items 1 items.now)) }
+{
+    match items.arena() {
+        Some(arena) => like_list(alloc, arena, pattern),
+        None => like_list(alloc, &items.beside(1), pattern),
+    }
 }
 
 /// Whether each symbol matches the pattern (KX, like): `*` stands for any bytes, `?` for any one byte, another byte for

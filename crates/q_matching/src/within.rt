@@ -11,7 +11,9 @@ ghost use Rattle.q_verbs.specs.Numbers.{numeric, worth};
 ghost use Rattle.q_verbs.specs.Sides.{side_kind, items_of};
 ghost use Rattle.q_verbs.specs.Tests.{lies_within};
 
-use q_lanes::{Cells, Number, Ordered, Rule, Texts, booleans, map_items, number_of_atom, order_of};
+use q_lanes::{
+    Cells, Number, Ordered, Rule, TextList, Texts, booleans, map_items, number_of_atom, order_of,
+};
 use q_values::{Atom, Element, NoMemory, ShortSymbol, Vector};
 use q_verbs::Side;
 use std::alloc::{AllocError, Global};
@@ -135,6 +137,23 @@ fn symbol_lies_between(x: &[u8], low: &[u8], high: &[u8]) -> bool
     low.cmp(x).is_le() && x.cmp(high).is_le()
 }
 
+fn within_list<L: TextList>(
+    alloc: Global,
+    items: &L,
+    low: &[u8],
+    high: &[u8],
+) -> Result<Vec<bool>, AllocError>
+    ensures { IfOk result (λ v. v.items ≡ map
+        (λ s. lies_within (worth (a.Symbol low.now)) (worth (a.Symbol high.now)) (worth (a.Symbol s)))
+        (L.texts items.now)) }
+{
+    let mut values = Vec::with_capacity(alloc, items.count())?;
+    for i in 0..items.count() {
+        values.push_reserved(symbol_lies_between(items.text(i), low, high));
+    }
+    Ok(values)
+}
+
 fn within_texts(
     alloc: Global,
     items: &Texts<'_>,
@@ -145,11 +164,10 @@ fn within_texts(
         (λ s. lies_within (worth (a.Symbol low.now)) (worth (a.Symbol high.now)) (worth (a.Symbol s)))
         (text_items 1 items.now)) }
 {
-    let mut values = Vec::with_capacity(alloc, items.count())?;
-    for i in 0..items.count() {
-        values.push_reserved(symbol_lies_between(items.at(1, i), low, high));
+    match items.arena() {
+        Some(arena) => within_list(alloc, arena, low, high),
+        None => within_list(alloc, &items.beside(1), low, high),
     }
-    Ok(values)
 }
 
 fn within_names(

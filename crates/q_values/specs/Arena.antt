@@ -43,3 +43,7 @@ pub record IsPart (bytes ends : List ℕ) (from n start end : ℕ) : Type 0 wher
   pub below : All (λ e. e ≤ end) (take n (drop from ends))
   pub ascends : EndsAscend 0 (take (end - start) (drop start bytes)) (lowered start (take n (drop from ends)))
   pub value : cut 0 (take (end - start) (drop start bytes)) (lowered start (take n (drop from ends))) ≡ take n (drop from (cut 0 bytes ends))
+
+-- a symbol after its first eight bytes
+abbrev pub with_head : List ℕ → List ℕ × List ℕ
+with_head symbol = (take 8 symbol, symbol)

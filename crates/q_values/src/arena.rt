@@ -8,7 +8,7 @@ ghost use Rattle.q_values.specs.Lists.{gathered};
 ghost use Rattle.q_values.specs.Order.{IsOrder};
 ghost use Rattle.std.specs.Ordering.{nat_cmp};
 ghost use Rattle.std.specs.Cmp.Lexicographic.{slice_cmp};
-ghost use Rattle.q_values.specs.Arena.{EndsAscend, IsPiece, IsPart, start_of, moved, lowered};
+ghost use Rattle.q_values.specs.Arena.{EndsAscend, IsPiece, IsPart, start_of, moved, lowered, with_head};
 
 use crate::order::order_of_items;
 use crate::refusal::NoMemory;
@@ -167,7 +167,7 @@ impl Arena {
     pub fn order(&self, alloc: Global) -> Result<Vec<usize>, NoMemory>
         ensures { IfOk result (λ places. IsOrder (slice_cmp nat_cmp) self.now places.items) }
     {
-        let texts = self.texts(alloc)?;
+        let texts = self.headed(alloc)?;
         let places = order_of_items(alloc, &texts)?;
         Ok(places)
     }
@@ -184,13 +184,15 @@ impl Arena {
         total
     }
 
-    // The bytes of each symbol.
-    fn texts(&self, alloc: Global) -> Result<Vec<&[u8]>, NoMemory>
-        ensures { IfOk result (λ v. map (λ t. t.now) v.items ≡ self.now) }
+    // The first eight bytes of each symbol, and all of them. Most comparisons end at the first eight, without a look at
+    // where the symbol lies.
+    fn headed(&self, alloc: Global) -> Result<Vec<(ShortSymbol, &[u8])>, NoMemory>
+        ensures { IfOk result (λ v. map (λ pair. (pair.0, pair.1.now)) v.items ≡ map with_head self.now) }
     {
         let mut texts = Vec::with_capacity(alloc, self.len())?;
         for i in 0..self.len() {
-            texts.push(self.at(i))?;
+            let text = self.at(i);
+            texts.push_reserved((ShortSymbol::head_of(text), text));
         }
         Ok(texts)
     }

@@ -1,5 +1,5 @@
 //! A symbol of at most eight bytes, in eight bytes.
-ghost use Rattle.std.specs.Prelude.{◌≡◌, ◌<◌, length, min, All, MatchOption};
+ghost use Rattle.std.specs.Prelude.{◌≡◌, ◌<◌, ◌≤◌, length, take, min, All, MatchOption};
 ghost use Rattle.std.specs.List.{sum_by};
 ghost use Rattle.q_values.specs.Bytes.{HasNoNul};
 ghost use Rattle.q_values.specs.Short.{IsShort, number_of, text_of, filled};
@@ -48,9 +48,27 @@ impl ShortSymbol {
         if symbol.len() > LENGTH {
             return None;
         }
+        Some(ShortSymbol::filled_with(symbol))
+    }
+
+    // The symbol of these bytes.
+    fn filled_with(symbol: &[u8]) -> ShortSymbol
+        requires no_nul { HasNoNul symbol.now }
+        requires short { length symbol.now ≤ 8 }
+        ensures { result ≡ symbol.now }
+    {
         let mut bytes = [0u8; LENGTH];
         bytes[..symbol.len()].copy_from_slice(symbol);
-        Some(ShortSymbol { bytes })
+        ShortSymbol { bytes }
+    }
+
+    /// The first eight bytes of a symbol, or all where there are fewer.
+    pub fn head_of(symbol: &[u8]) -> ShortSymbol
+        requires { HasNoNul symbol.now }
+        ensures { result ≡ take 8 symbol.now }
+    {
+        let length = symbol.len().min(LENGTH);
+        ShortSymbol::filled_with(&symbol[..length])
     }
 
     /// The symbol whose bytes are those before the first 0, or all eight where none is 0.

@@ -9,6 +9,8 @@
 //! - `kinds_rows` has the kind of each verb's result for each pair of kinds.
 //! - `table_test` reads the rows, runs the verbs and compares.
 //! - `sizes` runs `in`, `within`, `min`, `max` and `neg` over 1,000 and 100,000 rows of each width.
+//! - `long_names` runs the verbs of symbols over 1,000 and 100,000 of more than eight bytes.
+//! - `multiples` runs `xbar` by one width over 1,000 and 100,000 longs.
 //! - `examples` has the published ones (KX, Q for Mortals, 4).
 //!
 //! ```text
@@ -22,6 +24,10 @@
 mod examples;
 #[cfg(test)]
 mod kinds_rows;
+#[cfg(test)]
+mod long_names;
+#[cfg(test)]
+mod multiples;
 #[cfg(test)]
 mod one_side_rows;
 #[cfg(test)]

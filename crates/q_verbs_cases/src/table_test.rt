@@ -187,7 +187,7 @@ fn gives_an_atom(verb: Verb1) -> bool
     !matches!(verb, Verb1::Not | Verb1::Neg | Verb1::Distinct)
 }
 
-fn by_place(
+pub(crate) fn by_place(
     rt: &impl Abort,
     alloc: Global,
     verb: Verb,
@@ -316,7 +316,7 @@ fn is_wanted(found: Option<Vector>, wanted: &Vector) -> bool {
 }
 
 // The verb's result for these sides, of which not both are columns.
-fn found_of_sides(
+pub(crate) fn found_of_sides(
     rt: &impl Abort,
     alloc: Global,
     verb: Verb,

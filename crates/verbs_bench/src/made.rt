@@ -56,18 +56,44 @@ pub fn five(alloc: Global) -> Result<Vector, NoMemory>
     Ok(Vector::from_column(Column::Longs(LongKind::Long, items)))
 }
 
-// A letter and three digits.
-fn name_of(n: u32) -> [u8; 4] {
-    let digit = |d: u32| b'0' + (d % 10) as u8;
-    [b'S', digit(n / 100), digit(n / 10), digit(n)]
+/// The length of each of a thousand names.
+#[derive(Clone, Copy)]
+pub enum NameLength {
+    /// Four bytes: a letter and three digits.
+    Four,
+    /// The same, and then as many letters as bring it to 5 to 20 bytes.
+    FiveToTwenty,
 }
 
-/// `count` symbols of a letter and three digits, in no order.
-pub fn symbols(alloc: Global, count: u32, step: u64) -> Result<Vector> {
+fn name_of(alloc: Global, length: NameLength, n: u32) -> Result<Sym> {
+    let digit = |d: u32| b'0' + (d % 10) as u8;
+    let mut bytes = [b'a'; 20];
+    bytes[0] = b'S';
+    bytes[1] = digit(n / 100);
+    bytes[2] = digit(n / 10);
+    bytes[3] = digit(n);
+    let length = match length {
+        NameLength::Four => 4,
+        NameLength::FiveToTwenty => 5 + (n % 16) as usize,
+    };
+    Ok(Sym::of(alloc, &bytes[..length])?)
+}
+
+/// `count` of the names, in no order.
+pub fn symbols(alloc: Global, length: NameLength, count: u32, step: u64) -> Result<Vector> {
     let mut items = Vector::new(alloc, Kind::Symbol);
     for i in 0..count {
         let number = ((u64::from(i).wrapping_mul(step) >> 32) % 1000) as u32;
-        items.push(Atom::Symbol(Sym::of(alloc, &name_of(number))?))?;
+        items.push(Atom::Symbol(name_of(alloc, length, number)?))?;
+    }
+    Ok(items)
+}
+
+/// The first `count` of the names.
+pub fn first_symbols(alloc: Global, length: NameLength, count: u32) -> Result<Vector> {
+    let mut items = Vector::new(alloc, Kind::Symbol);
+    for number in 0..count {
+        items.push(Atom::Symbol(name_of(alloc, length, number)?))?;
     }
     Ok(items)
 }
@@ -111,44 +137,4 @@ pub fn dates(alloc: Global, count: u32) -> Result<Vector, NoMemory> {
         items.push(number_of(row, 1000).cast_signed())?;
     }
     Ok(Vector::from_column(Column::Integers(IntegerKind::Date, items)))
-}
-
-/// The first `count` of the symbols of a letter and three digits.
-pub fn first_symbols(alloc: Global, count: u32) -> Result<Vector> {
-    let mut items = Vector::new(alloc, Kind::Symbol);
-    for number in 0..count {
-        items.push(Atom::Symbol(Sym::of(alloc, &name_of(number))?))?;
-    }
-    Ok(items)
-}
-
-// A letter and three digits, and then as many letters as bring it to 5 to 20 bytes.
-fn long_name_of(alloc: Global, n: u32) -> Result<Sym> {
-    let digit = |d: u32| b'0' + (d % 10) as u8;
-    let mut bytes = [b'a'; 20];
-    bytes[0] = b'S';
-    bytes[1] = digit(n / 100);
-    bytes[2] = digit(n / 10);
-    bytes[3] = digit(n);
-    let length = 5 + (n % 16) as usize;
-    Ok(Sym::of(alloc, &bytes[..length])?)
-}
-
-/// `count` symbols of 5 to 20 bytes, in no order.
-pub fn long_symbols(alloc: Global, count: u32, step: u64) -> Result<Vector> {
-    let mut items = Vector::new(alloc, Kind::Symbol);
-    for i in 0..count {
-        let number = ((u64::from(i).wrapping_mul(step) >> 32) % 1000) as u32;
-        items.push(Atom::Symbol(long_name_of(alloc, number)?))?;
-    }
-    Ok(items)
-}
-
-/// The first `count` of those symbols.
-pub fn first_long_symbols(alloc: Global, count: u32) -> Result<Vector> {
-    let mut items = Vector::new(alloc, Kind::Symbol);
-    for number in 0..count {
-        items.push(Atom::Symbol(long_name_of(alloc, number)?))?;
-    }
-    Ok(items)
 }

@@ -1,6 +1,6 @@
 //! The verbs over columns of symbols, timed as `timed` does it.
 
-use crate::made;
+use crate::made::{self, NameLength};
 use crate::timed::{ROUNDS, columns_timed, in_timed, like_timed, one_timed, sum_of};
 use anyhow::{Result, bail};
 use q_matching::is_within;
@@ -68,8 +68,8 @@ fn names_timed<R: Clock + Print>(
     right: &Vector,
     name: &Atom,
 ) -> Result<()> {
-    let five = made::first_symbols(alloc, 5)?;
-    let fifty = made::first_symbols(alloc, 50)?;
+    let five = made::first_symbols(alloc, NameLength::Four, 5)?;
+    let fifty = made::first_symbols(alloc, NameLength::Four, 50)?;
     for _ in 0..ROUNDS {
         columns_timed(rt, alloc, "symbols equal", Verb::Eq, left, right)?;
         one_timed(rt, alloc, "symbols equal_one", Verb::Eq, left, name)?;
@@ -84,8 +84,8 @@ fn names_timed<R: Clock + Print>(
 /// Times the verbs over `count` symbols of four letters.
 pub fn report_symbols<R: Clock + Print + AllocGlobal>(rt: &R, count: u32) -> Result<()> {
     let alloc = rt.alloc();
-    let left = made::symbols(alloc, count, made::STEP)?;
-    let right = made::symbols(alloc, count, made::OTHER_STEP)?;
+    let left = made::symbols(alloc, NameLength::Four, count, made::STEP)?;
+    let right = made::symbols(alloc, NameLength::Four, count, made::OTHER_STEP)?;
     if left.len() != right.len() {
         bail!("no such columns");
     }
@@ -96,9 +96,9 @@ pub fn report_symbols<R: Clock + Print + AllocGlobal>(rt: &R, count: u32) -> Res
 /// Times the verbs over `count` symbols of 5 to 20 bytes.
 pub fn report_long_symbols<R: Clock + Print + AllocGlobal>(rt: &R, count: u32) -> Result<()> {
     let alloc = rt.alloc();
-    let left = made::long_symbols(alloc, count, made::STEP)?;
-    let right = made::long_symbols(alloc, count, made::OTHER_STEP)?;
-    let fifty = made::first_long_symbols(alloc, 50)?;
+    let left = made::symbols(alloc, NameLength::FiveToTwenty, count, made::STEP)?;
+    let right = made::symbols(alloc, NameLength::FiveToTwenty, count, made::OTHER_STEP)?;
+    let fifty = made::first_symbols(alloc, NameLength::FiveToTwenty, 50)?;
     for _ in 0..ROUNDS {
         columns_timed(rt, alloc, "long_symbols equal", Verb::Eq, &left, &right)?;
         columns_timed(rt, alloc, "long_symbols below", Verb::Lt, &left, &right)?;

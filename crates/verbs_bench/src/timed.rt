@@ -27,8 +27,8 @@ const PREFIX: &[u8] = b"S4*";
 /// An atom beside a column.
 const THREE_HUNDRED: Atom = Atom::Integer(300);
 
-/// The atom that a filter compares with.
-const ONE: Atom = Atom::Integer(1);
+/// A tenth of the numbers of 24 bits are below it.
+const A_TENTH: Atom = Atom::Integer(1_677_722);
 
 fn number_of(atom: &Atom) -> i64 {
     match atom {
@@ -304,14 +304,19 @@ fn dates_reported<R: Clock + Print>(rt: &R, alloc: Global, count: u32) -> Result
     Ok(())
 }
 
-// A sixteenth of the longs is kept.
+// A tenth of the longs is kept.
 fn filter_reported<R: Clock + Print>(rt: &R, alloc: Global, count: u32) -> Result<()> {
     let items = made::longs(alloc, count, made::STEP)?;
-    let codes = made::codes(alloc, count)?;
-    if result_kind(Verb::Lt, codes.kind(), Kind::Integer).is_none() {
+    let others = made::integers(alloc, count, IntegerKind::Integer, made::STEP)?;
+    if result_kind(Verb::Lt, others.kind(), Kind::Integer).is_none() {
         bail!("no such kinds");
     }
-    let booleans = binary(alloc, Verb::Lt, &Side::Column(&codes), &Side::Atom(&ONE))?;
+    let booleans = binary(
+        alloc,
+        Verb::Lt,
+        &Side::Column(&others),
+        &Side::Atom(&A_TENTH),
+    )?;
     for _ in 0..ROUNDS {
         filter_timed(rt, alloc, &items, &booleans)?;
     }

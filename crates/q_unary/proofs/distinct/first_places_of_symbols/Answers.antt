@@ -1,8 +1,9 @@
-use Rattle.std.proofs.Common.{◌≡◌, ℕ, Bool, List, Bor, refl}
+use Rattle.std.proofs.Common.{◌≡◌, ℕ, Bool, List, Bor, refl, sym, ap, map, ◌∙◌}
 use Rattle.std.specs.Prelude.{nat_eq}
 use Rattle.std.proofs.lemmas.Result.{IfOk-weaker}
 use lib.Pointwise.{pointwise}
 use Rattle.q_values.specs.Lists.{gathered}
+use Rattle.q_values.specs.Symbols.{symbols_in}
 use Rattle.q_verbs.specs.Lists.{distinct}
 use Rattle.q_unary.proofs.DistinctLemmas.{read_distinct}
 use Rattle.q_unary.proofs.distinct.first_places_of_symbols.Goals as goal
@@ -13,6 +14,7 @@ returns-in_ok-texts-in-Long-clause-items c =
     let bytes : Bor (List ℕ) → List ℕ = λ t. t.now in
     let texts = c.in_ok-texts-in-Long.texts.items in
     let xs = c.deref-in-Long.result.now in
+    let same : map bytes texts ≡ c.args.symbols.now = c.in_ok-texts-in-Long.ensures ∙ c.deref-symbols.ensures ∙ ap symbols_in (sym c.in-Long.is) ∙ c.form.ensures in
     IfOk-weaker c.first_places-in-Long.result (λ v. gathered xs v.items ≡ distinct eq xs) (λ v. gathered c.args.symbols.now v.items ≡ distinct (pointwise nat_eq) c.args.symbols.now)
-    (λ v found. rw (← c.in_ok-texts-in-Long.ensures) (read_distinct (pointwise nat_eq) eq bytes texts xs v.items (λ x y. refl) c.deref-in-Long.ensures.value found))
+    (λ v found. rw (← same) (read_distinct (pointwise nat_eq) eq bytes texts xs v.items (λ x y. refl) c.deref-in-Long.ensures.value found))
     c.first_places-in-Long.ensures.items
