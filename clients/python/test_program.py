@@ -23,6 +23,24 @@ fills:([]time:`timespan$();sym:`symbol$();size:`long$();side:`symbol$())
 marks:([]time:`timespan$();sym:`symbol$();mark:`long$())
 """
 
+# What a text may have at most: 1,024 tokens, and brackets 64 deep (docs/QUERIES.md). Each text here has its expression as
+# deep as that allows, with its answer over three rows of the sizes 1, 2 and 4.
+DEEP_TEXTS = (
+    (f"exec {'neg ' * 1020}size from trade", [1, 2, 4]),
+    (f"exec {'not ' * 1020}size from trade", [True, True, True]),
+    (f"exec {'sum ' * 1020}size from trade", 7),
+    (f"exec {'distinct ' * 1020}size from trade", [1, 2, 4]),
+    (f"exec {'size+' * 509}size from trade", [510, 1020, 2040]),
+    (f"exec {'100 xbar ' * 510}size from trade", [0, 0, 0]),
+    (f"exec {'(' * 64}size{')' * 64} from trade", [1, 2, 4]),
+    (f"exec {'neg (' * 64}size{')' * 64} from trade", [1, 2, 4]),
+    (f"exec size from trade where size>{'neg ' * 1016}1", [2, 4]),
+    (f"exec size from trade where {'not ' * 1016}size>3", [4]),
+    (f"exec size from trade where {'not ' * 1014}size in size", [1, 2, 4]),
+    (f"exec max {'neg ' * 1016}size by sym from trade", {"KX": 4}),
+    (f"exec max price by {'100 xbar ' * 508}size from trade", {0: 10050}),
+)
+
 
 def log_of(date):
     """The file of a date's log, by its days since 2000.01.01 (docs/FORMATS.md)."""
@@ -275,6 +293,17 @@ class Folders(unittest.TestCase):
             (b"u:p\x03\x00\x01\x01\x00\x00\x07\x00\x00\x00", 3, "plant: bad message 4 at 9"),
         ):
             self.assertEqual(self.run_plant("once", "--clock", CLOCK, data=data), (status, b"\x03", [line]))
+
+    def test_deepest_texts_on_a_stack_of_four_megabytes(self):
+        """The deepest texts of each form, answered by a program whose stack has 4 MiB, half of what most systems give."""
+        words = ["sh", "-c", 'ulimit -s 4096 && exec "$0" "$@"', PLANT, "once", "--clock", CLOCK]
+        for text, answer in DEEP_TEXTS:
+            with self.subTest(text=text[:40]):
+                with Client.run(words) as plant:
+                    for size in (1, 2, 4):
+                        plant.update("trade", HALF_PAST_NINE, "KX", 10050, size)
+                    self.assertEqual(plant.query(text), answer)
+                self.assertEqual(plant.status, 0)
 
 
 if __name__ == "__main__":

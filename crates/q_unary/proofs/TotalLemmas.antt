@@ -1,8 +1,9 @@
 -- Sums of numbers and nulls.
-use Rattle.std.proofs.Common.{◌≡◌, ℕ, ℤ, pos, ◌+ℤ◌, ◌+◌, ◌<◌, List, [], ◌∷◌, ◌++◌, length, get_or, take, map, Option, refl, sym, ap, ◌∙◌, arith, unwrap_or, FitsSigned, to_z, of_z}
+use Rattle.std.proofs.Common.{◌≡◌, ℕ, ℤ, pos, ◌+ℤ◌, ◌+◌, ◌<◌, List, [], ◌∷◌, ◌++◌, length, get_or, take, drop, map, Option, refl, sym, ap, ap₂, ◌∙◌, arith, unwrap_or, FitsSigned, to_z, of_z}
 use Rattle.std.specs.Int.{w64, int_wrap}
-use Rattle.std.proofs.lemmas.Int.{ints, to_z-of_z, int_wrap-add_left}
-use Rattle.std.proofs.lemmas.List.{take_more, map_push}
+use Rattle.std.proofs.lemmas.Int.{ints, to_z-of_z, int_wrap-add_left, int_wrap-add_right}
+use Rattle.std.proofs.Math.Seq.{take-add}
+use Rattle.std.proofs.lemmas.List.{take_more, map_push, map-append}
 use Rattle.q_values.specs.declared.atom.Atom.{Atom}
 use Rattle.q_verbs.specs.Numbers.{worth, numeric, number_in}
 use Rattle.q_verbs.specs.Aggregates.{total, number_of}
@@ -42,6 +43,17 @@ total_step number xs i x sum wide result h at fits_wide fits before is_number is
     ∙ ap (λ s. int_wrap w64 (s +ℤ unwrap_or (number x) (pos 0))) before
     ∙ int_wrap-add_left w64 (total (map number (take i xs))) (unwrap_or (number x) (pos 0))
     ∙ ap (int_wrap w64) (sym (total_more number xs i x h at))
+
+-- the sums of two halves, joined
+pub halves_joined : {X : Type 0} (number : X → Option ℤ) (xs : List X) (half : ℕ) (sum other both : ℤ) → sum ≡ int_wrap w64 (total (map number (take half xs))) → other ≡ int_wrap w64 (total (map number (take half (drop half xs)))) → both ≡ int_wrap w64 (sum +ℤ other) → both ≡ int_wrap w64 (total (map number (take (half + half) xs)))
+halves_joined number xs half sum other both is_sum is_other is_both =
+    let one = map number (take half xs) in
+    let rest = map number (take half (drop half xs)) in
+    is_both
+    ∙ ap₂ (λ s o. int_wrap w64 (s +ℤ o)) is_sum is_other
+    ∙ int_wrap-add_right w64 (int_wrap w64 (total one)) (total rest)
+    ∙ int_wrap-add_left w64 (total one) (total rest)
+    ∙ ap (int_wrap w64) (sym (total-append one rest) ∙ ap total (sym (map-append number (take half xs) (take half (drop half xs)))) ∙ ap (λ l. total (map number l)) (sym (take-add half half xs)))
 
 -- a column's sum, from that of its items
 pub total_through : {X : Type 0} (number : X → Option ℤ) (atom : X → Atom) (xs ys : List X) (result : ℤ) → ((x : X) → worth (atom x) ≡ numeric (number x)) → FitsSigned w64 result → ys ≡ xs → result ≡ int_wrap w64 (total (map number ys)) → to_z w64 (of_z w64 result) ≡ int_wrap w64 (total (map number_of (map atom xs)))

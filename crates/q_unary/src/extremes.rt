@@ -1,5 +1,5 @@
 //! The least and the greatest of a column.
-ghost use Rattle.std.specs.Prelude.{◌≡◌, pos, negsuc, Some, true, false, if◌then◌else◌, IsTrue, unwrap_or};
+ghost use Rattle.std.specs.Prelude.{◌≡◌, pos, negsuc, Some, true, false, if◌then◌else◌, IsTrue, IsSome, unwrap_or};
 ghost use Rattle.std.specs.Int.{w16, w32, w64};
 ghost use Rattle.std.specs.Ordering.{is_ge, is_le};
 ghost use Rattle.q_unary.specs.Extremes.{Picks, extreme};
@@ -30,21 +30,25 @@ trait Extremal: Number {
 
     // The lesser of the least so far and one more item, which may be the null.
     fn lesser(best: Self, x: &Self) -> Self
-        ensures { Picks is_le Self.number top best x.now result };
+        ensures picks { Picks is_le Self.number top best x.now result }
+        ensures end { x.now ≡ top → IsSome (Self.number best) → result ≡ best };
 
     // The greater of the greatest so far and one more item, which may be the null.
     fn greater(best: Self, x: &Self) -> Self
-        ensures { Picks is_ge Self.number bottom best x.now result };
+        ensures picks { Picks is_ge Self.number bottom best x.now result }
+        ensures end { x.now ≡ bottom → IsSome (Self.number best) → result ≡ best };
 }
 
 fn lesser_bit(best: bool, x: &bool) -> bool
-    ensures { Picks is_le (λ b. Some (pos (if b then 1 else 0))) true best x.now result }
+    ensures picks { Picks is_le (λ b. Some (pos (if b then 1 else 0))) true best x.now result }
+    ensures end { x.now ≡ true → result ≡ best }
 {
     best && *x
 }
 
 fn greater_bit(best: bool, x: &bool) -> bool
-    ensures { Picks is_ge (λ b. Some (pos (if b then 1 else 0))) false best x.now result }
+    ensures picks { Picks is_ge (λ b. Some (pos (if b then 1 else 0))) false best x.now result }
+    ensures end { x.now ≡ false → result ≡ best }
 {
     best || *x
 }
@@ -74,13 +78,15 @@ impl Extremal for bool {
 }
 
 fn lesser_byte(best: u8, x: &u8) -> u8
-    ensures { Picks is_le (λ n. Some (pos n)) 255 best x.now result }
+    ensures picks { Picks is_le (λ n. Some (pos n)) 255 best x.now result }
+    ensures end { x.now ≡ 255 → result ≡ best }
 {
     best.min(*x)
 }
 
 fn greater_byte(best: u8, x: &u8) -> u8
-    ensures { Picks is_ge (λ n. Some (pos n)) 0 best x.now result }
+    ensures picks { Picks is_ge (λ n. Some (pos n)) 0 best x.now result }
+    ensures end { x.now ≡ 0 → result ≡ best }
 {
     best.max(*x)
 }
@@ -115,13 +121,15 @@ fn number_or_top_16(x: i16) -> i16
 }
 
 fn lesser_16(best: i16, x: &i16) -> i16
-    ensures { Picks is_le (number_in w16) (pos 32767) best x.now result }
+    ensures picks { Picks is_le (number_in w16) (pos 32767) best x.now result }
+    ensures end { x.now ≡ pos 32767 → result ≡ best }
 {
     best.min(number_or_top_16(*x))
 }
 
 fn greater_16(best: i16, x: &i16) -> i16
-    ensures { Picks is_ge (number_in w16) (negsuc 32766) best x.now result }
+    ensures picks { Picks is_ge (number_in w16) (negsuc 32766) best x.now result }
+    ensures end { x.now ≡ negsuc 32766 → IsSome (number_in w16 best) → result ≡ best }
 {
     best.max(*x)
 }
@@ -158,13 +166,15 @@ fn number_or_top_32(x: i32) -> i32
 }
 
 fn lesser_32(best: i32, x: &i32) -> i32
-    ensures { Picks is_le (number_in w32) (pos 2147483647) best x.now result }
+    ensures picks { Picks is_le (number_in w32) (pos 2147483647) best x.now result }
+    ensures end { x.now ≡ pos 2147483647 → result ≡ best }
 {
     best.min(number_or_top_32(*x))
 }
 
 fn greater_32(best: i32, x: &i32) -> i32
-    ensures { Picks is_ge (number_in w32) (negsuc 2147483646) best x.now result }
+    ensures picks { Picks is_ge (number_in w32) (negsuc 2147483646) best x.now result }
+    ensures end { x.now ≡ negsuc 2147483646 → IsSome (number_in w32 best) → result ≡ best }
 {
     best.max(*x)
 }
@@ -201,13 +211,15 @@ fn number_or_top_64(x: i64) -> i64
 }
 
 fn lesser_64(best: i64, x: &i64) -> i64
-    ensures { Picks is_le (number_in w64) (pos 9223372036854775807) best x.now result }
+    ensures picks { Picks is_le (number_in w64) (pos 9223372036854775807) best x.now result }
+    ensures end { x.now ≡ pos 9223372036854775807 → result ≡ best }
 {
     best.min(number_or_top_64(*x))
 }
 
 fn greater_64(best: i64, x: &i64) -> i64
-    ensures { Picks is_ge (number_in w64) (negsuc 9223372036854775806) best x.now result }
+    ensures picks { Picks is_ge (number_in w64) (negsuc 9223372036854775806) best x.now result }
+    ensures end { x.now ≡ negsuc 9223372036854775806 → IsSome (number_in w64 best) → result ≡ best }
 {
     best.max(*x)
 }
@@ -236,24 +248,41 @@ impl Extremal for i64 {
     }
 }
 
+// Both halves are gone over at once, which keeps more of the memory busy.
 fn least_of_items<T: Extremal>(items: &[T]) -> T
     ensures { result ≡ extreme is_le T.number T.top items.now }
 {
+    let half = items.len() / 2;
     let mut best = T::greatest_value();
-    for item in items {
-        best = T::lesser(best, item);
+    let mut other = T::greatest_value();
+    for i in 0..half {
+        best = T::lesser(best, &items[i]);
+        other = T::lesser(other, &items[half + i]);
     }
-    best
+    let both = T::lesser(best, &other);
+    if half + half < items.len() {
+        T::lesser(both, &items[half + half])
+    } else {
+        both
+    }
 }
 
 fn greatest_of_items<T: Extremal>(items: &[T]) -> T
     ensures { result ≡ extreme is_ge T.number T.bottom items.now }
 {
+    let half = items.len() / 2;
     let mut best = T::lowest_value();
-    for item in items {
-        best = T::greater(best, item);
+    let mut other = T::lowest_value();
+    for i in 0..half {
+        best = T::greater(best, &items[i]);
+        other = T::greater(other, &items[half + i]);
     }
-    best
+    let both = T::greater(best, &other);
+    if half + half < items.len() {
+        T::greater(both, &items[half + half])
+    } else {
+        both
+    }
 }
 
 /// The least item of a column but the nulls, or the greatest value of the kind.

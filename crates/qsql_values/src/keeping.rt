@@ -1,5 +1,5 @@
 //! The rows that phrases keep.
-ghost use Rattle.std.specs.Prelude.{◌≡◌, ◌<◌, ◌≤◌, false, true, Some, map, take, length, All, IfOk};
+ghost use Rattle.std.specs.Prelude.{◌≡◌, ◌<◌, ◌≤◌, false, true, Some, map, take, length, All, IfOk, OnOk};
 ghost use Rattle.q_values.specs.Lists.{gathered};
 ghost use Rattle.q_values.specs.Table.{rows_of};
 ghost use Rattle.q_values.specs.Tree.{vector};
@@ -66,36 +66,34 @@ fn flags_of(test: &Vector) -> &[bool]
     }
 }
 
-// Where both are true.
-fn both_flags(alloc: Global, flags: &[bool], others: &[bool]) -> Result<Vec<bool>, NoMemory>
-    requires { length others.now ≡ length flags.now }
-    ensures { IfOk result (λ v. v.items ≡ both flags.now others.now) }
+// Leaves the flags true only where the others are true too.
+fn keep_both(flags: &mut Vec<bool>, others: &[bool])
+    requires { length others.now ≡ length flags.old.items }
+    ensures { flags.new.items ≡ both flags.old.items others.now }
 {
-    let mut found = Vec::with_capacity(alloc, flags.len())?;
-    for i in 0..flags.len() {
-        found.push_reserved(flags[i] & others[i]);
+    for i in 0..others.len() {
+        flags[i] = flags[i] & others[i];
     }
-    Ok(found)
 }
 
-// Where the phrases before hold, and this one too. Its item at a row comes of that row alone, so it is evaluated over all
-// rows.
-fn joined_with<'a>(
+// Leaves the flags true only where the phrase holds too. Its item at a row comes of that row alone, so it is evaluated over
+// all rows.
+fn join_with<'a>(
     alloc: Global,
-    flags: &[bool],
+    flags: &mut Vec<bool>,
     phrase: &'a Expr,
     scope: &Scope<'a>,
-) -> Result<Vec<bool>, NoMemory>
-    requires size { length flags.now ≡ length scope.now.rows }
+) -> Result<(), NoMemory>
+    requires size { length flags.old.items ≡ length scope.now.rows }
     requires by_row { ByRow.is_by_row (form phrase.now) ≡ true }
     requires kind { kind_in (kind_beside scope.now) (form phrase.now) ≡ Some k.Boolean }
     requires built { is_unbuilt_phrase (form phrase.now) ≡ false }
-    ensures size { IfOk result (λ v. length v.items ≡ length scope.now.rows) }
-    ensures rows { IfOk result (λ v. frame_where v.items scope.now ≡ rows_where (form phrase.now) (frame_where flags.now scope.now)) }
+    ensures size { OnOk result (length flags.new.items ≡ length scope.now.rows) }
+    ensures rows { OnOk result (frame_where flags.new.items scope.now ≡ rows_where (form phrase.now) (frame_where flags.old.items scope.now)) }
 {
     let test = test_of(alloc, phrase, scope)?;
-    let both = both_flags(alloc, flags, flags_of(test.vector()))?;
-    Ok(both)
+    keep_both(flags, flags_of(test.vector()));
+    Ok(())
 }
 
 // Where the phrase holds, for each row, as flags of their own.
@@ -131,7 +129,7 @@ fn joined_flags<'a>(
     let mut flags = first_flags(alloc, &phrases[0], scope)?;
     let mut count = 1;
     while count < phrases.len() && is_by_row(&phrases[count]) {
-        flags = joined_with(alloc, &flags, &phrases[count], scope)?;
+        join_with(alloc, &mut flags, &phrases[count], scope)?;
         count += 1;
     }
     Ok((flags, count))

@@ -5,8 +5,8 @@ use Rattle.q_lanes.proofs.OrderLemmas.{worth_cmp-16}
 use Rattle.q_unary.proofs.ExtremeLemmas.{greatest_step, bottom-16, null-16}
 use Rattle.q_unary.proofs.extremes.greater_16.Goals as goal
 
-pub returns : goal.returns
-returns c =
+pub returns-clause-picks : goal.returns-clause-picks
+returns-clause-picks c =
     let x = c.args.x.now in
     let best = c.args.best in
     let x_fits : FitsSigned w16 x = search rules in

@@ -5,8 +5,8 @@ use Rattle.q_lanes.proofs.OrderLemmas.{worth_cmp-32}
 use Rattle.q_unary.proofs.ExtremeLemmas.{greatest_step, bottom-32, null-32}
 use Rattle.q_unary.proofs.extremes.greater_32.Goals as goal
 
-pub returns : goal.returns
-returns c =
+pub returns-clause-picks : goal.returns-clause-picks
+returns-clause-picks c =
     let x = c.args.x.now in
     let best = c.args.best in
     let x_fits : FitsSigned w32 x = search rules in

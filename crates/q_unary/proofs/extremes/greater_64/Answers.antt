@@ -5,8 +5,8 @@ use Rattle.q_lanes.proofs.OrderLemmas.{worth_cmp-64}
 use Rattle.q_unary.proofs.ExtremeLemmas.{greatest_step, bottom-64, null-64}
 use Rattle.q_unary.proofs.extremes.greater_64.Goals as goal
 
-pub returns : goal.returns
-returns c =
+pub returns-clause-picks : goal.returns-clause-picks
+returns-clause-picks c =
     let x = c.args.x.now in
     let best = c.args.best in
     let x_fits : FitsSigned w64 x = search rules in

@@ -6,8 +6,8 @@ use Rattle.q_unary.proofs.ExtremeLemmas.{least_step, top-32}
 use Rattle.q_verbs.specs.Numbers.{number_in}
 use Rattle.q_unary.proofs.extremes.lesser_32.Goals as goal
 
-pub returns : goal.returns
-returns c =
+pub returns-clause-picks : goal.returns-clause-picks
+returns-clause-picks c =
     let x = c.args.x.now in
     let best = c.args.best in
     let other = c.number_or_top_32.result in

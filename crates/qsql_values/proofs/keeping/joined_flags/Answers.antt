@@ -1,8 +1,7 @@
-use Rattle.std.proofs.Common.{◌≡◌, ◌<◌, ◌+◌, ◌++◌, [], ◌∷◌, Bool, List, length, map, take, get_or, ap, ◌∙◌, sym, arith}
+use Rattle.std.proofs.Common.{◌≡◌, ◌<◌, ◌+◌, ◌++◌, [], ◌∷◌, List, length, map, take, get_or, ap, ◌∙◌, sym, arith}
 use Rattle.std.proofs.lemmas.List.{take_more, get_or-map, length-map}
 use Rattle.qsql_request.specs.Forms.{Form}
 use Rattle.qsql_request.specs.Views.{form}
-use Rattle.qsql_values.specs.ByRow.{frame_where}
 use Rattle.qsql_values.specs.Values.{rows_where, kept}
 use Rattle.qsql_values.proofs.ByRowLemmas.{kept-more}
 use Rattle.qsql_values.proofs.keeping.joined_flags.Goals as goal
@@ -19,9 +18,8 @@ loop-count-preserved c =
     record {
       some = omega arith;
       within = omega arith;
-      size = c.in_ok-flags-2.ensures.size;
-      rows = c.in_ok-flags-2.ensures.rows
-          ∙ ap (λ (fs : List Bool). rows_where (form phrase) (frame_where fs c.args.scope.now)) c.deref.ensures.value
+      size = c.in_ok-join_with.ensures.size;
+      rows = c.in_ok-join_with.ensures.rows
           ∙ ap (rows_where (form phrase)) c.loop-count.invariant.rows
           ∙ sym (kept-more (take count (map form phrases)) (form phrase) c.args.scope.now)
           ∙ ap (λ (fs : List Form). kept fs c.args.scope.now) (sym more);
