@@ -23,6 +23,10 @@ silent_outside outside = record {
   kept = None;
 }
 
+-- the writer that its warnings go to
+abbrev pub warnings_of : {R E : Type 0} → StandardOutside R E → E
+warnings_of outside = outside.errors
+
 -- an outside that has made nothing and tells nothing
 abbrev pub unused_outside : OutsideView
 unused_outside = record {

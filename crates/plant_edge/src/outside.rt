@@ -44,12 +44,13 @@ pub struct StandardOutside<'a, R, E> {
 
 impl<'a, R, E> StandardOutside<'a, R, E> {
     ghost use Rattle.std.specs.Prelude.{◌≡◌};
-    ghost use Rattle.plant_edge.specs.Outside.{silent_outside, unused_outside};
+    ghost use Rattle.plant_edge.specs.Outside.{silent_outside, unused_outside, warnings_of};
 
     /// The outside of a runtime, which has made nothing. The connections that it accepts are of these `Wakers`, and warnings go to
     /// this writer.
     pub fn new(rt: &'a R, wakers: &'a Wakers, errors: E) -> StandardOutside<'a, R, E>
-        ensures { silent_outside result ≡ unused_outside }
+        ensures unused { silent_outside result ≡ unused_outside }
+        ensures errors { warnings_of result ≡ errors }
     {
         StandardOutside {
             rt,
@@ -63,16 +64,19 @@ impl<'a, R, E> StandardOutside<'a, R, E> {
     }
 
     /// Where its warnings went.
-    pub fn errors(&self) -> &E {
+    pub fn errors(&self) -> &E
+        ensures { result.now ≡ warnings_of self.now }
+    {
         &self.errors
     }
 }
 
 impl<'a, R: Files<File = File>, E> StandardOutside<'a, R, E> {
-    ghost use Rattle.std.specs.Prelude.{List, ℕ};
+    ghost use Rattle.std.specs.Prelude.{◌≡◌, IfErr, List, ℕ};
     ghost use Rattle.outside_real.specs.FolderDisk.{disk_shown};
     ghost use Rattle.program_outside.specs.Outside.{Opens};
-    ghost use Rattle.plant_edge.specs.Outside.{silent_outside};
+    ghost use Rattle.plant_edge.specs.Causes.{HasFolderCause, IsFolderCause};
+    ghost use Rattle.plant_edge.specs.Outside.{silent_outside, warnings_of};
 
     /// The disk of a folder that was opened, or the fault, which is counted.
     fn disk_of(
@@ -80,7 +84,10 @@ impl<'a, R: Files<File = File>, E> StandardOutside<'a, R, E> {
         alloc: Global,
         opened: Result<LockedFolder<&'a R>, FolderRefusal>,
     ) -> Result<FolderDisk<LockedFolder<&'a R>>, MakeFault>
-        ensures { (path : List ℕ) → Opens path disk_shown (silent_outside self.old) (silent_outside self.new) result }
+        ensures opens { (path : List ℕ) → Opens path disk_shown (silent_outside self.old) (silent_outside self.new) result }
+        ensures cause { HasFolderCause opened.entry result }
+        ensures folder_cause { IfErr result (λ fault. IsFolderCause fault.cause) }
+        ensures errors { warnings_of self.new ≡ warnings_of self.old }
     {
         match opened {
             Ok(folder) => Ok(FolderDisk::new(alloc, folder)),
@@ -107,11 +114,14 @@ impl<'a, R: Print, E> StandardOutside<'a, R, E> {
 impl<'a, R, E> StandardOutside<'a, R, E> {
     ghost use Rattle.std.specs.Prelude.{◌≡◌};
     ghost use Rattle.program_outside.specs.Outside.{with_listen_fault};
-    ghost use Rattle.plant_edge.specs.Outside.{silent_outside};
+    ghost use Rattle.plant_edge.specs.Causes.{cause_of_port};
+    ghost use Rattle.plant_edge.specs.Outside.{silent_outside, warnings_of};
 
     /// The fault that a port made, which is counted.
     fn listen_fault(&mut self, why: PortRefusal) -> MakeFault
-        ensures { silent_outside self.new ≡ with_listen_fault (silent_outside self.old) }
+        ensures counted { silent_outside self.new ≡ with_listen_fault (silent_outside self.old) }
+        ensures cause { result.cause ≡ cause_of_port why }
+        ensures errors { warnings_of self.new ≡ warnings_of self.old }
     {
         self.listen_faults = self.listen_faults.saturating_add(1);
         MakeFault {
@@ -135,9 +145,11 @@ impl<
 where
     R::Reader: Send,
 {
-    ghost use Rattle.std.specs.Prelude.{◌≡◌};
+    ghost use Rattle.std.specs.Prelude.{◌≡◌, IfErr};
     ghost use Rattle.std.specs.Option.{option_map};
-    ghost use Rattle.program_outside.specs.Outside.{handed_back};
+    ghost use Rattle.outside_real.specs.FolderDisk.{disk_shown};
+    ghost use Rattle.program_outside.specs.Outside.{Listens, Opens, ReadsFile, handed_back};
+    ghost use Rattle.plant_edge.specs.Causes.{IsFolderCause, IsPortCause, IsFileRefusal};
     ghost use Rattle.plant_edge.specs.Link.{machine_shown};
     ghost use Rattle.plant_edge.specs.Outside.{silent_outside, silent_recorder};
 
@@ -157,7 +169,10 @@ where
         Ok(MachineLink::Standard(StandardLink::new(self.rt, self.rt.reader(), io::writer(self.rt))))
     }
 
-    fn listen(&mut self, port: u16) -> Result<(), MakeFault> {
+    fn listen(&mut self, port: u16) -> Result<(), MakeFault>
+        ensures listens { Listens port (silent_outside self.old) (silent_outside self.new) result }
+        ensures cause { IfErr result (λ fault. IsPortCause fault.cause) }
+    {
         match OpenPort::listen(self.rt, port) {
             Ok(open) => {
                 self.port = Some(open);
@@ -181,12 +196,18 @@ where
         }
     }
 
-    fn folder(&mut self, alloc: Global, path: &str) -> Result<Self::Disk, MakeFault> {
+    fn folder(&mut self, alloc: Global, path: &str) -> Result<Self::Disk, MakeFault>
+        ensures opens { Opens path.now (λ d. disk_shown d) (silent_outside self.old) (silent_outside self.new) result }
+        ensures cause { IfErr result (λ fault. IsFolderCause fault.cause) }
+    {
         let opened = LockedFolder::open(self.rt, alloc, path);
         self.disk_of(alloc, opened)
     }
 
-    fn make_folder(&mut self, alloc: Global, path: &str) -> Result<Self::Disk, MakeFault> {
+    fn make_folder(&mut self, alloc: Global, path: &str) -> Result<Self::Disk, MakeFault>
+        ensures opens { Opens path.now (λ d. disk_shown d) (silent_outside self.old) (silent_outside self.new) result }
+        ensures cause { IfErr result (λ fault. IsFolderCause fault.cause) }
+    {
         let opened = LockedFolder::make(self.rt, alloc, path);
         self.disk_of(alloc, opened)
     }
@@ -203,7 +224,10 @@ where
         SilentRecorder
     }
 
-    fn read_file(&mut self, alloc: Global, path: &str) -> Result<Vec<u8>, FileRefusal> {
+    fn read_file(&mut self, alloc: Global, path: &str) -> Result<Vec<u8>, FileRefusal>
+        ensures reads { ReadsFile path.now (λ v. v.items) (silent_outside self.old) (silent_outside self.new) result }
+        ensures cause { IfErr result (λ refusal. IsFileRefusal refusal) }
+    {
         match read_file(self.rt, alloc, path, FILE_LIMIT) {
             Ok(bytes) => Ok(bytes),
             Err(why) => {

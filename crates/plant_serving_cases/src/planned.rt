@@ -15,23 +15,40 @@ use std::{io, thread};
 /// How often a gate looks whether it was opened, before it lets its session go on.
 const LOOKS: u32 = 100_000_000;
 
+/// The flags of a gate that holds a session.
+#[derive(Drop)]
+pub struct Hold {
+    /// Whether the session is held. The gate sets this when a text has come to it, and resets it when it lets the session go on.
+    pub is_held: Arc<AtomicBool>,
+    /// Whether the gate is open. Another thread opens it.
+    pub is_open: Arc<AtomicBool>,
+}
+
+impl Hold {
+    /// Holds the session until the gate is open, or has looked often enough.
+    fn wait(&self) {
+        self.is_held.store(true, Ordering::SeqCst);
+        for _ in 0..LOOKS {
+            if self.is_open.load(Ordering::SeqCst) {
+                break;
+            }
+            thread::yield_now();
+        }
+        self.is_held.store(false, Ordering::SeqCst);
+    }
+}
+
 /// A gate that may hold its session where a text is evaluated, until it is opened.
 #[derive(Drop)]
 pub struct HoldingGate {
-    /// Whether it is open; none where it holds nobody.
-    pub is_open: Option<Arc<AtomicBool>>,
+    /// Its flags; none where it holds nobody.
+    hold: Option<Hold>,
 }
 
 impl Gate for HoldingGate {
     fn pause(&mut self, point: Point) {
-        let (Some(is_open), Point::Evaluating) = (&self.is_open, point) else {
-            return;
-        };
-        for _ in 0..LOOKS {
-            if is_open.load(Ordering::SeqCst) {
-                return;
-            }
-            thread::yield_now();
+        if let (Some(hold), Point::Evaluating) = (&self.hold, point) {
+            hold.wait();
         }
     }
 }
@@ -78,8 +95,8 @@ pub struct PlannedOutside<'a, R> {
     machine: Machine<'a, R>,
     // how many connections its port still gives
     left: u32,
-    // the first session's gate, until it is given
-    first: Option<Arc<AtomicBool>>,
+    // the flags of the first session's gate, until it is given
+    first: Option<Hold>,
     // how many calls of the port failed, as planned or not
     listen_faults: u64,
 }
@@ -103,14 +120,10 @@ impl<'a, R: AllocGlobal> PlannedOutside<'a, R> {
         }
     }
 
-    /// The same, but the first session is held until the flag is set.
-    pub fn holding_first(
-        rt: &'a R,
-        wakers: &'a Wakers,
-        flag: Arc<AtomicBool>,
-    ) -> PlannedOutside<'a, R> {
+    /// The same, but the first session is held by a gate with these flags.
+    pub fn holding_first(rt: &'a R, wakers: &'a Wakers, hold: Hold) -> PlannedOutside<'a, R> {
         PlannedOutside {
-            first: Some(flag),
+            first: Some(hold),
             ..PlannedOutside::new(rt, wakers)
         }
     }
@@ -202,7 +215,7 @@ where
 
     fn gate(&mut self) -> HoldingGate {
         HoldingGate {
-            is_open: self.first.take(),
+            hold: self.first.take(),
         }
     }
 

@@ -1,8 +1,9 @@
 //! Runs of the program with a port that fails, and with a session that is held.
 use crate::client::{count, free_port, greeted, serve, update};
-use crate::planned::PlannedOutside;
+use crate::planned::{Hold, PlannedOutside};
 use plant_edge::Wakers;
 use std::alloc::Global;
+use std::process::Abort;
 use std::sync::Arc;
 use std::sync::atomic::{AtomicBool, Ordering};
 use std::time::Duration;
@@ -37,9 +38,9 @@ fn sessions_go_on_after_the_port_failed(rt: HostRuntime) {
     assert_eq!(rt; outside.errors(), line.as_bytes());
 }
 
-/// Waits until the flag is set, for ten seconds at most.
+/// Waits until the flag is set, for fifty seconds or more.
 fn wait_for(rt: &HostRuntime, flag: &AtomicBool) -> io::Result<()> {
-    for _ in 0..10_000u32 {
+    for _ in 0..50_000u32 {
         if flag.load(Ordering::SeqCst) {
             return Ok(());
         }
@@ -48,32 +49,36 @@ fn wait_for(rt: &HostRuntime, flag: &AtomicBool) -> io::Result<()> {
     Err(io::Error::from(io::ErrorKind::TimedOut))
 }
 
-/// What a client is answered whose first text is held, and what its second. It says when it has connected.
-fn ask_held(
-    rt: &HostRuntime,
-    alloc: Global,
-    port: u16,
-    has_connected: &AtomicBool,
-) -> io::Result<[u64; 2]> {
+/// What a client is answered whose first text is held, and what its second.
+fn ask_held(rt: &HostRuntime, alloc: Global, port: u16) -> io::Result<[u64; 2]> {
     let mut stream = greeted(rt, port)?;
-    has_connected.store(true, Ordering::SeqCst);
     let held = count(alloc, &mut stream)?;
     Ok([held, count(alloc, &mut stream)?])
 }
 
-/// Logs a row once another client has connected, says when that was answered, and gives the number of rows.
+/// Logs a row while another session is held, opens its gate once that was answered, and gives the number of rows. Where the
+/// session went on before, the gate doesn't run beside this one, and that is an error.
 fn feed_beside(
     rt: &HostRuntime,
     alloc: Global,
     port: u16,
-    has_connected: &AtomicBool,
-    was_answered: &AtomicBool,
+    is_held: &AtomicBool,
+    is_open: &AtomicBool,
 ) -> io::Result<u64> {
-    wait_for(rt, has_connected)?;
+    wait_for(rt, is_held)?;
     let mut stream = greeted(rt, port)?;
     update(alloc, &mut stream)?;
-    was_answered.store(true, Ordering::SeqCst);
+    if !is_held.load(Ordering::SeqCst) {
+        return Err(io::Error::from(io::ErrorKind::TimedOut));
+    }
+    is_open.store(true, Ordering::SeqCst);
     count(alloc, &mut stream)
+}
+
+/// A flag that isn't set, for two threads.
+fn flag_of(rt: &impl Abort, alloc: Global) -> (Arc<AtomicBool>, Arc<AtomicBool>) {
+    let flag = Arc::new(alloc, AtomicBool::new(false)).expect(rt, "memory");
+    (flag.clone().expect(rt, "memory"), flag)
 }
 
 // A session is held while it evaluates a text, until another's update was answered. It answers over what it had seen: no row.
@@ -85,21 +90,15 @@ fn gates_run_beside(rt: HostRuntime) {
         rt.alloc(),
         free_port(&rt).expect(&rt, "a port"),
     );
-    let has_connected = Arc::new(alloc, AtomicBool::new(false)).expect(&rt, "memory");
-    let was_answered = Arc::new(alloc, AtomicBool::new(false)).expect(&rt, "memory");
-    let (connected, answered) = (
-        has_connected.clone().expect(&rt, "memory"),
-        was_answered.clone().expect(&rt, "memory"),
-    );
+    let (held, is_held) = flag_of(&rt, alloc);
+    let (open, is_open) = flag_of(&rt, alloc);
     let wakers = Wakers::new(rt.alloc());
-    let mut outside = PlannedOutside::holding_first(&rt, &wakers, was_answered);
-    let first = thread::spawn(&rt, move || ask_held(&asks, alloc, port, &has_connected)).expect(
+    let hold = Hold { is_held, is_open };
+    let mut outside = PlannedOutside::holding_first(&rt, &wakers, hold);
+    let first = thread::spawn(&rt, move || ask_held(&asks, alloc, port)).expect(&rt, "a thread");
+    let second = thread::spawn(&rt, move || feed_beside(&feeds, alloc, port, &held, &open)).expect(
         &rt, "a thread",
     );
-    let second = thread::spawn(&rt, move || {
-        feed_beside(&feeds, alloc, port, &connected, &answered)
-    })
-    .expect(&rt, "a thread");
     assert_eq!(rt; serve(&rt, alloc, port, 2, &mut outside), 0);
     assert_eq!(rt; first.join(&rt).expect(&rt, "a result"), [0, 1]);
     assert_eq!(rt; second.join(&rt).expect(&rt, "a result"), 1);

@@ -30,22 +30,8 @@ impl<P: Relation, T: Ordered> Step<T, bool> for Compared<P> {
     fn apply(x: &T, y: &T) -> bool {
         P::holds(x.order(y))
     }
-}
 
-// The same of two items of 64 bits, of which eight at a time are compared: narrower ones are quicker as they come.
-struct ComparedLongs<P>(P);
-
-impl<P: Relation> Step<i64, bool> for ComparedLongs<P> {
-    ghost use Rattle.q_verbs.specs.Numbers.{worth_cmp};
-    ghost use Rattle.q_lanes.specs.Loops.{worth_in_64};
-
-    ghost value = { λ x y. P.relates (worth_cmp (worth_in_64 x) (worth_in_64 y)) };
-
-    fn apply(x: &i64, y: &i64) -> bool {
-        P::holds(x.order(y))
-    }
-
-    fn by_eights() -> bool {
+    fn by_sixteens() -> bool {
         true
     }
 }
@@ -108,12 +94,7 @@ fn compare_wide<P: Relation>(
 {
     let some = WideSide::of(alloc, left)?;
     let others = WideSide::of(alloc, right)?;
-    let values = zip_lanes::<ComparedLongs<P>, i64, bool>(
-        alloc,
-        count,
-        &some.lane(),
-        &others.lane(),
-    )?;
+    let values = zip_lanes::<Compared<P>, i64, bool>(alloc, count, &some.lane(), &others.lane())?;
     Ok(values)
 }
 

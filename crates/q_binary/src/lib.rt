@@ -11,6 +11,8 @@
 //! binary(alloc, Verb::Lesser, &Side::Column(&a), &Side::Column(&b))       // 1 5 & 2 0N  is  1 0N
 //! ```
 //!
+//! [`Computed`] is what [`binary`] makes of two items for an [`Operation`], for loops that read it without making a column.
+//!
 //! A loop runs over the typed slices of the sides, at the width of the two where they have one, or else over their
 //! numbers widened to 64 bits ([`laws`] says what holds of the results).
 //!
@@ -27,3 +29,4 @@ mod multiples;
 mod operation;
 
 pub use by_place::binary;
+pub use operation::{Computed, Difference, Operation, Sum};

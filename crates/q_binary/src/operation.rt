@@ -9,7 +9,7 @@ use q_lanes::{Number, Reduced, Step};
 use q_values::NANOSECONDS_PER_DAY;
 
 /// An operation on two numbers of 64 bits, neither of them the null.
-pub(crate) trait Operation {
+pub trait Operation {
     ghost value: { ℤ → ℤ → Option ℤ };
 
     /// The result, wrapped to 64 bits; `None` for the null.
@@ -20,7 +20,7 @@ pub(crate) trait Operation {
 }
 
 /// `+`
-pub(crate) struct Sum;
+pub struct Sum;
 
 impl Operation for Sum {
     ghost use Rattle.q_verbs.specs.Places.{sum_of};
@@ -33,7 +33,7 @@ impl Operation for Sum {
 }
 
 /// `-`
-pub(crate) struct Difference;
+pub struct Difference;
 
 impl Operation for Difference {
     ghost use Rattle.q_verbs.specs.Places.{difference_of};
@@ -190,7 +190,7 @@ fn applied<P: Operation>(x: &i64, y: &i64) -> Option<i64>
 }
 
 /// The operation's result for two numbers or nulls of one width, in the width of the result.
-pub(crate) struct Computed<P>(P);
+pub struct Computed<P>(P);
 
 impl<P: Operation, T: Number, U: Reduced> Step<T, U> for Computed<P> {
     ghost use Rattle.q_binary.specs.Computed.{computed};

@@ -1,6 +1,6 @@
 //! Filters of few rows and of many.
 
-use crate::places_where;
+use crate::{count_where, places_where};
 use q_values::{Column, LongKind, Vector};
 use std::alloc::{AllocError, Global};
 use std::test::Fail;
@@ -31,22 +31,30 @@ fn few_rows(rt: HostRuntime) -> Result<(), Fail> {
         if booleans.kind() == q_values::Kind::Boolean {
             let places = places_where(rt.alloc(), &booleans)?;
             assert!(rt; places.as_slice() == wanted, "{wanted:?}");
+            assert!(rt; count_where(&booleans) == wanted.len(), "{wanted:?}");
         }
     }
     Ok(())
 }
 
-// Every tenth of many rows is kept.
-fn kept_of_many(alloc: Global, count: i64) -> Result<Vector, q_values::NoMemory> {
+// Booleans of which every tenth holds.
+fn every_tenth(alloc: Global, count: i64) -> Result<Vector, AllocError> {
     let mut bits = Vec::new(alloc);
-    let mut items = Vec::new(alloc);
     for i in 0..count {
         bits.push(i % 10 == 3)?;
+    }
+    Ok(Vector::from_column(Column::Booleans(bits)))
+}
+
+// Every tenth of many rows is kept.
+fn kept_of_many(alloc: Global, count: i64) -> Result<Vector, q_values::NoMemory> {
+    let mut items = Vec::new(alloc);
+    for i in 0..count {
         items.push(i)?;
     }
-    let booleans = Vector::from_column(Column::Booleans(bits));
+    let booleans = every_tenth(alloc, count)?;
     let longs = Vector::from_column(Column::Longs(LongKind::Long, items));
-    if longs.len() != booleans.len() {
+    if longs.len() != booleans.len() || booleans.kind() != q_values::Kind::Boolean {
         return Ok(longs);
     }
     let places = places_where(alloc, &booleans)?;
@@ -64,6 +72,15 @@ fn many_rows(rt: HostRuntime) -> Result<(), Fail> {
             assert_eq!(rt; items.last(), Some(&99_993));
         }
         _ => return Err(Fail::from("longs are wanted")),
+    }
+    Ok(())
+}
+
+#[test]
+fn count_of_many_rows(rt: HostRuntime) -> Result<(), Fail> {
+    let booleans = every_tenth(rt.alloc(), 100_000)?;
+    if booleans.kind() == q_values::Kind::Boolean {
+        assert_eq!(rt; count_where(&booleans), 10_000);
     }
     Ok(())
 }

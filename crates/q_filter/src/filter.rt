@@ -1,4 +1,4 @@
-//! The places at which booleans hold.
+//! The places at which booleans hold, and how many they are.
 ghost use Rattle.std.specs.Prelude.{◌≡◌, ◌<◌, List, if◌then◌else◌, length, All, IfOk};
 ghost use Rattle.q_values.specs.Lists.{gathered};
 ghost use Rattle.q_values.specs.declared.atom.Atom.{Atom};
@@ -38,6 +38,17 @@ fn places_in(alloc: Global, bits: &[bool]) -> Result<Vec<usize>, AllocError>
     }
     places.truncate(kept);
     Ok(places)
+}
+
+/// How many of the booleans hold.
+pub fn count_where(booleans: &Vector) -> usize
+    requires { booleans.now.kind ≡ k.Boolean }
+    ensures { result ≡ length (places_of booleans.now.atoms) }
+{
+    match booleans.column() {
+        Column::Booleans(bits) => count_in(bits),
+        _ => unreachable!(),
+    }
 }
 
 /// The indices at which the booleans hold, in ascending order.

@@ -1,5 +1,5 @@
 -- Two lists side by side.
-use Rattle.std.proofs.Common.{◌≡◌, ℕ, ◌+◌, ◌<◌, ◌++◌, List, [], ◌∷◌, length, get_or, take, map, refl, sym, ap, ◌∙◌, arith, zero, suc, add-one, Some, slice_get}
+use Rattle.std.proofs.Common.{min, ◌≡◌, ℕ, ◌+◌, ◌<◌, ◌++◌, List, [], ◌∷◌, length, get_or, take, map, refl, sym, ap, ◌∙◌, arith, zero, suc, add-one, Some, slice_get}
 use Rattle.std.proofs.lemmas.Option.{get_or_from_slice_get}
 use Rattle.std.specs.Simd.Lanes.{zip2}
 
@@ -51,3 +51,29 @@ zip2_more_at f xs ys i x y p q d e =
     zip2_more f xs ys i x y p q
     ∙ ap (λ a. zip2 f (take i xs) (take i ys) ++ f a (get_or ys i y) ∷ []) (sym d)
     ∙ ap (λ b. zip2 f (take i xs) (take i ys) ++ f x b ∷ []) (sym e)
+
+-- an index of two lists together is one of each
+pub zip_left : {X Y Z : Type 0} (f : X → Y → Z) (xs : List X) (ys : List Y) (i : ℕ) → i < length (zip2 f xs ys) → i < length xs
+zip_left f [] ys i h = h
+zip_left f (x ∷ xs) [] i h = absurd (omega (arith, h))
+zip_left f (x ∷ xs) (y ∷ ys) zero h = omega arith
+zip_left f (x ∷ xs) (y ∷ ys) (suc i) h = let rest = zip_left f xs ys i (omega (arith, h)) in omega arith
+
+pub zip_right : {X Y Z : Type 0} (f : X → Y → Z) (xs : List X) (ys : List Y) (i : ℕ) → i < length (zip2 f xs ys) → i < length ys
+zip_right f [] ys i h = absurd (omega (arith, h))
+zip_right f (x ∷ xs) [] i h = h
+zip_right f (x ∷ xs) (y ∷ ys) zero h = omega arith
+zip_right f (x ∷ xs) (y ∷ ys) (suc i) h = let rest = zip_right f xs ys i (omega (arith, h)) in omega arith
+
+-- the result at an index, from the items there
+pub zip_at : {X Y Z : Type 0} (f : X → Y → Z) (xs : List X) (ys : List Y) (i : ℕ) (x : X) (y : Y) → slice_get xs i ≡ Some x → slice_get ys i ≡ Some y → slice_get (zip2 f xs ys) i ≡ Some (f x y)
+zip_at f [] ys i x y d e = absurd (cc)
+zip_at f (a ∷ xs) [] i x y d e = absurd (cc)
+zip_at f (a ∷ xs) (b ∷ ys) zero x y d e = let one : a ≡ x = cc in let other : b ≡ y = cc in cc
+zip_at f (a ∷ xs) (b ∷ ys) (suc i) x y d e = zip_at f xs ys i x y d e
+
+-- there are as many as the shorter list has
+pub zip_count : {X Y Z : Type 0} (f : X → Y → Z) (xs : List X) (ys : List Y) → length (zip2 f xs ys) ≡ min (length xs) (length ys)
+zip_count f [] ys = omega arith
+zip_count f (x ∷ xs) [] = omega arith
+zip_count f (x ∷ xs) (y ∷ ys) = let rest = zip_count f xs ys in omega arith

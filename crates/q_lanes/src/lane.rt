@@ -1,10 +1,11 @@
 //! The items of a side, as the loops of the verbs read them, and the loop over two sides.
-ghost use Rattle.std.specs.Prelude.{◌≡◌, ◌<◌, List, length, map, Some, slice_get, IfOk};
+ghost use Rattle.std.specs.Prelude.{◌≡◌, ◌<◌, ◌≤◌, ◌+◌, ◌^◌, List, length, map, take, drop, Some, slice_get, IfOk};
 ghost use Rattle.std.specs.Mem.{FitsInMemory};
 ghost use Rattle.std.specs.Simd.Lanes.{zip2};
 ghost use Rattle.q_lanes.specs.Lanes.{lane_items};
 
 use std::alloc::{AllocError, Global};
+use std::marker::PhantomData;
 use std::slice::from_ref;
 
 /// The items of a column, or one item that stands at each index.
@@ -43,10 +44,11 @@ pub trait Items<T> {
         ensures { slice_get (list self.now) i ≡ Some result };
 }
 
-// The items of a slice.
+/// The items of a slice.
 #[derive(Drop)]
-struct Slice<'a, T> {
-    items: &'a [T],
+pub struct Slice<'a, T> {
+    /// The items.
+    pub items: &'a [T],
 }
 
 impl<T: Copy> Items<T> for Slice<'_, T> {
@@ -61,11 +63,13 @@ impl<T: Copy> Items<T> for Slice<'_, T> {
     }
 }
 
-// One item at each index.
+/// One item at each index.
 #[derive(Drop)]
-struct Repeated<T> {
-    item: T,
-    count: usize,
+pub struct Repeated<T> {
+    /// The item.
+    pub item: T,
+    /// The number of indices.
+    pub count: usize,
 }
 
 impl<T: Copy> Items<T> for Repeated<T> {
@@ -90,39 +94,81 @@ pub trait Step<T, U> {
     fn apply(x: &T, y: &T) -> U
         ensures { result ≡ value x.now y.now };
 
-    /// Whether the loop goes over eight items at a time. That is quicker where a result is narrower than an item, and
-    /// slower where it is as wide.
-    fn by_eights() -> bool {
+    /// Whether sixteen results are computed before they are written, which the compiler makes a few comparisons of many items
+    /// each. That is quicker where a result is a flag, and slower where it is as wide as an item.
+    fn by_sixteens() -> bool {
         false
     }
 }
 
-fn zip_items<S: Step<T, U>, T: Copy, U: Drop, L: Items<T>, R: Items<T>>(
+/// The results of a step for each two items of two lists, which are computed as they are read.
+#[derive(Drop)]
+pub struct Zipped<'a, S, T, L, R> {
+    /// The items at the left.
+    pub left: &'a L,
+    /// The items at the right.
+    pub right: &'a R,
+    /// The step, and the type of the items.
+    pub step: PhantomData<(S, T)>,
+}
+
+impl<S: Step<T, U>, T: Copy, U, L: Items<T>, R: Items<T>> Items<U> for Zipped<'_, S, T, L, R> {
+    ghost use Rattle.std.specs.Simd.Lanes.{zip2};
+
+    ghost list = { λ z. zip2 S.value (L.list z.left.now) (R.list z.right.now) };
+
+    fn count(&self) -> usize {
+        self.left.count().min(self.right.count())
+    }
+
+    fn item(&self, i: usize) -> U {
+        S::apply(&self.left.item(i), &self.right.item(i))
+    }
+}
+
+// Sixteen items from this index on.
+fn sixteen_from<U: Copy, I: Items<U>>(items: &I, from: usize) -> [U; 16]
+    requires within { from + 16 ≤ length (I.list items.now) }
+    requires small { from + 16 < 2 ^ 64 }
+    ensures { result ≡ take 16 (drop from (I.list items.now)) }
+{
+    let mut block = [items.item(from); 16];
+    for k in 0..16 {
+        block[k] = items.item(from + k);
+    }
+    block
+}
+
+fn zip_items<S: Step<T, U>, T: Copy, U: Copy, L: Items<T>, R: Items<T>>(
     alloc: Global,
     left: &L,
     right: &R,
 ) -> Result<Vec<U>, AllocError>
-    requires { length (L.list left.now) ≡ length (R.list right.now) }
     ensures { IfOk result (λ v. v.items ≡ zip2 S.value (L.list left.now) (R.list right.now)) }
 {
-    let count = left.count();
+    let results = Zipped::<S, T, L, R> {
+        left,
+        right,
+        step: PhantomData,
+    };
+    let count = results.count();
     let mut values = Vec::with_capacity(alloc, count)?;
     let mut done = 0;
-    while S::by_eights() && done + 8 <= count {
-        for k in 0..8 {
-            let i = done + k;
-            values.push_reserved(S::apply(&left.item(i), &right.item(i)));
+    while S::by_sixteens() && done + 16 <= count {
+        let block = sixteen_from(&results, done);
+        for k in 0..16 {
+            values.push_reserved(block[k]);
         }
-        done += 8;
+        done += 16;
     }
     for i in done..count {
-        values.push_reserved(S::apply(&left.item(i), &right.item(i)));
+        values.push_reserved(results.item(i));
     }
     Ok(values)
 }
 
 /// The results for each two items of sides of `count` items.
-pub fn zip_lanes<S: Step<T, U>, T: Copy, U: Drop>(
+pub fn zip_lanes<S: Step<T, U>, T: Copy, U: Copy>(
     alloc: Global,
     count: usize,
     left: &Lane<'_, T>,

@@ -30,7 +30,7 @@ mod vectors;
 mod wide;
 
 pub use cells::Cells;
-pub use lane::{Items, Lane, Rule, Step, map_items, zip_lanes};
+pub use lane::{Items, Lane, Repeated, Rule, Slice, Step, Zipped, map_items, zip_lanes};
 pub use number::{Number, Reduced, low_32, widened_all};
 pub use order::{Above, AtLeast, AtMost, Below, Ordered, Other, Relation, Same, order_of};
 pub use texts::{Beside, TextList, Texts, texts_of};

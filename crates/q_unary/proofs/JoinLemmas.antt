@@ -6,16 +6,9 @@ use Rattle.std.specs.declared.cmp.Ordering.{Ordering}
 use Rattle.std.proofs.lemmas.Int.{ints}
 use Rattle.std.proofs.lemmas.List.Sums.{fold-append}
 use Rattle.q_lanes.proofs.OrderLemmas.{worth_cmp-some}
-use Rattle.q_unary.specs.Extremes.{Picks, extreme, picked}
+use Rattle.q_unary.specs.Extremes.{Picks, Ranks, extreme, picked}
 use Rattle.q_verbs.specs.Numbers.{numeric, worth_cmp}
 use Rattle.q_verbs.specs.Aggregates.{best_of, choose_present}
-
--- picks by an order of numbers, so that of three it doesn't matter which two are compared first
-abbrev pub Ranks : (Ordering → Bool) → Type 0
-Ranks picks =
-    (m n p : ℤ)
-    → (picks (int_cmp m n) ≡ true → picks (int_cmp n p) ≡ true → picks (int_cmp m p) ≡ true)
-    × (picks (int_cmp m n) ≡ false → picks (int_cmp n p) ≡ false → picks (int_cmp m p) ≡ false)
 
 pub ranks_least : Ranks is_le
 ranks_least m n p = ((λ d e. grind (arith, ints)), (λ d e. grind (arith, ints)))

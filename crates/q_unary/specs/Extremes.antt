@@ -1,6 +1,7 @@
 -- The least and the greatest of items, of which nulls are passed over.
-use Rattle.std.specs.Prelude.{◌≡◌, ℤ, Bool, if◌then◌else◌, List, Option, unwrap_or}
+use Rattle.std.specs.Prelude.{◌≡◌, ℤ, Bool, true, false, if◌then◌else◌, List, Option, unwrap_or}
 use Rattle.std.specs.declared.cmp.Ordering.{Ordering}
+use Rattle.std.specs.Ordering.{int_cmp}
 use Rattle.q_verbs.specs.Numbers.{numeric, worth_cmp}
 use Rattle.q_verbs.specs.Aggregates.{choose_present, chosen_of}
 
@@ -16,3 +17,10 @@ extreme picks number end xs = unwrap_or (chosen_of number (picked picks number) 
 abbrev pub Picks : {X : Type 0} → (Ordering → Bool) → (X → Option ℤ) → X → X → X → X → Type 0
 Picks {X} picks number end best x result =
     (chosen : Option X) → best ≡ unwrap_or chosen end → result ≡ unwrap_or (choose_present number (picked picks number) chosen x) end
+
+-- picks by an order of numbers, so that of three it doesn't matter which two are compared first
+abbrev pub Ranks : (Ordering → Bool) → Type 0
+Ranks picks =
+    (m n p : ℤ)
+    → (picks (int_cmp m n) ≡ true → picks (int_cmp n p) ≡ true → picks (int_cmp m p) ≡ true)
+    × (picks (int_cmp m n) ≡ false → picks (int_cmp n p) ≡ false → picks (int_cmp m p) ≡ false)

@@ -10,12 +10,13 @@ ghost use Rattle.q_verbs.specs.Numbers.{number_in};
 ghost use Rattle.q_verbs.specs.Places.{chosen};
 ghost use Rattle.q_verbs.specs.declared.verb.Verb.TheVariants as v;
 
-use q_lanes::Number;
+use crate::picks::{Greatest, Least, Pick, picked_of};
+use q_lanes::{Number, Slice};
 use q_values::{Atom, Column};
 
 // Numbers of which the least and the greatest are sought, with no branch for a null. The null is the least number of its
 // width, so it is never the greatest; where the least is sought, a null counts as the greatest value.
-trait Extremal: Number {
+pub(crate) trait Extremal: Number {
     ghost top: { Self };
 
     ghost bottom: { Self };
@@ -248,41 +249,52 @@ impl Extremal for i64 {
     }
 }
 
-// Both halves are gone over at once, which keeps more of the memory busy.
+impl<T: Extremal> Pick<T> for Least {
+    ghost use Rattle.std.specs.Ordering.{is_le};
+
+    ghost wanted = { is_le };
+
+    ghost number = { T.number };
+
+    ghost end = { T.top };
+
+    fn end() -> T {
+        T::greatest_value()
+    }
+
+    fn pick(best: T, x: &T) -> T {
+        T::lesser(best, x)
+    }
+}
+
+impl<T: Extremal> Pick<T> for Greatest {
+    ghost use Rattle.std.specs.Ordering.{is_ge};
+
+    ghost wanted = { is_ge };
+
+    ghost number = { T.number };
+
+    ghost end = { T.bottom };
+
+    fn end() -> T {
+        T::lowest_value()
+    }
+
+    fn pick(best: T, x: &T) -> T {
+        T::greater(best, x)
+    }
+}
+
 fn least_of_items<T: Extremal>(items: &[T]) -> T
     ensures { result ≡ extreme is_le T.number T.top items.now }
 {
-    let half = items.len() / 2;
-    let mut best = T::greatest_value();
-    let mut other = T::greatest_value();
-    for i in 0..half {
-        best = T::lesser(best, &items[i]);
-        other = T::lesser(other, &items[half + i]);
-    }
-    let both = T::lesser(best, &other);
-    if half + half < items.len() {
-        T::lesser(both, &items[half + half])
-    } else {
-        both
-    }
+    picked_of::<Least, T, Slice<'_, T>>(&Slice { items })
 }
 
 fn greatest_of_items<T: Extremal>(items: &[T]) -> T
     ensures { result ≡ extreme is_ge T.number T.bottom items.now }
 {
-    let half = items.len() / 2;
-    let mut best = T::lowest_value();
-    let mut other = T::lowest_value();
-    for i in 0..half {
-        best = T::greater(best, &items[i]);
-        other = T::greater(other, &items[half + i]);
-    }
-    let both = T::greater(best, &other);
-    if half + half < items.len() {
-        T::greater(both, &items[half + half])
-    } else {
-        both
-    }
+    picked_of::<Greatest, T, Slice<'_, T>>(&Slice { items })
 }
 
 /// The least item of a column but the nulls, or the greatest value of the kind.

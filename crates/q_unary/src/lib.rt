@@ -2,6 +2,7 @@
 //!
 //! - [`unary`] applies `not`, `neg` or `distinct` to a column, and makes a column.
 //! - [`aggregate`] makes one atom of a column: `count`, `sum`, `min`, `max`, `first` or `last`.
+//! - [`picked_of`] is the loop of `min` and `max`, over any items that can be read by their indices.
 //!
 //! Which kinds a verb takes, and the kind of its result, `q_verbs::result_kind1` says; the calls ask that it has an
 //! answer, so they have no error but that memory runs out.
@@ -22,7 +23,9 @@ mod distinct;
 mod extremes;
 pub mod laws;
 mod one_side;
+mod picks;
 mod totals;
 
 pub use aggregation::aggregate;
 pub use one_side::unary;
+pub use picks::{Greatest, Least, Pick, picked_of};

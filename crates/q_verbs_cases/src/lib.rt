@@ -1,4 +1,4 @@
-//! Tests of `q_binary`, `q_unary` and `q_matching`: each verb over whole columns, against rows that were worked out apart
+//! Tests of `q_binary`, `q_unary`, `q_fused` and `q_matching`: each verb over whole columns, against rows that were worked out apart
 //! from its code.
 //!
 //! They are a crate of their own, since a crate with tests in it is proved twice.
@@ -9,8 +9,11 @@
 //! - `kinds_rows` has the kind of each verb's result for each pair of kinds.
 //! - `table_test` reads the rows, runs the verbs and compares.
 //! - `sizes` runs `in`, `within`, `min`, `max` and `neg` over 1,000 and 100,000 rows of each width.
+//! - `odd_sizes` runs `sum`, `min` and `max` over 1,001 and 100,001 rows, and comparisons over 1,003 and 100,007, with items
+//!   in the last rows that decide.
 //! - `long_names` runs the verbs of symbols over 1,000 and 100,000 of more than eight bytes.
 //! - `multiples` runs `xbar` by one width over 1,000 and 100,000 longs.
+//! - `one_loop` runs `min` and `max` of sums and differences, over 1,000 and 100,001 longs.
 //! - `examples` has the published ones (KX, Q for Mortals, 4).
 //!
 //! ```text
@@ -28,6 +31,10 @@ mod kinds_rows;
 mod long_names;
 #[cfg(test)]
 mod multiples;
+#[cfg(test)]
+mod odd_sizes;
+#[cfg(test)]
+mod one_loop;
 #[cfg(test)]
 mod one_side_rows;
 #[cfg(test)]

@@ -20,7 +20,7 @@ const WIDTHS: [i64; 9] = [
 ];
 
 // The number of a row: near both ends of 64 bits, near 0, anywhere, and the null.
-fn number_at(row: u32) -> i64 {
+pub(crate) fn number_at(row: u32) -> i64 {
     match row % 5 {
         0 => i64::MAX.wrapping_sub(i64::from(row)),
         1 => i64::MIN.wrapping_add(i64::from(row)),

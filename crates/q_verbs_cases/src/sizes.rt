@@ -22,7 +22,7 @@ enum Case {
 }
 
 // The number of a row: from -50 to 50, but the null for 13.
-fn number_at(row: u32) -> Option<i64> {
+pub(crate) fn number_at(row: u32) -> Option<i64> {
     let rest = (u64::from(row) * 7_919 % 101) as u8;
     match i64::from(rest) - 50 {
         13 => None,
@@ -41,14 +41,14 @@ fn is_expected(case: Case, number: Option<i64>) -> bool {
     }
 }
 
-fn atom_of(rt: &impl Abort, kind: Kind, number: Option<i64>) -> Atom {
+pub(crate) fn atom_of(rt: &impl Abort, kind: Kind, number: Option<i64>) -> Atom {
     match atom_of_number(kind, number.unwrap_or(null_number(kind))) {
         Some(atom) => atom,
         None => panic!(rt; "no number of the kind"),
     }
 }
 
-fn rows_of(rt: &impl Abort, alloc: Global, kind: Kind, count: u32) -> Vector {
+pub(crate) fn rows_of(rt: &impl Abort, alloc: Global, kind: Kind, count: u32) -> Vector {
     let mut rows = Vector::new(alloc, kind);
     for row in 0..count {
         rows.push(atom_of(rt, kind, number_at(row)))

@@ -308,7 +308,7 @@ fn found_of_no_left(
     }
 }
 
-fn is_wanted(found: Option<Vector>, wanted: &Vector) -> bool {
+pub(crate) fn is_wanted(found: Option<Vector>, wanted: &Vector) -> bool {
     match found {
         Some(found) => is_same(&found, wanted),
         None => false,
@@ -455,7 +455,12 @@ pub(crate) fn vector_of_atom(rt: &impl Abort, alloc: Global, atom: Atom) -> Vect
 }
 
 // The verb's result for the column; `None` where it doesn't take it.
-fn found_of_one(rt: &impl Abort, alloc: Global, verb: Verb1, items: &Vector) -> Option<Vector> {
+pub(crate) fn found_of_one(
+    rt: &impl Abort,
+    alloc: Global,
+    verb: Verb1,
+    items: &Vector,
+) -> Option<Vector> {
     if result_kind1(verb, items.kind()).is_none() {
         return None;
     }

@@ -1,10 +1,11 @@
 //! The value of a query over the rows of its table.
-ghost use Rattle.std.specs.Prelude.{◌≡◌, ◌<◌, true, false, Some, map, length, All, IfOk};
-ghost use Rattle.q_values.specs.Tree.{tree};
+ghost use Rattle.std.specs.Prelude.{◌≡◌, ◌<◌, ℕ, List, true, false, Some, map, length, All, IfOk, IsTrue};
+ghost use Rattle.q_values.specs.Tree.{tree, atom};
 ghost use Rattle.q_values.specs.declared.kind.Kind.TheVariants as k;
 ghost use Rattle.qsql_request.specs.Unbuilt.{is_empty, is_unbuilt_phrase};
 ghost use Rattle.qsql_request.specs.Views.{form, query_of};
-ghost use Rattle.qsql_values.specs.Frames.{AreColumns, frame_of, kind_beside};
+ghost use Rattle.qsql_values.specs.Counting.{count_atom};
+ghost use Rattle.qsql_values.specs.Frames.{Frame, AreColumns, frame_of, kind_beside};
 ghost use Rattle.qsql_values.specs.Kinds.{kind_in};
 ghost use Rattle.qsql_values.specs.Values.{kept};
 ghost use Rattle.qsql_eval.specs.Judgement.{all_columns};
@@ -21,7 +22,7 @@ use day_rows::Shape;
 use q_values::{NoMemory, Sym, Value, Vector};
 use qsql_groups::Grouping;
 use qsql_request::Query;
-use qsql_values::{Scope, kept_places, kept_rows};
+use qsql_values::{Scope, count_atom, is_row_count, kept_count, kept_places, kept_rows};
 use std::alloc::Global;
 
 // The value of a query without `by`, of which the rows have been kept.
@@ -68,8 +69,17 @@ fn answer(
     }
 }
 
+// Whether the query's value is the number of its rows: it is an `exec` of `count` of a name alone.
+fn counts_rows(query: &Query) -> bool
+    ensures { IsTrue result → (all : List (List ℕ)) → (frame : Frame)
+        → value_over_rows all (query_of query.now) frame ≡ atom (count_atom (length frame.rows)) }
+{
+    let columns = query.columns.as_slice();
+    query.exec && columns.len() == 1 && is_row_count(&columns[0].expr)
+}
+
 // The value of a query without `by` over the rows that its phrases keep. Of these rows only the columns that it shows are
-// gathered.
+// gathered, and none where it is their number.
 fn answer_at_places(
     alloc: Global,
     query: &Query,
@@ -87,6 +97,10 @@ fn answer_at_places(
         ≡ value_over_kept (all_columns table.now) (query_of query.now) (kept (map form query.now.phrases) (frame_of names.now columns.now))) }
 {
     let phrases = query.phrases.as_slice();
+    if counts_rows(query) {
+        let rows = kept_count(alloc, phrases, names, columns)?;
+        return Ok(Value::Atom(count_atom(rows)));
+    }
     let places = kept_places(alloc, phrases, names, columns)?;
     let scope = Scope::at(names, columns, &places);
     let value = answer_over_rows(alloc, query, table, &scope)?;

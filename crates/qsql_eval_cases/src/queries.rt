@@ -305,6 +305,36 @@ const EXECS: [(&[u8], &[u8]); 46] = [
     (b"exec `ab like \"a*\" from trade", b"b:1"),
 ];
 
+// `min` and `max` of sums and differences, and `count` of a column, which have loops of their own. The rows have the prices
+// 20 10 11 30 21 and the sizes 5 100 7 1 9.
+const LOOPS: [(&[u8], &[u8]); 13] = [
+    (b"exec max price-min price from trade", b"j:20"),
+    (b"exec x:min price-size from trade", b"j:-90"),
+    (b"exec max 100-price from trade", b"j:90"),
+    (b"exec x:min price+size from trade where size<100", b"j:18"),
+    (b"exec max price+0N from trade", b"j:-9223372036854775807"),
+    (b"exec max 3-5 from trade", b"j:-2"),
+    (b"exec max time-0D09:30 from trade", b"n:120000000000"),
+    (b"exec count sym from trade where size>5,i<2", b"j:2"),
+    (b"exec count i from trade where size=max size", b"j:1"),
+    (
+        b"exec count price from trade where size<50,size=max size",
+        b"j:1",
+    ),
+    (b"exec n:count i from trade where size>5", b"j:3"),
+    (
+        b"exec n:count i,s:sum size from trade where size>5",
+        b"s[n s]!j[3 116]",
+    ),
+    (b"exec count distinct sym from trade where size>5", b"j:2"),
+];
+
+#[test]
+fn loops(rt: HostRuntime) {
+    let alloc = rt.alloc();
+    assert_rows(&rt, alloc, &five_rows(&rt, alloc), &LOOPS)
+}
+
 #[test]
 fn execs(rt: HostRuntime) {
     let alloc = rt.alloc();
@@ -314,7 +344,17 @@ fn execs(rt: HostRuntime) {
 #[test]
 fn many_rows_are_kept(rt: HostRuntime) {
     let alloc = rt.alloc();
-    let cases: [(&[u8], &[u8]); 4] = [
+    let cases: [(&[u8], &[u8]); 8] = [
+        (b"exec max price-min price from trade", b"j:99999"),
+        (b"exec x:min price-size from trade where size>0", b"j:0"),
+        (
+            b"exec count i from trade where size>=500,price=max price",
+            b"j:1",
+        ),
+        (
+            b"exec count i from trade where size>=500,price<50000,price>=100,size<501",
+            b"j:50",
+        ),
         (b"exec count i from trade where size>=500", b"j:50000"),
         (
             b"exec count i from trade where size>=500,price<50000,sym=`a",

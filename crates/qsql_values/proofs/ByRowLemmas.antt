@@ -1,15 +1,14 @@
 -- An expression by row has, over the rows that flags keep, the items that they keep.
-use Rattle.std.proofs.Common.{◌≡◌, ℕ, Bool, true, false, ◌&&◌, cond, List, [], ◌∷◌, ◌++◌, length, map, refl, sym, ap, ap₂, ◌∙◌, arith, Some, None, Option}
+use Rattle.std.proofs.Common.{◌≡◌, Bool, true, false, ◌&&◌, cond, List, [], ◌∷◌, ◌++◌, length, map, refl, sym, ap, ap₂, ◌∙◌, arith}
 use Rattle.std.specs.Prelude.{unwrap_or, option_map, neg_ℤ}
 use Rattle.std.proofs.lemmas.List.{length-map}
-use Rattle.std.specs.Simd.Lanes.{zip2}
 use Rattle.q_values.specs.Contents.{Contents}
-use Rattle.q_values.specs.Tree.{Tree, atom, vector, list, dict, table, keyed, identity, wrong}
+use Rattle.q_values.specs.Tree.{Tree, atom, vector}
 use Rattle.q_values.specs.declared.atom.Atom.{Atom}
 use Rattle.q_values.specs.declared.atom.Atom.TheVariants as a
 use Rattle.q_values.specs.declared.kind.Kind.{Kind}
 use Rattle.q_values.specs.declared.kind.Kind.TheVariants as k
-use Rattle.q_verbs.specs.Kinds.{result_kind_of, result_kind1_of}
+use Rattle.q_verbs.specs.Kinds.{result_kind1_of}
 use Rattle.q_verbs.specs.Like.{matches}
 use Rattle.q_verbs.specs.Lists.{is_zero}
 use Rattle.q_verbs.specs.Numbers.{worth, written}
@@ -20,7 +19,7 @@ use Rattle.q_verbs.specs.declared.verb.Verb.TheVariants as v
 use Rattle.q_verbs.specs.declared.verb.Verb1.{Verb1}
 use Rattle.q_verbs.specs.declared.verb.Verb1.TheVariants as u
 use Rattle.qsql_request.specs.Forms.{Form, constant, column, one, two}
-use Rattle.qsql_request.specs.Shapes.{is_atom, is_test}
+use Rattle.qsql_request.specs.Shapes.{is_test}
 use Rattle.q_filter.specs.Places.{is_true}
 use Rattle.qsql_values.specs.Frames.{Frame, field_in, column_in}
 use Rattle.qsql_values.specs.ByRow.{is_fixed, is_by_item, is_by_row, picked, both, frame_where}

@@ -1,21 +1,23 @@
 -- Rows that phrases keep, as indices.
-use Rattle.std.proofs.Common.{◌≡◌, ℕ, ◌+◌, ◌<◌, Bool, true, false, List, [], ◌∷◌, ◌++◌, length, map, take, drop, get_or, refl, sym, ap, ap₂, ◌∙◌, arith, All, subst, zero, suc, add-one}
+use Rattle.std.proofs.Common.{◌≡◌, ℕ, ◌+◌, ◌-◌, ◌<◌, Bool, true, false, List, [], ◌∷◌, ◌++◌, length, map, take, drop, get_or, refl, sym, ap, ap₂, ◌∙◌, arith, All, subst, zero, suc, add-one}
 use Rattle.std.specs.Simd.Lanes.{zip2}
-use Rattle.std.proofs.Math.Seq.{take-add}
-use Rattle.std.proofs.lemmas.List.{drop_more, length-map, drop-map}
+use Rattle.std.proofs.Math.Seq.{take-add, take-length}
+use Rattle.std.proofs.lemmas.List.{drop_more, length-drop, drop-map, take-append-drop}
 use Rattle.std.proofs.lemmas.List.Elements.{All-nil, All-cons, All-head, All-tail}
 use Rattle.q_values.specs.Contents.{Contents}
 use Rattle.q_values.specs.Lists.{gathered}
 use Rattle.q_values.specs.Table.{rows_of}
-use Rattle.q_values.specs.Tree.{vector}
+use Rattle.q_values.specs.Tree.{Tree, vector}
 use Rattle.q_values.specs.declared.atom.Atom.{Atom}
 use Rattle.q_values.specs.declared.atom.Atom.TheVariants as a
 use Rattle.q_values.specs.declared.kind.Kind.TheVariants as k
-use Rattle.q_filter.specs.Places.{is_true, places_from, places_of}
+use Rattle.q_filter.specs.Places.{places_from, places_of}
 use Rattle.qsql_request.specs.Forms.{Form}
+use Rattle.qsql_request.specs.Views.{form}
+use Rattle.qsql_request.specs.declared.request.Expr.{Expr}
 use Rattle.qsql_values.specs.ByRow.{frame_where}
-use Rattle.qsql_values.specs.Frames.{Frame, AreColumns, frame_of, rows_beside, rows_at}
-use Rattle.qsql_values.specs.Values.{truths, selected, kept}
+use Rattle.qsql_values.specs.Frames.{Frame, AreColumns, frame_of, rows_at}
+use Rattle.qsql_values.specs.Values.{val, truths, selected, rows_where, kept}
 use Rattle.qsql_values.proofs.ByRowLemmas.{kept-append}
 use Rattle.qsql_values.proofs.FrameLemmas.{length_frame, length_rows_at}
 use Rattle.qsql_values.proofs.PlacesLemmas.{gathered-selected}
@@ -61,6 +63,40 @@ next_within n places flags within size = subst (All (λ (p : ℕ). p < n)) (sym 
 -- phrases that are applied in two steps
 pub kept-steps : (phrases : List Form) (done count : ℕ) (frame : Frame) → kept (take (done + count) phrases) frame ≡ kept (take count (drop done phrases)) (kept (take done phrases) frame)
 kept-steps phrases done count frame = ap (λ (ps : List Form). kept ps frame) (take-add done count phrases) ∙ kept-append (take done phrases) (take count (drop done phrases)) frame
+
+-- the first phrases and the phrases after them are all phrases
+pub kept-rest : (phrases : List Expr) (count : ℕ) (frame : Frame) → kept (map form (drop count phrases)) (kept (take count (map form phrases)) frame) ≡ kept (map form phrases) frame
+kept-rest phrases count frame =
+    ap (λ (fs : List Form). kept fs (kept (take count (map form phrases)) frame)) (sym (drop-map form count phrases))
+    ∙ sym (kept-append (take count (map form phrases)) (drop count (map form phrases)) frame)
+    ∙ ap (λ (fs : List Form). kept fs frame) (take-append-drop count (map form phrases))
+
+pub rest_of : {X : Type 0} (xs : List X) (n : ℕ) → take (length xs - n) (drop n xs) ≡ drop n xs
+rest_of xs n = ap (λ (m : ℕ). take m (drop n xs)) (sym (length-drop n xs)) ∙ take-length (drop n xs)
+
+-- the phrases after the first ones are applied to the rows that those keep
+pub kept_after : (phrases : List Expr) (count : ℕ) (frame : Frame) (places found : List ℕ) → rows_at places frame ≡ kept (take count (map form phrases)) frame
+    → rows_at found frame ≡ kept (map form (take (length phrases - count) (drop count phrases))) (rows_at places frame) → rows_at found frame ≡ kept (map form phrases) frame
+kept_after phrases count frame places found first rows =
+    rows
+    ∙ ap (λ (ps : List Expr). kept (map form ps) (rows_at places frame)) (rest_of phrases count)
+    ∙ ap (kept (map form (drop count phrases))) first
+    ∙ kept-rest phrases count frame
+
+-- the rows where the test of the first phrase is true are those that it keeps
+pub first_kept : (phrases : List Expr) (phrase : Expr) (test : Contents) (frame : Frame) → 0 < length phrases → phrase ≡ get_or phrases 0 phrase → vector test ≡ val frame (form phrase) → frame_where (truths (vector test)) frame ≡ kept (take 1 (map form phrases)) frame
+first_kept [] phrase test frame some is value = absurd (omega (arith, some))
+first_kept (p ∷ phrases) phrase test frame some is value = ap (λ (t : Tree). frame_where (truths t) frame) (value ∙ ap (λ (e : Expr). val frame (form e)) is)
+
+-- the rows where flags are true are those that the first two phrases keep
+pub two_kept : (phrases : List Expr) (first second : Expr) (test : Contents) (flags : List Bool) (frame : Frame) → 1 < length phrases → first ≡ get_or phrases 0 first → second ≡ get_or phrases 1 second → vector test ≡ val frame (form first)
+    → frame_where flags frame ≡ rows_where (form second) (frame_where (truths (vector test)) frame) → frame_where flags frame ≡ kept (take 2 (map form phrases)) frame
+two_kept [] first second test flags frame some p q value rows = absurd (omega (arith, some))
+two_kept (x ∷ []) first second test flags frame some p q value rows = absurd (omega (arith, some))
+two_kept (x ∷ y ∷ phrases) first second test flags frame some p q value rows =
+    rows
+    ∙ ap (λ (e : Expr). rows_where (form e) (frame_where (truths (vector test)) frame)) q
+    ∙ ap (rows_where (form y)) (first_kept (x ∷ []) first test frame (omega arith) p value)
 
 -- ---- flags of booleans
 

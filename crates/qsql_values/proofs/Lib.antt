@@ -1,4 +1,5 @@
 pub mod BesideLemmas
+pub mod BothLemmas
 pub mod ByRowLemmas
 pub mod FrameLemmas
 pub mod KeepingLemmas

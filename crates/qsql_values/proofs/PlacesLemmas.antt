@@ -1,5 +1,5 @@
 -- Rows that are kept, as gathered places and as a list.
-use Rattle.std.proofs.Common.{◌≡◌, ℕ, ◌+◌, ◌-◌, ◌<◌, ◌≤◌, Bool, true, false, List, [], ◌∷◌, ◌++◌, length, get_or, take, drop, map, replicate, refl, sym, ap, ap₂, ◌∙◌, arith, zero, suc, All, subst, add-one}
+use Rattle.std.proofs.Common.{◌≡◌, ℕ, ◌+◌, ◌<◌, ◌≤◌, Bool, true, false, List, [], ◌∷◌, ◌++◌, length, get_or, take, drop, map, replicate, refl, sym, ap, ap₂, ◌∙◌, arith, zero, suc, All, subst}
 use Rattle.std.specs.Simd.Lanes.{zip2}
 use Rattle.std.proofs.lemmas.List.{drop_more, length-map, length-replicate, get_or-replicate}
 use Rattle.std.proofs.lemmas.Simd.{length-zip2, get_or-zip2}
@@ -9,9 +9,8 @@ use Rattle.q_values.specs.Contents.{Contents}
 use Rattle.q_values.specs.Lists.{gathered}
 use Rattle.q_values.specs.Table.{rows_of}
 use Rattle.q_values.specs.declared.atom.Atom.{Atom}
-use Rattle.q_values.specs.declared.atom.Atom.TheVariants as a
 use Rattle.q_values.specs.declared.kind.Kind.{Kind}
-use Rattle.qsql_values.specs.Frames.{Frame, rows_beside, frame_of, rows_at, AreColumns}
+use Rattle.qsql_values.specs.Frames.{rows_beside, frame_of, rows_at, AreColumns}
 use Rattle.q_filter.specs.Places.{places_from, places_of, is_true}
 use Rattle.qsql_values.specs.Places.{column_at}
 use Rattle.qsql_values.specs.Values.{selected}

@@ -1,6 +1,5 @@
 -- Expressions whose item at a row comes of that row alone, so that they may be evaluated before other phrases are applied.
-use Rattle.std.specs.Prelude.{Bool, true, false, ◌&&◌, if◌then◌else◌, List, map}
-use Rattle.std.specs.List.{list_all}
+use Rattle.std.specs.Prelude.{Bool, true, false, ◌&&◌, if◌then◌else◌, List}
 use Rattle.std.specs.Simd.Lanes.{zip2}
 use Rattle.q_values.specs.Tree.{Tree, vector}
 use Rattle.q_verbs.specs.declared.verb.Verb1.{Verb1}
@@ -8,7 +7,7 @@ use Rattle.q_verbs.specs.declared.verb.Verb1.TheVariants as u
 use Rattle.qsql_request.specs.Forms.{Form, constant, column, one, two}
 use Rattle.qsql_request.specs.Shapes.{is_atom, is_test}
 use Rattle.qsql_values.specs.Frames.{Frame}
-use Rattle.qsql_values.specs.Values.{val, truths, selected}
+use Rattle.qsql_values.specs.Values.{selected}
 
 -- it names no column, so it has one value over all rows
 abbrev pub is_fixed : Form → Bool

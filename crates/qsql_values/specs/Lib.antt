@@ -1,5 +1,7 @@
 pub mod Beside
+pub mod Both
 pub mod ByRow
+pub mod Counting
 pub mod Frames
 pub mod Kinds
 pub mod Operands

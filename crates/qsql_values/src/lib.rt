@@ -2,8 +2,8 @@
 //!
 //! A [`Scope`] lends named columns of one length. [`value_of`] is the value of an expression over it: an [`Operand`], which
 //! is one atom, or a vector that is lent or made. [`kept_places`] applies phrases from left to right, each to the rows that
-//! those before it keep, and gives the indices of the rows; [`kept_rows`] gives their columns. [`kind_of_expr`] finds the
-//! kind of an expression over the columns of a table, before any rows.
+//! those before it keep, and gives the indices of the rows; [`kept_rows`] gives their columns, and [`kept_count`] their
+//! number. [`kind_of_expr`] finds the kind of an expression over the columns of a table, before any rows.
 //!
 //! ```text
 //! let scope = Scope::new(&names, &columns);
@@ -18,7 +18,9 @@
 #![tactic(auto)]
 
 mod beside;
+mod both;
 mod by_row;
+mod counting;
 mod keeping;
 mod kinds;
 mod one_side;
@@ -28,7 +30,8 @@ mod two_sides;
 mod values;
 
 pub use beside::item_beside;
-pub use keeping::{columns_at, kept_places, kept_rows};
+pub use counting::{count_atom, is_row_count};
+pub use keeping::{columns_at, kept_count, kept_places, kept_rows};
 pub use kinds::{kind_of_column, kind_of_expr};
 pub use operand::{Held, Operand, repeated};
 pub use scope::Scope;

@@ -8,6 +8,8 @@ ghost use Rattle.qsql_values.specs.Kinds.{literal_kind, kind_in};
 ghost use Rattle.qsql_values.specs.Values.{val};
 ghost use Rattle.qsql_values.specs.Operands.{operand_tree, kind_of_tree};
 
+use crate::both::{apply_both, is_in_one_loop};
+use crate::counting::{count_atom, is_row_count};
 use crate::one_side::apply_one;
 use crate::operand::{Held, Operand};
 use crate::scope::Scope;
@@ -33,7 +35,8 @@ fn value_of_literal<'a>(alloc: Global, literal: &'a Value) -> Result<Operand<'a>
     }
 }
 
-/// The value of an expression over rows. Columns and literal vectors are lent.
+/// The value of an expression over rows. Columns and literal vectors are lent, `count` of a column gathers none, and `min`
+/// and `max` of sums and differences make none.
 pub fn value_of<'a>(
     alloc: Global,
     expr: &'a Expr,
@@ -47,10 +50,18 @@ pub fn value_of<'a>(
     match expr {
         Expr::Literal(literal) => value_of_literal(alloc, literal),
         Expr::Name(name) => Ok(Operand::Column(scope.column(alloc, name.bytes())?)),
-        Expr::One(verb, side) => {
-            let side = value_of(alloc, side, scope)?;
-            apply_one(alloc, *verb, &side)
-        }
+        Expr::One(_, _) if is_row_count(expr) => Ok(Operand::Atom(count_atom(scope.len()))),
+        Expr::One(verb, side) => match &**side {
+            Expr::Two(inner, left, right) if is_in_one_loop(*verb, *inner) => {
+                let first = value_of(alloc, left, scope)?;
+                let second = value_of(alloc, right, scope)?;
+                apply_both(alloc, *verb, *inner, &first, &second)
+            }
+            _ => {
+                let side = value_of(alloc, side, scope)?;
+                apply_one(alloc, *verb, &side)
+            }
+        },
         Expr::Two(verb, left, right) => {
             let first = value_of(alloc, left, scope)?;
             let second = value_of(alloc, right, scope)?;

@@ -1,4 +1,4 @@
 use Rattle.plant_edge.proofs.outside.StandardOutsideOutside.folder.Goals as goal
 
-pub returns : goal.returns
-returns g c = c.disk_of.ensures c.args.path.now
+pub returns-clause-opens : goal.returns-clause-opens
+returns-clause-opens g c = c.disk_of.ensures.opens c.args.path.now

@@ -1,15 +1,14 @@
-use Rattle.std.proofs.Common.{◌≡◌, ◌<◌, ◌≤◌, ◌-◌, length, map, take}
+use Rattle.std.proofs.Common.{◌≡◌, ◌≤◌, ◌-◌, length, map, take}
 use Rattle.qsql_request.specs.Views.{form}
 use Rattle.qsql_values.specs.ByRow.{frame_where}
 use Rattle.qsql_values.specs.Values.{kept}
-use Rattle.qsql_values.proofs.keeping.joined_flags.Given as goal
+use Rattle.qsql_values.proofs.keeping.join_while_by_row.Given as goal
 
 abbrev pub invariant-loop-count : goal.invariant-loop-count
 invariant-loop-count l = record {
-  some : 0 < l.count;
   within : l.count ≤ length l.phrases;
   size : length l.flags.items ≡ length l.scope.rows;
-  rows : frame_where l.flags.items l.scope ≡ kept (take l.count (map form l.phrases)) l.scope;
+  rows : frame_where l.flags.items l.scope ≡ kept (take l.count (map form l.phrases)) (frame_where l.initial.flags.items l.scope);
 }
 
 abbrev pub decreases-loop-count : goal.decreases-loop-count
