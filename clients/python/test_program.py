@@ -39,7 +39,16 @@ DEEP_TEXTS = (
     (f"exec size from trade where {'not ' * 1014}size in size", [1, 2, 4]),
     (f"exec max {'neg ' * 1016}size by sym from trade", {"KX": 4}),
     (f"exec max price by {'100 xbar ' * 508}size from trade", {0: 10050}),
+    # `neg size-x` is `x-size`, so of n of them, the last over `size`, each size comes 1-n times.
+    (f"exec {'neg size-' * 340}size from trade", [-339, -678, -1356]),
+    (f"exec size from trade where -600>neg neg {'neg size-' * 338}size", [2, 4]),
+    (f"exec size from trade where size>1,1000>neg {'neg size-' * 337}size", [2]),
+    (f"exec max {'neg size-' * 339}size by sym from trade", {"KX": -338}),
+    (f"exec max price by {'neg size-' * 339}size from trade", dict.fromkeys((-1352, -676, -338), 10050)),
 )
+
+# An as-of join whose left side has a column that deep.
+DEEP_JOIN = f"aj[`sym`time;select sym,time,size:{'neg size-' * 335}size from trade;quote]"
 
 
 def log_of(date):
@@ -300,10 +309,18 @@ class Folders(unittest.TestCase):
         for text, answer in DEEP_TEXTS:
             with self.subTest(text=text[:40]):
                 with Client.run(words) as plant:
-                    for size in (1, 2, 4):
-                        plant.update("trade", HALF_PAST_NINE, "KX", 10050, size)
+                    self.push_three_trades(plant)
                     self.assertEqual(plant.query(text), answer)
                 self.assertEqual(plant.status, 0)
+        with Client.run(words) as plant:
+            self.push_three_trades(plant)
+            self.assertEqual(plant.query(DEEP_JOIN)["size"], [-334, -668, -1336])
+        self.assertEqual(plant.status, 0)
+
+    def push_three_trades(self, plant):
+        """Three rows of the sizes 1, 2 and 4."""
+        for size in (1, 2, 4):
+            plant.update("trade", HALF_PAST_NINE, "KX", 10050, size)
 
 
 if __name__ == "__main__":

@@ -1,4 +1,5 @@
 pub mod DivisorLemmas
+pub mod IntMultipleLemmas
 pub mod ChoiceLemmas
 pub mod KindLemmas
 pub mod LawLemmas

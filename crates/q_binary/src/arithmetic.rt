@@ -7,8 +7,11 @@ ghost use Rattle.q_verbs.specs.Kinds.{is_computed};
 ghost use Rattle.q_lanes.specs.Lanes.{lane_items};
 ghost use Rattle.q_verbs.specs.Places.{operation, computes, multiple_of};
 ghost use Rattle.q_binary.specs.Computed.{computed, given_items, computed_sides};
+ghost use Rattle.q_verbs.specs.Numbers.{number_in, reduced};
 ghost use Rattle.q_verbs.specs.Sides.{side_kind, spread};
+ghost use Rattle.std.specs.Int.{w32};
 
+use crate::int_multiples::multiples_of_ints;
 use crate::multiples::multiples_of;
 use crate::operation::{
     Computed, DaysAndSpan, Difference, Greater, Lesser, Multiple, Operation, Product, Quotient,
@@ -158,6 +161,39 @@ impl<T: Number> Task<'_, T> {
     }
 }
 
+impl Task<'_, i32> {
+    // Where one width above 0 stands beside ints, `xbar` runs in 32 bits.
+    fn int_values(&self, alloc: Global) -> Result<Vec<i32>, AllocError>
+        requires verb { IsTrue (computes self.now.verb) }
+        requires left { length (lane_items self.now.count self.now.left) ≡ self.now.count }
+        requires right { length (lane_items self.now.count self.now.right) ≡ self.now.count }
+        ensures { IfOk result (λ v. v.items ≡ zip2
+            (λ x y. reduced w32 (computed (operation self.now.verb self.now.left_kind self.now.right_kind)
+            (number_in w32 x) (number_in w32 y)))
+            (lane_items self.now.count self.now.left) (lane_items self.now.count self.now.right)) }
+    {
+        match (self.verb, &self.left, &self.right) {
+            (Verb::Xbar, Lane::Every(width), Lane::Each(items)) if *width > 0 => {
+                multiples_of_ints(alloc, *width, items)
+            }
+            _ => self.values(alloc),
+        }
+    }
+
+    fn ints(&self, alloc: Global, kind: IntegerKind) -> Result<Column, NoMemory>
+        requires verb { IsTrue (computes self.now.verb) }
+        requires left { length (lane_items self.now.count self.now.left) ≡ self.now.count }
+        requires right { length (lane_items self.now.count self.now.right) ≡ self.now.count }
+        ensures { IfOk result (λ c. contents c ≡ record {
+          kind = integer_kind kind;
+          atoms = given_items (integer_kind kind) (operation self.now.verb self.now.left_kind self.now.right_kind) (number_in w32)
+              (lane_items self.now.count self.now.left) (lane_items self.now.count self.now.right);
+        }) }
+    {
+        Ok(Column::Integers(kind, self.int_values(alloc)?))
+    }
+}
+
 // The verb's results for two sides, in this kind, computed in 64 bits.
 fn arithmetic_in_64(
     alloc: Global,
@@ -226,7 +262,7 @@ pub(crate) fn arithmetic(
                 left: some,
                 right: others,
             };
-            let column = task.integers(alloc, own)?;
+            let column = task.ints(alloc, own)?;
             Ok(column)
         }
         _ => arithmetic_in_64(alloc, verb, kind, count, left, right),

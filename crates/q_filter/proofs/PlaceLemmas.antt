@@ -2,13 +2,12 @@
 use Rattle.std.proofs.Common.{◌≡◌, ℕ, zero, suc, ◌+◌, ◌≤◌, ◌<◌, Bool, true, false, if◌then◌else◌, List, [], ◌∷◌, ◌++◌, length, get_or, take, drop, map, All, set, refl, sym, ap, ◌∙◌, arith, rules}
 use Rattle.std.proofs.lemmas.List.{take_more, take_more_set, take-set, append_assoc, length-append, length-take-le}
 use Rattle.std.proofs.lemmas.List.Elements.{All-cons}
-use Rattle.std.proofs.Math.Seq.{drop-append_seam}
+use Rattle.std.proofs.Math.Seq.{drop-append_seam, take-add}
 use Rattle.q_values.specs.Lists.{gathered}
-use Rattle.q_values.specs.declared.atom.Atom.{Atom}
 use Rattle.q_values.specs.declared.atom.Atom.TheVariants as a
 use Rattle.q_filter.specs.Places.{count_of, places_from, kept_in, is_true}
 
-count-append : (xs ys : List Bool) → count_of (xs ++ ys) ≡ count_of xs + count_of ys
+pub count-append : (xs ys : List Bool) → count_of (xs ++ ys) ≡ count_of xs + count_of ys
 count-append [] ys = omega arith
 count-append (true ∷ xs) ys = let e = count-append xs ys in omega arith
 count-append (false ∷ xs) ys = count-append xs ys
@@ -92,3 +91,7 @@ gathers_after zs (x ∷ xs) (false ∷ bits) e = moved zs x xs bits ∙ gathers_
 
 pub gathers : {X : Type 0} (xs : List X) (bits : List Bool) → length xs ≡ length bits → gathered xs (places_from 0 bits) ≡ kept_in bits xs
 gathers xs bits e = gathers_after [] xs bits e
+
+-- how many hold of a list, by a part at a time
+pub count_parts : (bits : List Bool) (m n : ℕ) → count_of (take (m + n) bits) ≡ count_of (take m bits) + count_of (take n (drop m bits))
+count_parts bits m n = ap count_of (take-add m n bits) ∙ count-append (take m bits) (take n (drop m bits))

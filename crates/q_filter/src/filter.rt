@@ -1,5 +1,5 @@
 //! The places at which booleans hold, and how many they are.
-ghost use Rattle.std.specs.Prelude.{◌≡◌, ◌<◌, List, if◌then◌else◌, length, All, IfOk};
+ghost use Rattle.std.specs.Prelude.{◌≡◌, ◌<◌, ◌≤◌, List, if◌then◌else◌, length, All, IfOk};
 ghost use Rattle.q_values.specs.Lists.{gathered};
 ghost use Rattle.q_values.specs.declared.atom.Atom.{Atom};
 ghost use Rattle.q_values.specs.declared.kind.Kind.TheVariants as k;
@@ -15,15 +15,39 @@ fn one_if(bit: bool) -> usize
     usize::from(bit)
 }
 
+/// The number of booleans of which 16 bits count those that hold.
+const PART: usize = 32_768;
+
+// The same in 16 bits.
+fn one_in_16(bit: bool) -> u16
+    ensures { result ≡ (if bit then 1 else 0) }
+{
+    u16::from(bit)
+}
+
+// How many of a part hold. The sum has 16 bits, so the compiler adds eight at a time.
+fn count_in_part(bits: &[bool]) -> u16
+    requires { length bits.now ≤ 32768 }
+    ensures { result ≡ count_of bits.now }
+{
+    let mut count = 0u16;
+    for bit in bits {
+        count += one_in_16(*bit);
+    }
+    count
+}
+
 // How many of them hold.
 fn count_in(bits: &[bool]) -> usize
     ensures { result ≡ count_of bits.now }
 {
     let mut count = 0usize;
-    for bit in bits {
-        count += one_if(*bit);
+    let mut done = 0;
+    while done + PART <= bits.len() {
+        count += usize::from(count_in_part(&bits[done..done + PART]));
+        done += PART;
     }
-    count
+    count + usize::from(count_in_part(&bits[done..]))
 }
 
 // The index of each that holds. Each index is written, and stays where the boolean holds.

@@ -114,11 +114,12 @@ impl Extremal for u8 {
     }
 }
 
-// The number, or the greatest one for the null.
+// The number, or the greatest one for the null, which is the one below the null. With a branch in its place the compiler
+// compares item by item.
 fn number_or_top_16(x: i16) -> i16
     ensures { result ≡ unwrap_or (number_in w16 x) (pos 32767) }
 {
-    if x > i16::MIN { x } else { i16::MAX }
+    x.wrapping_sub(i16::from(x == i16::MIN))
 }
 
 fn lesser_16(best: i16, x: &i16) -> i16
@@ -163,7 +164,7 @@ impl Extremal for i16 {
 fn number_or_top_32(x: i32) -> i32
     ensures { result ≡ unwrap_or (number_in w32 x) (pos 2147483647) }
 {
-    if x > i32::MIN { x } else { i32::MAX }
+    x.wrapping_sub(i32::from(x == i32::MIN))
 }
 
 fn lesser_32(best: i32, x: &i32) -> i32
@@ -208,7 +209,7 @@ impl Extremal for i32 {
 fn number_or_top_64(x: i64) -> i64
     ensures { result ≡ unwrap_or (number_in w64 x) (pos 9223372036854775807) }
 {
-    if x > i64::MIN { x } else { i64::MAX }
+    x.wrapping_sub(i64::from(x == i64::MIN))
 }
 
 fn lesser_64(best: i64, x: &i64) -> i64

@@ -155,7 +155,7 @@ fn others(rt: HostRuntime) {
         &left,
         &Side::Column(&rows),
     );
-    // 100 minus the least number: the row 1 has 1 more than the least of 64 bits, and the difference wraps.
+    // The greatest of 100 minus each number, wrapped to 64 bits.
     let mut greatest = -i64::MAX;
     for row in 0..1_000 {
         if number_at(row) != i64::MIN {

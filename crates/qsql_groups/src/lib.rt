@@ -22,7 +22,6 @@
 
 mod by_group;
 mod grouping;
-mod items;
 mod one_pass;
 mod values;
 

@@ -3,54 +3,17 @@ ghost use Rattle.std.specs.Prelude.{◌≡◌};
 ghost use Rattle.q_values.specs.Tree.{tree};
 ghost use Rattle.qsql_request.specs.Shapes;
 ghost use Rattle.qsql_request.specs.Views.{form};
-ghost use Rattle.qsql_values.specs.ByRow;
 ghost use Rattle.qsql_groups.specs.OnePass;
 
 use q_values::Value;
 use q_verbs::Verb1;
 use qsql_request::{Expr, Shape, is_test, shape_of_expr};
-
-// Whether it names no column.
-fn is_fixed(expr: &Expr) -> bool
-    ensures { result ≡ ByRow.is_fixed (form expr.now) }
-{
-    match expr {
-        Expr::Literal(_) => true,
-        Expr::Name(_) => false,
-        Expr::One(_, side) => is_fixed(side),
-        Expr::Two(_, left, right) => is_fixed(left) && is_fixed(right),
-    }
-}
-
-fn is_by_item(verb: Verb1) -> bool
-    ensures { result ≡ ByRow.is_by_item verb }
-{
-    matches!(verb, Verb1::Not | Verb1::Neg)
-}
+use qsql_values::{is_by_row, is_fixed};
 
 fn is_atom(value: &Value) -> bool
     ensures { result ≡ Shapes.is_atom (tree value.now) }
 {
     matches!(value, Value::Atom(_))
-}
-
-// Whether its item at a row comes of that row alone.
-fn is_by_row(expr: &Expr) -> bool
-    ensures { result ≡ ByRow.is_by_row (form expr.now) }
-{
-    match expr {
-        Expr::Literal(value) => is_atom(value),
-        Expr::Name(_) => true,
-        Expr::One(verb, side) => is_by_item(*verb) && is_by_row(side),
-        Expr::Two(verb, left, right) => {
-            is_by_row(left)
-                && if is_test(*verb) {
-                    is_fixed(right)
-                } else {
-                    is_by_row(right)
-                }
-        }
-    }
 }
 
 // Whether the verb is evaluated at once over a side that is, which may have a value for each row.

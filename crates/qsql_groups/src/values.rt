@@ -3,26 +3,23 @@ ghost use Rattle.std.specs.Prelude.{◌≡◌, ◌||◌, true, false, not, IsSom
 ghost use Rattle.q_values.specs.Tree.{vector};
 ghost use Rattle.q_verbs.specs.Aggregates.{is_aggregate};
 ghost use Rattle.q_verbs.specs.Kinds.{result_kind_of, result_kind1_of};
-ghost use Rattle.q_verbs.specs.Lists.{is_unary};
 ghost use Rattle.q_verbs.specs.Places.{is_by_place};
 ghost use Rattle.qsql_request.specs.Shapes.{is_atom, shape_of_one, shape_of_two};
 ghost use Rattle.qsql_request.specs.Views.{form};
 ghost use Rattle.qsql_values.specs.ByRow.{is_by_row};
-ghost use Rattle.qsql_values.specs.Operands.{operand_tree, kind_of_tree, is_by_item, AreEven};
+ghost use Rattle.qsql_values.specs.Operands.{operand_tree, kind_of_tree, is_by_item};
 ghost use Rattle.qsql_values.specs.Ready.{IsReady};
-ghost use Rattle.qsql_values.specs.Values.{items_in, listed_of, value_of_one, value_of_two};
+ghost use Rattle.qsql_values.specs.Values.{value_of_one, value_of_two};
 ghost use Rattle.qsql_groups.specs.OnePass.{is_one_pass, is_one_pass_verb, of_group, HasItems, IsOfOneKind, IsForGroups, IsByGroup};
 ghost use Rattle.qsql_groups.specs.OnePass.{shape_by, lent_to, per_group};
 
 use crate::grouping::indices;
-use crate::items::by_item;
 use q_grouped::aggregate_by;
 use q_keys::KeyGroups;
-use q_unary::unary;
 use q_values::{Kind, NoMemory, Vector};
 use q_verbs::{Verb, Verb1};
 use qsql_request::{Expr, is_test};
-use qsql_values::{Held, Operand, Scope, repeated, value_of};
+use qsql_values::{Held, Operand, Scope, apply_one, by_item, repeated, value_of};
 use std::alloc::Global;
 
 /// The value of an expression for all groups: an atom for each of them, or a column.
@@ -49,29 +46,6 @@ fn is_column(value: &Operand) -> bool
     ensures { result ≡ not (is_atom (operand_tree value.now)) }
 {
     matches!(value, Operand::Column(_))
-}
-
-// `not` or `neg` of the items.
-fn list_of(alloc: Global, verb: Verb1, side: &Operand) -> Result<Vector, NoMemory>
-    requires verb { IsTrue (is_by_item verb) }
-    requires row { IsSome (result_kind1_of verb (kind_of_tree (operand_tree side.now))) }
-    ensures value { IfOk result (λ v. v ≡ listed_of verb (items_in (operand_tree side.now))) }
-    ensures kind { IfOk result (λ v. result_kind1_of verb (kind_of_tree (operand_tree side.now)) ≡ Some v.kind) }
-{
-    let items = side.items(alloc)?;
-    let made = unary(alloc, verb, items.vector())?;
-    Ok(made)
-}
-
-// `not` or `neg`, item by item.
-fn of_items<'b>(alloc: Global, verb: Verb1, side: &Operand) -> Result<Operand<'b>, NoMemory>
-    requires verb { IsTrue (is_by_item verb) }
-    requires row { IsSome (result_kind1_of verb (kind_of_tree (operand_tree side.now))) }
-    ensures value { IfOk result (λ v. operand_tree v ≡ value_of_one verb (operand_tree side.now)) }
-    ensures kind { IfOk result (λ v. result_kind1_of verb (kind_of_tree (operand_tree side.now)) ≡ Some (kind_of_tree (operand_tree v))) }
-{
-    let made = list_of(alloc, verb, side)?;
-    side.formed(alloc, made)
 }
 
 // The aggregate of the rows of each group, in one pass over all rows.
@@ -140,7 +114,7 @@ fn each_item<'b>(
 {
     let _kind = kind_of(&side.value);
     let _count = groups.len();
-    let value = of_items(alloc, verb, &side.value)?;
+    let value = apply_one(alloc, verb, &side.value)?;
     Ok(ByGroup {
         by_row: side.by_row,
         value,

@@ -1,5 +1,5 @@
 //! The columns that a query needs.
-ghost use Rattle.std.specs.Prelude.{◌≡◌, ◌==◌, ◌++◌, length, map, OnOk, IfOk};
+ghost use Rattle.std.specs.Prelude.{◌≡◌, ◌==◌, length, map, IfOk};
 ghost use Rattle.std.specs.List.{list_any};
 ghost use Rattle.std.specs.Str.{bytes_eq};
 ghost use Rattle.qsql_request.specs.Names.{names_in};
@@ -10,7 +10,7 @@ ghost use Rattle.qsql_eval.specs.Views.{needed};
 use day_rows::Shape;
 use q_values::{NoMemory, Sym};
 use qsql_eval::Typed;
-use qsql_request::{Expr, names_of_query};
+use qsql_request::{Expr, names_of_query, push_names};
 use std::alloc::Global;
 use std::marker::Model;
 
@@ -64,22 +64,6 @@ fn is_shown(table: &Shape, name: &[u8]) -> bool
     ensures { result ≡ list_any (bytes_eq name.now) (all_columns table.now) }
 {
     name == b"date".as_slice() || is_among(table.names.as_slice(), name)
-}
-
-// Puts the columns that the expression names at the end.
-fn push_names<'a>(names: &mut Vec<&'a Sym>, expr: &'a Expr) -> Result<(), NoMemory>
-    ensures { OnOk result (map (λ n. n.now) names.new.items
-        ≡ map (λ n. n.now) names.old.items ++ names_in (form expr.now)) }
-{
-    match expr {
-        Expr::Literal(_) => Ok(()),
-        Expr::Name(name) => Ok(names.push(name)?),
-        Expr::One(_, side) => push_names(names, side),
-        Expr::Two(_, left, right) => {
-            push_names(names, left)?;
-            push_names(names, right)
-        }
-    }
 }
 
 impl<'a> Needed<'a> {

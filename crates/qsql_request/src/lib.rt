@@ -34,7 +34,7 @@ mod unbuilt;
 
 pub use judging::shape_of_expr;
 pub use mentions::name_of_column;
-pub use names::names_of_query;
+pub use names::{names_of_query, push_names};
 pub use request::{AjQuery, Col, Cols, Expr, Exprs, Query, Request, Source, SubRequest};
 pub use shapes::{Shape, is_test};
 pub use unbuilt::{is_query_unbuilt, is_request_unbuilt};

@@ -7,8 +7,8 @@ use crate::request::{Col, Expr, Query};
 use q_values::{NoMemory, Sym};
 use std::alloc::Global;
 
-// Puts the columns that the expression names at the end.
-fn push_names<'a>(names: &mut Vec<&'a Sym>, expr: &'a Expr) -> Result<(), NoMemory>
+/// Appends the columns that the expression names, each as often as it does, in the order of the text.
+pub fn push_names<'a>(names: &mut Vec<&'a Sym>, expr: &'a Expr) -> Result<(), NoMemory>
     ensures { OnOk result (map (λ n. n.now) names.new.items
         ≡ map (λ n. n.now) names.old.items ++ names_in (form expr.now)) }
 {

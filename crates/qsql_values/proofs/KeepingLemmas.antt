@@ -1,13 +1,12 @@
 -- Rows that phrases keep, as indices.
-use Rattle.std.proofs.Common.{◌≡◌, ℕ, ◌+◌, ◌-◌, ◌<◌, Bool, true, false, List, [], ◌∷◌, ◌++◌, length, map, take, drop, get_or, refl, sym, ap, ap₂, ◌∙◌, arith, All, subst, zero, suc, add-one}
-use Rattle.std.specs.Simd.Lanes.{zip2}
+use Rattle.std.proofs.Common.{◌≡◌, ℕ, ◌+◌, ◌-◌, ◌<◌, Bool, true, false, List, [], ◌∷◌, length, map, take, drop, get_or, refl, sym, ap, ◌∙◌, arith, All, subst}
 use Rattle.std.proofs.Math.Seq.{take-add, take-length}
 use Rattle.std.proofs.lemmas.List.{drop_more, length-drop, drop-map, take-append-drop}
 use Rattle.std.proofs.lemmas.List.Elements.{All-nil, All-cons, All-head, All-tail}
 use Rattle.q_values.specs.Contents.{Contents}
 use Rattle.q_values.specs.Lists.{gathered}
 use Rattle.q_values.specs.Table.{rows_of}
-use Rattle.q_values.specs.Tree.{Tree, vector}
+use Rattle.q_values.specs.Tree.{vector}
 use Rattle.q_values.specs.declared.atom.Atom.{Atom}
 use Rattle.q_values.specs.declared.atom.Atom.TheVariants as a
 use Rattle.q_values.specs.declared.kind.Kind.TheVariants as k
@@ -17,7 +16,7 @@ use Rattle.qsql_request.specs.Views.{form}
 use Rattle.qsql_request.specs.declared.request.Expr.{Expr}
 use Rattle.qsql_values.specs.ByRow.{frame_where}
 use Rattle.qsql_values.specs.Frames.{Frame, AreColumns, frame_of, rows_at}
-use Rattle.qsql_values.specs.Values.{val, truths, selected, rows_where, kept}
+use Rattle.qsql_values.specs.Values.{truths, selected, rows_where, kept}
 use Rattle.qsql_values.proofs.ByRowLemmas.{kept-append}
 use Rattle.qsql_values.proofs.FrameLemmas.{length_frame, length_rows_at}
 use Rattle.qsql_values.proofs.PlacesLemmas.{gathered-selected}
@@ -83,20 +82,10 @@ kept_after phrases count frame places found first rows =
     ∙ ap (kept (map form (drop count phrases))) first
     ∙ kept-rest phrases count frame
 
--- the rows where the test of the first phrase is true are those that it keeps
-pub first_kept : (phrases : List Expr) (phrase : Expr) (test : Contents) (frame : Frame) → 0 < length phrases → phrase ≡ get_or phrases 0 phrase → vector test ≡ val frame (form phrase) → frame_where (truths (vector test)) frame ≡ kept (take 1 (map form phrases)) frame
-first_kept [] phrase test frame some is value = absurd (omega (arith, some))
-first_kept (p ∷ phrases) phrase test frame some is value = ap (λ (t : Tree). frame_where (truths t) frame) (value ∙ ap (λ (e : Expr). val frame (form e)) is)
-
--- the rows where flags are true are those that the first two phrases keep
-pub two_kept : (phrases : List Expr) (first second : Expr) (test : Contents) (flags : List Bool) (frame : Frame) → 1 < length phrases → first ≡ get_or phrases 0 first → second ≡ get_or phrases 1 second → vector test ≡ val frame (form first)
-    → frame_where flags frame ≡ rows_where (form second) (frame_where (truths (vector test)) frame) → frame_where flags frame ≡ kept (take 2 (map form phrases)) frame
-two_kept [] first second test flags frame some p q value rows = absurd (omega (arith, some))
-two_kept (x ∷ []) first second test flags frame some p q value rows = absurd (omega (arith, some))
-two_kept (x ∷ y ∷ phrases) first second test flags frame some p q value rows =
-    rows
-    ∙ ap (λ (e : Expr). rows_where (form e) (frame_where (truths (vector test)) frame)) q
-    ∙ ap (rows_where (form y)) (first_kept (x ∷ []) first test frame (omega arith) p value)
+-- the rows where flags are true are those that the first phrase keeps
+pub one_kept : (phrases : List Expr) (phrase : Expr) (flags : List Bool) (frame : Frame) → 0 < length phrases → phrase ≡ get_or phrases 0 phrase → frame_where flags frame ≡ rows_where (form phrase) frame → frame_where flags frame ≡ kept (take 1 (map form phrases)) frame
+one_kept [] phrase flags frame some is rows = absurd (omega (arith, some))
+one_kept (p ∷ phrases) phrase flags frame some is rows = rows ∙ ap (λ (e : Expr). rows_where (form e) frame) is
 
 -- ---- flags of booleans
 
@@ -106,13 +95,3 @@ truths_of_booleans (b ∷ flags) = ap (λ (fs : List Bool). b ∷ fs) (truths_of
 
 pub places_of_flags : (flags : List Bool) → places_of (map (λ (b : Bool). a.Boolean b) flags) ≡ places_from 0 flags
 places_of_flags flags = ap (places_from 0) (truths_of_booleans flags)
-
--- one more index of two lists together
-pub zip-more : {X Y Z : Type 0} (f : X → Y → Z) (xs : List X) (ys : List Y) (i : ℕ) (x : X) (y : Y) → i < length xs → i < length ys → zip2 f (take (i + 1) xs) (take (i + 1) ys) ≡ zip2 f (take i xs) (take i ys) ++ f (get_or xs i x) (get_or ys i y) ∷ []
-zip-more f [] ys i x y p q = absurd (omega (arith, p))
-zip-more f (u ∷ us) [] i x y p q = absurd (omega (arith, q))
-zip-more f (u ∷ us) (w ∷ ws) zero x y p q = refl
-zip-more f (u ∷ us) (w ∷ ws) (suc i) x y p q =
-    ap₂ (λ (n m : ℕ). zip2 f (take n (u ∷ us)) (take m (w ∷ ws))) (add-one (suc i)) (add-one (suc i))
-    ∙ ap (λ (n : ℕ). f u w ∷ zip2 f (take n us) (take n ws)) (sym (add-one i))
-    ∙ ap (λ l. f u w ∷ l) (zip-more f us ws i x y (omega (arith, p)) (omega (arith, q)))

@@ -1,6 +1,7 @@
 pub mod BesideLemmas
 pub mod BothLemmas
 pub mod ByRowLemmas
+pub mod ComparedLemmas
 pub mod FrameLemmas
 pub mod KeepingLemmas
 pub mod OperandLemmas

@@ -84,22 +84,12 @@ pub fn apply_both<'b>(
     match (left, right) {
         (Operand::Atom(_), Operand::Atom(_)) => of_made(alloc, outer, inner, left, right),
         (Operand::Atom(x), Operand::Column(items)) => {
-            of_sides(
-                alloc,
-                outer,
-                inner,
-                &Side::Atom(x),
-                &Side::Column(items.vector()),
-            )
+            let column = Side::Column(items.vector());
+            of_sides(alloc, outer, inner, &Side::Atom(x), &column)
         }
         (Operand::Column(items), Operand::Atom(y)) => {
-            of_sides(
-                alloc,
-                outer,
-                inner,
-                &Side::Column(items.vector()),
-                &Side::Atom(y),
-            )
+            let column = Side::Column(items.vector());
+            of_sides(alloc, outer, inner, &column, &Side::Atom(y))
         }
         (Operand::Column(items), Operand::Column(others)) => {
             let left = Side::Column(items.vector());

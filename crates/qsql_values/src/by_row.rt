@@ -9,8 +9,8 @@ use q_values::Value;
 use q_verbs::Verb1;
 use qsql_request::{Expr, is_test};
 
-// Whether it names no column.
-fn is_fixed(expr: &Expr) -> bool
+/// Whether it names no column.
+pub fn is_fixed(expr: &Expr) -> bool
     ensures { result ≡ ByRow.is_fixed (form expr.now) }
 {
     match expr {

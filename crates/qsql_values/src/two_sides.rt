@@ -110,8 +110,8 @@ fn of_items<'b>(
     Ok(Operand::Column(Held::Made(made)))
 }
 
-// A verb by item, where an atom goes with each item of the other side.
-fn by_item<'b>(
+/// What a verb that works index by index gives of two values, where an atom goes with each item of the other side.
+pub fn by_item<'b>(
     alloc: Global,
     verb: Verb,
     left: &Operand,

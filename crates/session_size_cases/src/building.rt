@@ -132,12 +132,36 @@ fn put_dates(rt: &impl Abort, out: &mut Vec<u8>, date: i32, count: u32) {
     }
 }
 
-/// The handshake, an update a number of times, and the text `select from trade`.
-pub fn input_of(rt: &impl Abort, alloc: Global, update: &[u8], times: u32) -> Vec<u8> {
+/// The handshake, and an update a number of times.
+pub fn input_before(rt: &impl Abort, alloc: Global, update: &[u8], times: u32) -> Vec<u8> {
     let mut input = Vec::from_slice(alloc, GREETING).expect(rt, "memory");
     for _ in 0..times {
         input.extend_from_slice(update).expect(rt, "memory");
     }
+    input
+}
+
+/// The handshake, an update a number of times, and the text `select from trade`.
+pub fn input_of(rt: &impl Abort, alloc: Global, update: &[u8], times: u32) -> Vec<u8> {
+    let mut input = input_before(rt, alloc, update, times);
     input.extend_from_slice(QUERY).expect(rt, "memory");
     input
+}
+
+/// A sync query of a text.
+pub fn query_of(rt: &impl Abort, alloc: Global, text: &[u8]) -> Vec<u8> {
+    let mut body = Vec::from_slice(alloc, &[10, 0]).expect(rt, "memory");
+    let length = u32::try_from(text.len()).unwrap_or(u32::MAX);
+    body.extend_from_slice(&length.to_le_bytes())
+        .expect(rt, "memory");
+    body.extend_from_slice(text).expect(rt, "memory");
+    message_of(rt, alloc, 1, body.as_slice())
+}
+
+/// The answer that is one long: its type byte -7 and its bytes.
+pub fn answer_of_long(rt: &impl Abort, alloc: Global, number: i64) -> Vec<u8> {
+    let mut body = Vec::from_slice(alloc, &[0xf9]).expect(rt, "memory");
+    body.extend_from_slice(&number.to_le_bytes())
+        .expect(rt, "memory");
+    message_of(rt, alloc, 2, body.as_slice())
 }

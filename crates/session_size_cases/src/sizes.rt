@@ -8,8 +8,8 @@ use std::sync::Wait;
 use test_sessions::bytes::{DONE, GREETED, LENGTH, NO_ROW, QUERY, TYPE};
 use test_sessions::{NOW, Outcome, greeted, sat};
 
-// Whether a session sends the handshake's answer, this many times `(::)`, and then this answer.
-fn sends(taken: &[u8], done: u32, answer: &[u8]) -> bool {
+/// Whether a session sends the handshake's answer, this many times `(::)`, and then this answer.
+pub fn sends(taken: &[u8], done: u32, answer: &[u8]) -> bool {
     let Some(mut rest) = taken.strip_prefix(GREETED) else {
         return false;
     };

@@ -1,6 +1,6 @@
-use Rattle.std.proofs.Common.{◌≡◌, ◌<◌, ◌+◌, length, take, Bool, false, if◌then◌else◌, get_or, arith, rules, ap, sym, ◌∙◌}
+use Rattle.std.proofs.Common.{◌≡◌, ◌<◌, ◌+◌, length, take, arith, rules, ap, sym, ◌∙◌}
 use Rattle.std.proofs.lemmas.List.{length-set}
-use Rattle.q_filter.specs.Places.{count_of, places_from}
+use Rattle.q_filter.specs.Places.{count_of}
 use Rattle.q_filter.proofs.PlaceLemmas.{count_more, count-le, count_of_take-le, places_step}
 use Rattle.q_filter.proofs.filter.places_in.Goals as goal
 

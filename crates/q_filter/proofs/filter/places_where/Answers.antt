@@ -4,7 +4,7 @@ use Rattle.q_values.specs.Contents.{Contents}
 use Rattle.q_values.specs.Lists.{gathered}
 use Rattle.q_values.specs.declared.atom.Atom.{Atom}
 use Rattle.q_values.specs.declared.atom.Atom.TheVariants as a
-use Rattle.q_filter.specs.Places.{places_from, places_of, is_true, kept_in}
+use Rattle.q_filter.specs.Places.{places_from, is_true}
 use Rattle.q_filter.proofs.PlaceLemmas.{bits_of, places_within, gathers}
 use Rattle.q_filter.proofs.filter.places_where.Goals as goal
 
