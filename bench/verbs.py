@@ -33,12 +33,14 @@ CALLS = (
     ("dates", "above", "date>date"),
     ("longs", "filter", "x where a tenth"),
     ("longs", "in", "x in five"),
+    ("longs", "within", "x within 3 10"),
     ("symbols", "equal", "s=t"),
     ("symbols", "equal_one", "s=`S042"),
     ("symbols", "in", "s in five"),
     ("symbols", "in_50", "s in fifty"),
     ("symbols", "like", 's like "S4*"'),
     ("symbols", "order", "iasc s"),
+    ("symbols", "filter", "s where a tenth"),
     ("long_symbols", "equal", "l=m"),
     ("long_symbols", "below", "l<m"),
     ("long_symbols", "in_50", "l in fifty"),
@@ -75,7 +77,7 @@ def main():
         sys.exit("verbs.py: needs numpy, which is Debian's python3-numpy; --python names a Python that has it")
     arguments = [str(options.longs), str(options.symbols), str(options.rows)]
     program = options.program or programs.proved("verbs_bench")
-    beside = [options.python, os.path.join(programs.HERE, "verbs_numpy.py"), arguments[0], arguments[2]]
+    beside = [options.python, os.path.join(programs.HERE, "verbs_numpy.py"), *arguments]
     own, loops, arrays = {}, {}, {}
     with tempfile.TemporaryDirectory() as folder:
         loop = programs.compiled(folder, "verbs", "-C", "target-cpu=x86-64-v2")

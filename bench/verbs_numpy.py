@@ -60,6 +60,19 @@ def report(count):
     for _ in range(ROUNDS):
         timed("longs", "filter", lambda: x[numpy.flatnonzero(kept)])
         timed("longs", "in", lambda: numpy.isin(few, five))
+        timed("longs", "within", lambda: (few >= 3) & (few <= 10))
+
+
+def report_symbols(count):
+    """The filter of a column of symbols of four bytes, a thousand names, of which a tenth is kept."""
+    numbers = (longs(count, STEP).view(numpy.uint64) >> numpy.uint64(32)) % numpy.uint64(1000)
+    s = numpy.char.add(b"S", numpy.char.zfill(numpy.arange(1000).astype("S3"), 3)).astype("S4")[numbers]
+    kept = integers(count, STEP) < 1_677_722
+    for _ in range(ROUNDS):
+        start = time.perf_counter_ns()
+        found = s[numpy.flatnonzero(kept)]
+        took = time.perf_counter_ns() - start
+        print("symbols filter", took, len(found))
 
 
 def by_group(name, keys, items):
@@ -103,4 +116,5 @@ def names(numbers):
 
 
 report(int(sys.argv[1]))
-report_groups(int(sys.argv[2]))
+report_symbols(int(sys.argv[2]))
+report_groups(int(sys.argv[3]))

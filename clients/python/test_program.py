@@ -47,6 +47,21 @@ DEEP_TEXTS = (
     (f"exec max price by {'neg size-' * 339}size from trade", dict.fromkeys((-1352, -676, -338), 10050)),
 )
 
+# Texts as deep that are refused, with what is said of them.
+DEEP_REFUSED = (
+    (f"exec {'neg (' * 64}size{')' * 63} from trade", "parse"),
+    (f"exec {'neg ' * 1020}sizes from trade", "sizes"),
+    (f"exec {'neg ' * 1020}sym from trade", "type"),
+    (f"exec x:{'neg size-' * 338}sym from trade", "type"),
+)
+
+# Texts that end, or go on with a word, where such an expression lacks its last side.
+DEEP_UNFINISHED = (
+    f"exec {'neg ' * 1020}from trade",
+    f"exec {'size+' * 509}from trade",
+    f"exec size from trade where {'not ' * 1016}",
+)
+
 # An as-of join whose left side has a column that deep.
 DEEP_JOIN = f"aj[`sym`time;select sym,time,size:{'neg size-' * 335}size from trade;quote]"
 
@@ -303,19 +318,39 @@ class Folders(unittest.TestCase):
         ):
             self.assertEqual(self.run_plant("once", "--clock", CLOCK, data=data), (status, b"\x03", [line]))
 
-    def test_deepest_texts_on_a_stack_of_four_megabytes(self):
-        """The deepest texts of each form, answered by a program whose stack has 4 MiB, half of what most systems give."""
-        words = ["sh", "-c", 'ulimit -s 4096 && exec "$0" "$@"', PLANT, "once", "--clock", CLOCK]
+    def test_deepest_texts_on_a_stack_of_256_kibibytes(self):
+        """The deepest texts of each form, answered by a program whose stack has 256 KiB: most systems give 8 MiB."""
         for text, answer in DEEP_TEXTS:
             with self.subTest(text=text[:40]):
-                with Client.run(words) as plant:
+                with self.on_stack_of(256) as plant:
                     self.push_three_trades(plant)
                     self.assertEqual(plant.query(text), answer)
                 self.assertEqual(plant.status, 0)
-        with Client.run(words) as plant:
+        with self.on_stack_of(256) as plant:
             self.push_three_trades(plant)
             self.assertEqual(plant.query(DEEP_JOIN)["size"], [-334, -668, -1336])
+            for text, why in DEEP_REFUSED:
+                with self.subTest(text=text[:40]):
+                    self.assert_refused(plant, text, why)
         self.assertEqual(plant.status, 0)
+
+    def test_unfinished_texts_on_a_stack_of_512_kibibytes(self):
+        """Where a text ends too early, what was read of it is dropped by a function that calls itself."""
+        for text in DEEP_UNFINISHED:
+            with self.subTest(text=text[:40]):
+                with self.on_stack_of(512) as plant:
+                    self.assert_refused(plant, text, "parse")
+                self.assertEqual(plant.status, 0)
+
+    def on_stack_of(self, kibibytes):
+        """A program in memory whose stack has this size."""
+        limited = f'ulimit -s {kibibytes} && exec env -i "$0" "$@"'
+        return Client.run(["sh", "-c", limited, PLANT, "once", "--clock", CLOCK])
+
+    def assert_refused(self, plant, text, why):
+        with self.assertRaises(Error) as refused:
+            plant.query(text)
+        self.assertEqual(str(refused.exception), why)
 
     def push_three_trades(self, plant):
         """Three rows of the sizes 1, 2 and 4."""

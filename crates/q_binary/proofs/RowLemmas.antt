@@ -1,5 +1,5 @@
 -- What the kinds of a row are, for every verb and every two kinds.
-use Rattle.std.proofs.Common.{◌≡◌, ◌≢◌, ℕ, zero, suc, ◌<◌, Bool, true, false, not, ◌&&◌, if◌then◌else◌, List, [], ◌∷◌, length, get_or, Option, Some, None, IsSome, refl, sym, ap, ◌∙◌, subst, arith, lit<}
+use Rattle.std.proofs.Common.{◌≡◌, ◌≢◌, ℕ, zero, suc, ◌<◌, Bool, true, false, not, ◌&&◌, if◌then◌else◌, List, [], ◌∷◌, length, get_or, Option, Some, None, refl, sym, ap, ◌∙◌, subst, arith, lit<}
 use Rattle.q_values.specs.declared.kind.Kind.{Kind}
 use Rattle.q_values.specs.declared.kind.Kind.TheVariants as k
 use Rattle.q_verbs.specs.declared.verb.Verb.{Verb}
@@ -136,11 +136,3 @@ computed_row verb left right kind e b c d =
       λ s. let t : not (is k.Symbol k.Symbol) ≡ true = subst (λ x. not (is x k.Symbol) ≡ true) s left_is in cc,
       λ s. let t : not (is k.Symbol k.Symbol) ≡ true = subst (λ x. not (is x k.Symbol) ≡ true) s right_is in cc,
     )
-
--- the two kinds that a comparison takes are both symbols, or neither is
-pub comparison_alike : (verb : Verb) (left right : Kind) → IsSome (result_kind_of verb left right) → is_comparison verb ≡ true → is left k.Symbol ≡ is right k.Symbol
-comparison_alike verb left right row c = of_kind (result_kind_of verb left right) row refl
-  where
-    of_kind : (o : Option Kind) → IsSome o → result_kind_of verb left right ≡ o → is left k.Symbol ≡ is right k.Symbol
-    of_kind None h e = absurd (cc)
-    of_kind (Some kind) h e = (comparison_row verb left right kind e c).0

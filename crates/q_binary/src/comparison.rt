@@ -19,25 +19,8 @@ use q_values::{NoMemory, ShortSymbol, Vector};
 use q_verbs::{Side, Verb};
 use std::alloc::{AllocError, Global};
 
-// Calls a generic function for the relation that a comparison names.
-macro_rules! by_relation {
-    ($verb:ident, $function:ident($($argument:ident),*)) => {
-        match $verb {
-            Verb::Eq => $function::<Same>($($argument),*),
-            Verb::Ne => $function::<Other>($($argument),*),
-            Verb::Lt => $function::<Below>($($argument),*),
-            Verb::Gt => $function::<Above>($($argument),*),
-            Verb::Le => $function::<AtMost>($($argument),*),
-            Verb::Ge => $function::<AtLeast>($($argument),*),
-            _ => unreachable!(),
-        }
-    };
-}
-
-pub(crate) use by_relation;
-
 // Whether two items are in the relation.
-pub(crate) struct Compared<P>(P);
+struct Compared<P>(P);
 
 impl<P: Relation, T: Ordered> Step<T, bool> for Compared<P> {
     ghost use Rattle.q_verbs.specs.Numbers.{worth_cmp};
@@ -116,7 +99,7 @@ fn compare_wide<P: Relation>(
 }
 
 // Where both sides are stored alike, their items are compared as they are.
-pub(crate) fn compare_sides<P: Relation>(
+fn compare_sides<P: Relation>(
     alloc: Global,
     count: usize,
     left: &Side<'_>,
@@ -185,5 +168,13 @@ pub(crate) fn comparison(
           (spread count left.now) (spread count right.now);
     }) }
 {
-    by_relation!(verb, compare(alloc, count, left, right))
+    match verb {
+        Verb::Eq => compare::<Same>(alloc, count, left, right),
+        Verb::Ne => compare::<Other>(alloc, count, left, right),
+        Verb::Lt => compare::<Below>(alloc, count, left, right),
+        Verb::Gt => compare::<Above>(alloc, count, left, right),
+        Verb::Le => compare::<AtMost>(alloc, count, left, right),
+        Verb::Ge => compare::<AtLeast>(alloc, count, left, right),
+        _ => unreachable!(),
+    }
 }

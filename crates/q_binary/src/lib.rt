@@ -11,9 +11,6 @@
 //! binary(alloc, Verb::Lesser, &Side::Column(&a), &Side::Column(&b))       // 1 5 & 2 0N  is  1 0N
 //! ```
 //!
-//! [`keep_compared`] leaves flags true only where a comparison holds too, without a column of its results where the items have
-//! 64 bits.
-//!
 //! [`Computed`] is what [`binary`] makes of two items for an [`Operation`], for loops that read it without making a column.
 //!
 //! A loop runs over the typed slices of the sides, at the width of the two where they have one, or else over their
@@ -28,11 +25,9 @@ mod choice;
 mod comparison;
 mod divisor;
 mod int_multiples;
-mod keeping;
 pub mod laws;
 mod multiples;
 mod operation;
 
 pub use by_place::binary;
-pub use keeping::keep_compared;
 pub use operation::{Computed, Difference, Operation, Sum};

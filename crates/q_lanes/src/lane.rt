@@ -1,5 +1,5 @@
 //! The items of a side, as the loops of the verbs read them, and the loop over two sides.
-ghost use Rattle.std.specs.Prelude.{◌≡◌, ◌<◌, ◌≤◌, ◌+◌, ◌^◌, ◌&&◌, Bool, List, length, map, take, drop, Some, slice_get, IfOk};
+ghost use Rattle.std.specs.Prelude.{◌≡◌, ◌<◌, ◌≤◌, ◌+◌, ◌^◌, List, length, map, take, drop, Some, slice_get, IfOk};
 ghost use Rattle.std.specs.Mem.{FitsInMemory};
 ghost use Rattle.std.specs.Simd.Lanes.{zip2};
 ghost use Rattle.q_lanes.specs.Lanes.{lane_items};
@@ -201,84 +201,6 @@ pub fn zip_lanes<S: Step<T, U>, T: Copy, U: Copy>(
                 count,
             };
             zip_items::<S, T, U, _, _>(alloc, &some, &others)
-        }
-    }
-}
-
-/// Leaves each flag true only where the item at its index is true too. There are as many items as flags. Sixteen items are
-/// computed before flags are written.
-pub fn keep_items<I: Items<bool>>(flags: &mut Vec<bool>, items: &I)
-    requires { length (I.list items.now) ≡ length flags.old.items }
-    ensures { flags.new.items ≡ zip2 (λ (x y : Bool). x && y) flags.old.items (I.list items.now) }
-{
-    let count = items.count();
-    let mut done = 0;
-    while done + 16 <= count {
-        let block = sixteen_from(items, done);
-        for k in 0..16 {
-            flags[done + k] = flags[done + k] & block[k];
-        }
-        done += 16;
-    }
-    for i in done..count {
-        flags[i] = flags[i] & items.item(i);
-    }
-}
-
-// Leaves each flag true only where the step's result for the two items at its index is true too.
-fn keep_zipped<S: Step<T, bool>, T: Copy, L: Items<T>, R: Items<T>>(
-    flags: &mut Vec<bool>,
-    left: &L,
-    right: &R,
-)
-    requires left { length (L.list left.now) ≡ length flags.old.items }
-    requires right { length (R.list right.now) ≡ length flags.old.items }
-    ensures { flags.new.items ≡ zip2 (λ (x y : Bool). x && y) flags.old.items
-        (zip2 S.value (L.list left.now) (R.list right.now)) }
-{
-    let results = Zipped::<S, T, L, R> {
-        left,
-        right,
-        step: PhantomData,
-    };
-    keep_items(flags, &results);
-}
-
-/// Leaves each flag true only where the step's result for the two items at its index is true too. The sides have as many
-/// items as there are flags.
-pub fn keep_lanes<S: Step<T, bool>, T: Copy>(
-    flags: &mut Vec<bool>,
-    left: &Lane<'_, T>,
-    right: &Lane<'_, T>,
-)
-    requires left { length (lane_items (length flags.old.items) left.now) ≡ length flags.old.items }
-    requires right { length (lane_items (length flags.old.items) right.now) ≡ length flags.old.items }
-    ensures { flags.new.items ≡ zip2 (λ (x y : Bool). x && y) flags.old.items
-        (zip2 S.value (lane_items (length flags.old.items) left.now) (lane_items (length flags.old.items) right.now)) }
-{
-    let count = flags.len();
-    match (left, right) {
-        (Lane::Each(some), Lane::Each(others)) => {
-            keep_zipped::<S, T, _, _>(flags, &Slice { items: some }, &Slice { items: others })
-        }
-        (Lane::Each(some), Lane::Every(other)) => {
-            let others = Repeated {
-                item: *other,
-                count,
-            };
-            keep_zipped::<S, T, _, _>(flags, &Slice { items: some }, &others)
-        }
-        (Lane::Every(item), Lane::Each(others)) => {
-            let some = Repeated { item: *item, count };
-            keep_zipped::<S, T, _, _>(flags, &some, &Slice { items: others })
-        }
-        (Lane::Every(item), Lane::Every(other)) => {
-            let some = Repeated { item: *item, count };
-            let others = Repeated {
-                item: *other,
-                count,
-            };
-            keep_zipped::<S, T, _, _>(flags, &some, &others)
         }
     }
 }

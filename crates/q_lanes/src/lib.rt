@@ -2,7 +2,6 @@
 //!
 //! - A [`Lane`] has items of one type: those of a column, or one item that stands at each index. [`zip_lanes`] makes the
 //!   results of a [`Step`] for each two items of two lanes, and [`map_items`] those of a [`Rule`] for each item of a slice.
-//!   [`keep_lanes`] leaves flags true only where such a result is true too, and makes no list of the results.
 //! - [`Cells`] are the items of a side (`q_verbs::Side`) in the storage of their kind, and [`Texts`] its symbols, which a
 //!   loop reads as a [`TextList`].
 //! - [`Wide`] and [`WideSide`] are numbers of 64 bits: lent where a column has that width, made where it is narrower.
@@ -31,9 +30,7 @@ mod vectors;
 mod wide;
 
 pub use cells::Cells;
-pub use lane::{
-    Items, Lane, Repeated, Rule, Slice, Step, Zipped, keep_items, keep_lanes, map_items, zip_lanes,
-};
+pub use lane::{Items, Lane, Repeated, Rule, Slice, Step, Zipped, map_items, zip_lanes};
 pub use number::{Number, Reduced, low_32, widened_all};
 pub use order::{Above, AtLeast, AtMost, Below, Ordered, Other, Relation, Same, order_of};
 pub use texts::{Beside, TextList, Texts, texts_of};

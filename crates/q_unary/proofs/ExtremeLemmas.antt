@@ -17,7 +17,7 @@ use Rattle.q_values.specs.declared.kind.IntegerKind.{IntegerKind}
 use Rattle.q_values.specs.declared.kind.IntegerKind.TheVariants as i
 use Rattle.q_values.specs.declared.kind.LongKind.{LongKind}
 use Rattle.q_values.specs.declared.kind.LongKind.TheVariants as l
-use Rattle.q_unary.specs.Extremes.{Picks, extreme, picked}
+use Rattle.q_unary.specs.Extremes.{Picks, extreme, picked, raised}
 use Rattle.q_verbs.specs.Numbers.{least, number_in, numeric, worth, worth_cmp}
 use Rattle.q_verbs.specs.Aggregates.{best_of, choose_present, chosen_of, greatest, lowest, number_of}
 
@@ -80,9 +80,19 @@ pub least_byte : (best x : ℕ) → x ≤ 255 → (chosen : Option ℕ) → best
 least_byte best x h None e = byte_under best x e h
 least_byte best x h (Some c) e = ap (λ b. min b x) e ∙ byte_min c x ∙ ap (λ o. if is_le o then c else x) (worth_cmp-some (pos c) (pos x))
 
+-- the state of the search for the least, one less than it
+pub raised_min : (top m n : ℤ) → raised top (int_min m n) ≡ int_min (raised top m) (raised top n)
+raised_min top m n = grind (arith, ints)
+
+pub raised_under : (top m : ℤ) → raised top m ≤ℤ top
+raised_under top m = grind (arith, ints)
+
 -- the ends of each width
 pub top-16 : (x : ℤ) → FitsSigned w16 x → x ≤ℤ pos 32767
 top-16 x fits = grind (arith, ints)
+
+pub raised-16 : (m : ℤ) → FitsSigned w16 m → FitsSigned w16 (raised (pos 32767) m)
+raised-16 m fits = grind (arith, ints)
 
 pub bottom-16 : (x : ℤ) → int_lt (least w16) x ≡ true → negsuc 32766 ≤ℤ x
 bottom-16 x e = grind (arith, ints)
@@ -93,6 +103,9 @@ null-16 best x f g e = grind (arith, ints)
 pub top-32 : (x : ℤ) → FitsSigned w32 x → x ≤ℤ pos 2147483647
 top-32 x fits = grind (arith, ints)
 
+pub raised-32 : (m : ℤ) → FitsSigned w32 m → FitsSigned w32 (raised (pos 2147483647) m)
+raised-32 m fits = grind (arith, ints)
+
 pub bottom-32 : (x : ℤ) → int_lt (least w32) x ≡ true → negsuc 2147483646 ≤ℤ x
 bottom-32 x e = grind (arith, ints)
 
@@ -101,6 +114,9 @@ null-32 best x f g e = grind (arith, ints)
 
 pub top-64 : (x : ℤ) → FitsSigned w64 x → x ≤ℤ pos 9223372036854775807
 top-64 x fits = grind (arith, ints)
+
+pub raised-64 : (m : ℤ) → FitsSigned w64 m → FitsSigned w64 (raised (pos 9223372036854775807) m)
+raised-64 m fits = grind (arith, ints)
 
 pub bottom-64 : (x : ℤ) → int_lt (least w64) x ≡ true → negsuc 9223372036854775806 ≤ℤ x
 bottom-64 x e = grind (arith, ints)

@@ -1,6 +1,7 @@
 -- The least and the greatest of items, of which nulls are passed over.
-use Rattle.std.specs.Prelude.{◌≡◌, ℤ, Bool, true, false, if◌then◌else◌, List, Option, unwrap_or}
+use Rattle.std.specs.Prelude.{◌≡◌, ℤ, pos, ◌+ℤ◌, Bool, true, false, if◌then◌else◌, List, Option, unwrap_or}
 use Rattle.std.specs.declared.cmp.Ordering.{Ordering}
+use Rattle.std.specs.Int.{int_min}
 use Rattle.std.specs.Ordering.{int_cmp}
 use Rattle.q_verbs.specs.Numbers.{numeric, worth_cmp}
 use Rattle.q_verbs.specs.Aggregates.{choose_present, chosen_of}
@@ -24,3 +25,7 @@ Ranks picks =
     (m n p : ℤ)
     → (picks (int_cmp m n) ≡ true → picks (int_cmp n p) ≡ true → picks (int_cmp m p) ≡ true)
     × (picks (int_cmp m n) ≡ false → picks (int_cmp n p) ≡ false → picks (int_cmp m p) ≡ false)
+
+-- one more, but no more than the top
+abbrev pub raised : ℤ → ℤ → ℤ
+raised top state = int_min (state +ℤ pos 1) top

@@ -2,7 +2,7 @@
 ghost use Rattle.std.specs.Prelude.{◌≡◌, pos, negsuc, Some, true, false, if◌then◌else◌, IsTrue, IsSome, unwrap_or};
 ghost use Rattle.std.specs.Int.{w16, w32, w64};
 ghost use Rattle.std.specs.Ordering.{is_ge, is_le};
-ghost use Rattle.q_unary.specs.Extremes.{Picks, extreme};
+ghost use Rattle.q_unary.specs.Extremes.{Picks, extreme, raised};
 ghost use Rattle.q_values.specs.Column.{contents};
 ghost use Rattle.q_verbs.specs.Aggregates.{chosen_of, greatest, lowest, number_of};
 ghost use Rattle.q_verbs.specs.Kinds.{is_number};
@@ -15,24 +15,31 @@ use q_lanes::{Number, Slice};
 use q_values::{Atom, Column};
 
 // Numbers of which the least and the greatest are sought, with no branch for a null. The null is the least number of its
-// width, so it is never the greatest; where the least is sought, a null counts as the greatest value.
+// width, so it is never the greatest. Where the least is sought, the state is one less than it: of a null, one less wraps
+// to the greatest number.
 pub(crate) trait Extremal: Number {
     ghost top: { Self };
 
     ghost bottom: { Self };
 
-    // The greatest value.
+    ghost held: { Self → Self };
+
+    // The greatest value, which as a state stands for itself.
     fn greatest_value() -> Self
-        ensures { result ≡ top };
+        ensures { held result ≡ top };
 
     // The greatest value negated; 0 of 8 bits.
     fn lowest_value() -> Self
         ensures { result ≡ bottom };
 
-    // The lesser of the least so far and one more item, which may be the null.
-    fn lesser(best: Self, x: &Self) -> Self
-        ensures picks { Picks is_le Self.number top best x.now result }
-        ensures end { x.now ≡ top → IsSome (Self.number best) → result ≡ best };
+    // The state after one more item, which may be the null, in the search for the least.
+    fn lesser(state: Self, x: &Self) -> Self
+        ensures picks { Picks is_le Self.number top (held state) x.now (held result) }
+        ensures end { x.now ≡ top → IsSome (Self.number (held state)) → held result ≡ held state };
+
+    // The least so far.
+    fn held(state: Self) -> Self
+        ensures { result ≡ held state };
 
     // The greater of the greatest so far and one more item, which may be the null.
     fn greater(best: Self, x: &Self) -> Self
@@ -61,6 +68,8 @@ impl Extremal for bool {
 
     ghost bottom = { false };
 
+    ghost held = { λ x. x };
+
     fn greatest_value() -> bool {
         true
     }
@@ -69,8 +78,12 @@ impl Extremal for bool {
         false
     }
 
-    fn lesser(best: bool, x: &bool) -> bool {
-        lesser_bit(best, x)
+    fn lesser(state: bool, x: &bool) -> bool {
+        lesser_bit(state, x)
+    }
+
+    fn held(state: bool) -> bool {
+        state
     }
 
     fn greater(best: bool, x: &bool) -> bool {
@@ -97,6 +110,8 @@ impl Extremal for u8 {
 
     ghost bottom = { 0 };
 
+    ghost held = { λ x. x };
+
     fn greatest_value() -> u8 {
         u8::MAX
     }
@@ -105,8 +120,12 @@ impl Extremal for u8 {
         0
     }
 
-    fn lesser(best: u8, x: &u8) -> u8 {
-        lesser_byte(best, x)
+    fn lesser(state: u8, x: &u8) -> u8 {
+        lesser_byte(state, x)
+    }
+
+    fn held(state: u8) -> u8 {
+        state
     }
 
     fn greater(best: u8, x: &u8) -> u8 {
@@ -114,19 +133,18 @@ impl Extremal for u8 {
     }
 }
 
-// The number, or the greatest one for the null, which is the one below the null. With a branch in its place the compiler
-// compares item by item.
-fn number_or_top_16(x: i16) -> i16
-    ensures { result ≡ unwrap_or (number_in w16 x) (pos 32767) }
+// The number less one, or the greatest one for the null.
+fn lowered_16(x: i16) -> i16
+    ensures { raised (pos 32767) result ≡ unwrap_or (number_in w16 x) (pos 32767) }
 {
-    x.wrapping_sub(i16::from(x == i16::MIN))
+    x.wrapping_sub(1)
 }
 
-fn lesser_16(best: i16, x: &i16) -> i16
-    ensures picks { Picks is_le (number_in w16) (pos 32767) best x.now result }
-    ensures end { x.now ≡ pos 32767 → result ≡ best }
+fn lesser_16(state: i16, x: &i16) -> i16
+    ensures picks { Picks is_le (number_in w16) (pos 32767) (raised (pos 32767) state) x.now (raised (pos 32767) result) }
+    ensures end { x.now ≡ pos 32767 → raised (pos 32767) result ≡ raised (pos 32767) state }
 {
-    best.min(number_or_top_16(*x))
+    state.min(lowered_16(*x))
 }
 
 fn greater_16(best: i16, x: &i16) -> i16
@@ -138,10 +156,13 @@ fn greater_16(best: i16, x: &i16) -> i16
 
 impl Extremal for i16 {
     ghost use Rattle.std.specs.Prelude.{pos, negsuc};
+    ghost use Rattle.q_unary.specs.Extremes.{raised};
 
     ghost top = { pos 32767 };
 
     ghost bottom = { negsuc 32766 };
+
+    ghost held = { raised (pos 32767) };
 
     fn greatest_value() -> i16 {
         i16::MAX
@@ -151,8 +172,12 @@ impl Extremal for i16 {
         -i16::MAX
     }
 
-    fn lesser(best: i16, x: &i16) -> i16 {
-        lesser_16(best, x)
+    fn lesser(state: i16, x: &i16) -> i16 {
+        lesser_16(state, x)
+    }
+
+    fn held(state: i16) -> i16 {
+        state.saturating_add(1)
     }
 
     fn greater(best: i16, x: &i16) -> i16 {
@@ -160,18 +185,18 @@ impl Extremal for i16 {
     }
 }
 
-// The number, or the greatest one for the null.
-fn number_or_top_32(x: i32) -> i32
-    ensures { result ≡ unwrap_or (number_in w32 x) (pos 2147483647) }
+// The number less one, or the greatest one for the null.
+fn lowered_32(x: i32) -> i32
+    ensures { raised (pos 2147483647) result ≡ unwrap_or (number_in w32 x) (pos 2147483647) }
 {
-    x.wrapping_sub(i32::from(x == i32::MIN))
+    x.wrapping_sub(1)
 }
 
-fn lesser_32(best: i32, x: &i32) -> i32
-    ensures picks { Picks is_le (number_in w32) (pos 2147483647) best x.now result }
-    ensures end { x.now ≡ pos 2147483647 → result ≡ best }
+fn lesser_32(state: i32, x: &i32) -> i32
+    ensures picks { Picks is_le (number_in w32) (pos 2147483647) (raised (pos 2147483647) state) x.now (raised (pos 2147483647) result) }
+    ensures end { x.now ≡ pos 2147483647 → raised (pos 2147483647) result ≡ raised (pos 2147483647) state }
 {
-    best.min(number_or_top_32(*x))
+    state.min(lowered_32(*x))
 }
 
 fn greater_32(best: i32, x: &i32) -> i32
@@ -183,10 +208,13 @@ fn greater_32(best: i32, x: &i32) -> i32
 
 impl Extremal for i32 {
     ghost use Rattle.std.specs.Prelude.{pos, negsuc};
+    ghost use Rattle.q_unary.specs.Extremes.{raised};
 
     ghost top = { pos 2147483647 };
 
     ghost bottom = { negsuc 2147483646 };
+
+    ghost held = { raised (pos 2147483647) };
 
     fn greatest_value() -> i32 {
         i32::MAX
@@ -196,8 +224,12 @@ impl Extremal for i32 {
         -i32::MAX
     }
 
-    fn lesser(best: i32, x: &i32) -> i32 {
-        lesser_32(best, x)
+    fn lesser(state: i32, x: &i32) -> i32 {
+        lesser_32(state, x)
+    }
+
+    fn held(state: i32) -> i32 {
+        state.saturating_add(1)
     }
 
     fn greater(best: i32, x: &i32) -> i32 {
@@ -205,18 +237,18 @@ impl Extremal for i32 {
     }
 }
 
-// The number, or the greatest one for the null.
-fn number_or_top_64(x: i64) -> i64
-    ensures { result ≡ unwrap_or (number_in w64 x) (pos 9223372036854775807) }
+// The number less one, or the greatest one for the null.
+fn lowered_64(x: i64) -> i64
+    ensures { raised (pos 9223372036854775807) result ≡ unwrap_or (number_in w64 x) (pos 9223372036854775807) }
 {
-    x.wrapping_sub(i64::from(x == i64::MIN))
+    x.wrapping_sub(1)
 }
 
-fn lesser_64(best: i64, x: &i64) -> i64
-    ensures picks { Picks is_le (number_in w64) (pos 9223372036854775807) best x.now result }
-    ensures end { x.now ≡ pos 9223372036854775807 → result ≡ best }
+fn lesser_64(state: i64, x: &i64) -> i64
+    ensures picks { Picks is_le (number_in w64) (pos 9223372036854775807) (raised (pos 9223372036854775807) state) x.now (raised (pos 9223372036854775807) result) }
+    ensures end { x.now ≡ pos 9223372036854775807 → raised (pos 9223372036854775807) result ≡ raised (pos 9223372036854775807) state }
 {
-    best.min(number_or_top_64(*x))
+    state.min(lowered_64(*x))
 }
 
 fn greater_64(best: i64, x: &i64) -> i64
@@ -228,10 +260,13 @@ fn greater_64(best: i64, x: &i64) -> i64
 
 impl Extremal for i64 {
     ghost use Rattle.std.specs.Prelude.{pos, negsuc};
+    ghost use Rattle.q_unary.specs.Extremes.{raised};
 
     ghost top = { pos 9223372036854775807 };
 
     ghost bottom = { negsuc 9223372036854775806 };
+
+    ghost held = { raised (pos 9223372036854775807) };
 
     fn greatest_value() -> i64 {
         i64::MAX
@@ -241,8 +276,12 @@ impl Extremal for i64 {
         -i64::MAX
     }
 
-    fn lesser(best: i64, x: &i64) -> i64 {
-        lesser_64(best, x)
+    fn lesser(state: i64, x: &i64) -> i64 {
+        lesser_64(state, x)
+    }
+
+    fn held(state: i64) -> i64 {
+        state.saturating_add(1)
     }
 
     fn greater(best: i64, x: &i64) -> i64 {
@@ -259,12 +298,18 @@ impl<T: Extremal> Pick<T> for Least {
 
     ghost end = { T.top };
 
+    ghost held = { T.held };
+
     fn end() -> T {
         T::greatest_value()
     }
 
-    fn pick(best: T, x: &T) -> T {
-        T::lesser(best, x)
+    fn pick(state: T, x: &T) -> T {
+        T::lesser(state, x)
+    }
+
+    fn held(state: T) -> T {
+        T::held(state)
     }
 }
 
@@ -277,12 +322,18 @@ impl<T: Extremal> Pick<T> for Greatest {
 
     ghost end = { T.bottom };
 
+    ghost held = { λ x. x };
+
     fn end() -> T {
         T::lowest_value()
     }
 
-    fn pick(best: T, x: &T) -> T {
-        T::greater(best, x)
+    fn pick(state: T, x: &T) -> T {
+        T::greater(state, x)
+    }
+
+    fn held(state: T) -> T {
+        state
     }
 }
 

@@ -13,15 +13,21 @@ pub trait Pick<T> {
 
     ghost end: { T };
 
-    /// What is picked of no items.
+    ghost held: { T → T };
+
+    /// The state that stands for what is picked of no items.
     fn end() -> T
-        ensures value { result ≡ end }
+        ensures value { held result ≡ end }
         ensures ranks { Ranks wanted };
 
-    /// What is picked of the one picked so far and of one more item, which may be the null.
-    fn pick(best: T, x: &T) -> T
-        ensures picks { Picks wanted number end best x.now result }
-        ensures end { x.now ≡ end → IsSome (number best) → result ≡ best };
+    /// The state after one more item, which may be the null.
+    fn pick(state: T, x: &T) -> T
+        ensures picks { Picks wanted number end (held state) x.now (held result) }
+        ensures end { x.now ≡ end → IsSome (number (held state)) → held result ≡ held state };
+
+    /// What is picked so far.
+    fn held(state: T) -> T
+        ensures { result ≡ held state };
 }
 
 /// The least item.
@@ -43,10 +49,11 @@ pub fn picked_of<P: Pick<T>, T: Copy, I: Items<T>>(items: &I) -> T
         best = P::pick(best, &items.item(i));
         other = P::pick(other, &items.item(half + i));
     }
-    let both = P::pick(best, &other);
+    let last = P::held(other);
+    let both = P::pick(best, &last);
     if half + half < count {
-        P::pick(both, &items.item(half + half))
+        P::held(P::pick(both, &items.item(half + half)))
     } else {
-        both
+        P::held(both)
     }
 }

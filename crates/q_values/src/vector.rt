@@ -194,6 +194,13 @@ impl Vector {
         Vector { column }
     }
 
+    /// The typed storage, which is not copied.
+    pub fn into_column(self) -> Column
+        ensures { contents result ≡ self }
+    {
+        self.column
+    }
+
     /// Lends the typed storage.
     pub fn column(&self) -> &Column
         ensures { contents result.now ≡ self.now }

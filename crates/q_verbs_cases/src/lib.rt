@@ -9,8 +9,8 @@
 //! - `kinds_rows` has the kind of each verb's result for each pair of kinds.
 //! - `table_test` reads the rows, runs the verbs and compares.
 //! - `sizes` runs `in`, `within`, `min`, `max` and `neg` over 1,000 and 100,000 rows of each width.
-//! - `odd_sizes` runs `sum`, `min` and `max` over 1,001 and 100,001 rows, and comparisons over 1,003 and 100,007, also as
-//!   they are joined into flags, with items in the last rows that decide.
+//! - `odd_sizes` runs `sum`, `min` and `max` over 1,001 and 100,001 rows, and comparisons over 1,003 and 100,007, with items
+//!   in the last rows that decide.
 //! - `long_names` runs the verbs of symbols over 1,000 and 100,000 of more than eight bytes.
 //! - `multiples` runs `xbar` by one width over 1,000 and 100,000 longs, and `int_multiples` over 1,000 and 100,001 ints.
 //! - `one_loop` runs `min` and `max` of sums and differences, over 1,000 and 100,001 longs.

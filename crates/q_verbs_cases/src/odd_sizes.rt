@@ -1,13 +1,10 @@
-//! `sum`, `min`, `max` and comparisons, also as they are joined into flags, over numbers of rows that are no multiple of 8
-//! or 16, where the last rows decide, against what each row's number says.
-ghost use Rattle.std.specs.Prelude.{IsTrue};
-ghost use Rattle.q_verbs.specs.Places.{is_comparison};
+//! `sum`, `min`, `max` and comparisons over numbers of rows that are no multiple of 8 or 16, where the last rows decide,
+//! against what each row's number says.
 
 use crate::sizes::{atom_of, number_at, rows_of};
 use crate::table_test::{by_place, found_of_one, found_of_sides, is_wanted, vector_of_atom};
-use q_binary::keep_compared;
 use q_values::{Column, Kind, Vector};
-use q_verbs::{Side, Verb, Verb1, result_kind, result_kind1};
+use q_verbs::{Side, Verb, Verb1, result_kind1};
 use std::alloc::Global;
 use std::process::Abort;
 
@@ -212,97 +209,4 @@ fn comparisons_of_1003_rows(rt: HostRuntime) {
 #[test]
 fn comparisons_of_100007_rows(rt: HostRuntime) {
     assert_eq!(rt; first_wrong_kind(&rt, rt.alloc(), 100_007), None);
-}
-
-// Whether a flag is true before a comparison is joined into it: two of three are.
-fn flag_at(row: u32) -> bool {
-    row % 3 != 0
-}
-
-fn flags_of(rt: &impl Abort, alloc: Global, count: u32) -> Vec<bool> {
-    let mut flags = Vec::new(alloc);
-    for row in 0..count {
-        flags.push(flag_at(row)).expect(rt, "memory");
-    }
-    flags
-}
-
-// The flags with the comparison of a column and what stands beside it.
-fn kept_flags(
-    rt: &impl Abort,
-    alloc: Global,
-    verb: Verb,
-    lefts: &Vector,
-    right: &Side<'_>,
-    count: u32,
-) -> Option<Vec<bool>>
-    requires { IsTrue (is_comparison verb) }
-{
-    let mut flags = flags_of(rt, alloc, count);
-    let left = Side::Column(lefts);
-    let fits = match right {
-        Side::Atom(_) => true,
-        Side::Column(rights) => rights.len() == flags.len(),
-    };
-    if !fits
-        || lefts.len() != flags.len()
-        || result_kind(verb, left.kind(), right.kind()).is_none()
-    {
-        return None;
-    }
-    keep_compared(alloc, verb, &mut flags, &left, right).expect(rt, "memory");
-    Some(flags)
-}
-
-// Whether exactly those flags are true that were, and at whose row the comparison holds.
-fn are_kept(flags: &[bool], verb: Verb, right: Right, count: u32) -> bool {
-    let mut are = flags.len() == count as usize;
-    let mut row = 0u32;
-    for flag in flags {
-        let holds = holds(verb, left_at(row, count), right_at(right, row, count));
-        are = are && *flag == (flag_at(row) && holds);
-        row = row.wrapping_add(1);
-    }
-    are
-}
-
-// Whether the comparison is joined rightly into flags, beside an atom and beside a column of the kind.
-fn is_joined(rt: &impl Abort, alloc: Global, kind: Kind, verb: Verb, count: u32) -> bool
-    requires { IsTrue (is_comparison verb) }
-{
-    let lefts = column_of(rt, alloc, kind, count, false);
-    let rights = column_of(rt, alloc, kind, count, true);
-    let seven = atom_of(rt, kind, Some(7));
-    let beside_atom = kept_flags(rt, alloc, verb, &lefts, &Side::Atom(&seven), count);
-    let beside_column = kept_flags(rt, alloc, verb, &lefts, &Side::Column(&rights), count);
-    match (beside_atom, beside_column) {
-        (Some(some), Some(others)) => {
-            are_kept(&some, verb, Right::Atom, count)
-                && are_kept(&others, verb, Right::Column, count)
-        }
-        _ => false,
-    }
-}
-
-// The first kind for which a comparison isn't joined rightly into flags.
-fn first_wrong_join(rt: &impl Abort, alloc: Global, count: u32) -> Option<Kind> {
-    for kind in KINDS {
-        let are_joined = is_joined(rt, alloc, kind, Verb::Eq, count)
-            && is_joined(rt, alloc, kind, Verb::Lt, count)
-            && is_joined(rt, alloc, kind, Verb::Ge, count);
-        if !are_joined {
-            return Some(kind);
-        }
-    }
-    None
-}
-
-#[test]
-fn comparisons_are_joined_into_1003_flags(rt: HostRuntime) {
-    assert_eq!(rt; first_wrong_join(&rt, rt.alloc(), 1_003), None);
-}
-
-#[test]
-fn comparisons_are_joined_into_100007_flags(rt: HostRuntime) {
-    assert_eq!(rt; first_wrong_join(&rt, rt.alloc(), 100_007), None);
 }

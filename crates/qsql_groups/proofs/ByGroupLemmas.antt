@@ -1,6 +1,6 @@
 -- Values for all groups, of verbs and of their sides.
-use Rattle.std.proofs.Common.{◌≡◌, ℕ, ◌+◌, ◌<◌, Bool, true, false, ◌&&◌, ◌||◌, cond, List, [], ◌∷◌, ◌++◌, length, get_or, map, replicate, refl, sym, ap, ap₂, ◌∙◌, arith, zero, suc, Option, Some, subst}
-use Rattle.std.specs.Prelude.{unwrap_or, option_and_then, is_some}
+use Rattle.std.proofs.Common.{◌≡◌, ℕ, ◌+◌, ◌<◌, Bool, true, false, ◌&&◌, ◌||◌, cond, List, [], ◌∷◌, ◌++◌, length, get_or, map, replicate, refl, sym, ap, ap₂, ◌∙◌, arith, zero, suc, Option, Some, subst, Result, Ok, Err}
+use Rattle.std.specs.Prelude.{unwrap_or, option_and_then, is_some, IfOk}
 use Rattle.std.specs.List.{flat_map, range_with_len}
 use Rattle.std.proofs.lemmas.List.{ext_get_or, length-replicate, get_or-replicate}
 use Rattle.std.proofs.lemmas.List.FromFn.{length-map-range_with_len, get_or-map-range_with_len}
@@ -36,6 +36,11 @@ pub both_true : (x y : Bool) → (x && y) ≡ true → (x ≡ true) × (y ≡ tr
 both_true true true e = (refl, refl)
 both_true true false e = no e
 both_true false y e = no e
+
+-- what holds of a result, from three clauses of it
+pub by_three : {A E : Type 0} (r : Result A E) (P Q R S : A → Type 0) → ((v : A) → P v → Q v → R v → S v) → IfOk r P → IfOk r Q → IfOk r R → IfOk r (λ v. S v)
+by_three (Ok v) P Q R S f p q r = f v p q r
+by_three (Err e) P Q R S f p q r = tt
 
 -- ---- an aggregate of the items of each group
 

@@ -4,9 +4,13 @@ ghost use Rattle.q_values.specs.Tree.{vector};
 ghost use Rattle.q_verbs.specs.Aggregates.{is_aggregate};
 ghost use Rattle.q_verbs.specs.Kinds.{result_kind_of, result_kind1_of};
 ghost use Rattle.q_verbs.specs.Places.{is_by_place};
+ghost use Rattle.qsql_request.specs.Forms.{Form, one, two};
+ghost use Rattle.qsql_request.specs.Shapes;
 ghost use Rattle.qsql_request.specs.Shapes.{is_atom, shape_of_one, shape_of_two};
 ghost use Rattle.qsql_request.specs.Views.{form};
 ghost use Rattle.qsql_values.specs.ByRow.{is_by_row};
+ghost use Rattle.qsql_values.specs.Frames.{Frame, kind_beside};
+ghost use Rattle.qsql_values.specs.Kinds.{kind_in};
 ghost use Rattle.qsql_values.specs.Operands.{operand_tree, kind_of_tree, is_by_item};
 ghost use Rattle.qsql_values.specs.Ready.{IsReady};
 ghost use Rattle.qsql_values.specs.Values.{value_of_one, value_of_two};
@@ -21,6 +25,7 @@ use q_verbs::{Verb, Verb1};
 use qsql_request::{Expr, is_test};
 use qsql_values::{Held, Operand, Scope, apply_one, by_item, repeated, value_of};
 use std::alloc::Global;
+use std::mem::replace;
 
 /// The value of an expression for all groups: an atom for each of them, or a column.
 #[derive(Drop)]
@@ -204,6 +209,48 @@ fn two_sides<'a>(
     Ok(ByGroup { by_row, value })
 }
 
+// A verb with one side, in the place of the side's value. It is out of line, as are those below, so that a level of
+// `by_group_into` takes little of the stack.
+#[inline(never)]
+fn of_one(alloc: Global, verb: Verb1, groups: &KeyGroups, out: &mut Result<ByGroup, NoMemory>)
+    requires verb { IfOk out.old (λ s. is_one_pass_verb verb s.by_row ≡ true) }
+    requires row { IfOk out.old (λ s. IsSome (result_kind1_of verb (kind_of_tree (operand_tree s.value)))) }
+    requires items { IfOk out.old (λ s. HasItems (length groups.now.codes) (length groups.now.firsts) s.by_row (operand_tree s.value)) }
+    ensures { (frame : Frame) → (e : Form) → IfOk out.old (λ s. IsByGroup frame groups.now e s.by_row (operand_tree s.value))
+        → IfOk out.new (λ v. IsByGroup frame groups.now (one verb e) v.by_row (operand_tree v.value)) }
+{
+    if let Ok(side) = &*out {
+        *out = one_side(alloc, verb, side, groups);
+    }
+}
+
+// A verb with two sides, where the left one has a value, in the place of the right one's.
+#[inline(never)]
+fn of_two<'a>(
+    alloc: Global,
+    verb: Verb,
+    left: Result<ByGroup<'a>, NoMemory>,
+    groups: &KeyGroups,
+    out: &mut Result<ByGroup<'a>, NoMemory>,
+)
+    requires verb { IsTrue (is_by_place verb) }
+    requires row { IfOk left (λ l. IfOk out.old
+        (λ r. IsSome (result_kind_of verb (kind_of_tree (operand_tree l.value)) (kind_of_tree (operand_tree r.value))))) }
+    requires left { IfOk left (λ l. HasItems (length groups.now.codes) (length groups.now.firsts) l.by_row (operand_tree l.value)) }
+    requires right { IfOk out.old (λ r. HasItems (length groups.now.codes) (length groups.now.firsts) r.by_row (operand_tree r.value)) }
+    ensures { (frame : Frame) → (e f : Form) → Shapes.is_test verb ≡ false → IsSome (kind_in (kind_beside frame) (two verb e f))
+        → IfOk left.entry (λ l. IsByGroup frame groups.now e l.by_row (operand_tree l.value))
+        → IfOk out.old (λ r. IsByGroup frame groups.now f r.by_row (operand_tree r.value))
+        → IfOk out.new (λ v. IsByGroup frame groups.now (two verb e f) v.by_row (operand_tree v.value)) }
+{
+    let right = replace(out, Err(NoMemory));
+    if let Ok(first) = left {
+        if let Ok(second) = right {
+            *out = two_sides(alloc, verb, first, second, groups);
+        }
+    }
+}
+
 // The value of an expression whose item at a row comes of that row alone.
 fn by_row<'a>(
     alloc: Global,
@@ -222,7 +269,85 @@ fn by_row<'a>(
     Ok(ByGroup { by_row, value })
 }
 
+#[inline(never)]
+fn by_row_into<'a>(
+    alloc: Global,
+    expr: &'a Expr,
+    scope: &Scope<'a>,
+    groups: &KeyGroups,
+    out: &mut Result<ByGroup<'a>, NoMemory>,
+)
+    requires by_row { is_by_row (form expr.now) ≡ true }
+    requires ready { IsReady scope.now (form expr.now) }
+    requires size { length groups.now.codes ≡ length scope.now.rows }
+    ensures { IfOk out.new (λ v. IsByGroup scope.now groups.now (form expr.now) v.by_row (operand_tree v.value)) }
+{
+    *out = by_row(alloc, expr, scope, groups);
+}
+
+// The value of a verb with two sides, for all groups.
+#[cycle(by_group)]
+#[inline(never)]
+fn two_into<'a>(
+    alloc: Global,
+    verb: Verb,
+    left: &'a Expr,
+    right: &'a Expr,
+    scope: &Scope<'a>,
+    groups: &KeyGroups,
+    out: &mut Result<ByGroup<'a>, NoMemory>,
+)
+    requires verb { Shapes.is_test verb ≡ false }
+    requires one_pass { is_one_pass (two verb (form left.now) (form right.now)) ≡ true }
+    requires ready { IsReady scope.now (two verb (form left.now) (form right.now)) }
+    requires size { length groups.now.codes ≡ length scope.now.rows }
+    ensures { IfOk out.new (λ v. IsByGroup scope.now groups.now (two verb (form left.now) (form right.now)) v.by_row (operand_tree v.value)) }
+{
+    by_group_into(alloc, right, scope, groups, out);
+    of_two(
+        alloc,
+        verb,
+        by_group(alloc, left, scope, groups),
+        groups,
+        out,
+    );
+}
+
+// The value of an expression for all groups, written where the value of its right side was: a level takes none of the stack
+// for a value.
+#[cycle(by_group)]
+#[inline(never)]
+fn by_group_into<'a>(
+    alloc: Global,
+    expr: &'a Expr,
+    scope: &Scope<'a>,
+    groups: &KeyGroups,
+    out: &mut Result<ByGroup<'a>, NoMemory>,
+)
+    requires one_pass { is_one_pass (form expr.now) ≡ true }
+    requires ready { IsReady scope.now (form expr.now) }
+    requires size { length groups.now.codes ≡ length scope.now.rows }
+    ensures { IfOk out.new (λ v. IsByGroup scope.now groups.now (form expr.now) v.by_row (operand_tree v.value)) }
+{
+    match expr {
+        Expr::Literal(_) => by_row_into(alloc, expr, scope, groups, out),
+        Expr::Name(_) => by_row_into(alloc, expr, scope, groups, out),
+        Expr::One(verb, side) => {
+            by_group_into(alloc, side, scope, groups, out);
+            of_one(alloc, *verb, groups, out);
+        }
+        Expr::Two(verb, left, right) => {
+            if is_test(*verb) {
+                by_row_into(alloc, expr, scope, groups, out);
+            } else {
+                two_into(alloc, *verb, left, right, scope, groups, out);
+            }
+        }
+    }
+}
+
 /// The value of an expression over the rows of each group, for all groups. Columns are lent.
+#[cycle(by_group)]
 pub(crate) fn by_group<'a>(
     alloc: Global,
     expr: &'a Expr,
@@ -234,25 +359,9 @@ pub(crate) fn by_group<'a>(
     requires size { length groups.now.codes ≡ length scope.now.rows }
     ensures { IfOk result (λ v. IsByGroup scope.now groups.now (form expr.now) v.by_row (operand_tree v.value)) }
 {
-    match expr {
-        Expr::Literal(_) => by_row(alloc, expr, scope, groups),
-        Expr::Name(_) => by_row(alloc, expr, scope, groups),
-        Expr::One(verb, side) => {
-            let side = by_group(alloc, side, scope, groups)?;
-            let made = one_side(alloc, *verb, &side, groups)?;
-            Ok(made)
-        }
-        Expr::Two(verb, left, right) => {
-            if is_test(*verb) {
-                by_row(alloc, expr, scope, groups)
-            } else {
-                let first = by_group(alloc, left, scope, groups)?;
-                let second = by_group(alloc, right, scope, groups)?;
-                let made = two_sides(alloc, *verb, first, second, groups)?;
-                Ok(made)
-            }
-        }
-    }
+    let mut value = Err(NoMemory);
+    by_group_into(alloc, expr, scope, groups, &mut value);
+    value
 }
 
 /// The items of a value for all groups, one for each of this many groups.

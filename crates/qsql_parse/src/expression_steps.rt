@@ -46,38 +46,40 @@ fn got_in(outer: Box<Stack>, expr: Expr) -> State
 /// The state after an expression that ends with this token: the verbs before it take it as their right side.
 pub fn after_expression(
     alloc: Global,
-    stack: Stack,
-    expr: Expr,
+    mut stack: Stack,
+    mut expr: Expr,
     token: &Token,
 ) -> Result<State, Stop>
     ensures { Steps result (step_close (stack_of stack) (form expr) (token_of token.now)) }
 {
-    match stack {
-        Stack::Base(base) => after_base(alloc, base, expr, token),
-        Stack::RightOf(verb, left, outer) => {
-            let both = two_of(alloc, verb, left, expr)?;
-            after_expression(alloc, Box::into_inner(outer), both, token)
-        }
-        Stack::Under(verb, outer) => {
-            let one = one_of(alloc, verb, expr)?;
-            after_expression(alloc, Box::into_inner(outer), one, token)
-        }
-        Stack::InBrackets(outer) => expect_mark(token, Mark::Right, got_in(outer, expr)),
-        Stack::Applied(verb, outer) => {
-            let one = one_of(alloc, verb, expr)?;
-            expect_mark(token, Mark::Close, got_in(outer, one))
-        }
-        Stack::FirstOfTwo(verb, outer) => {
-            let second = Stack::SecondOfTwo(verb, expr, outer);
-            expect_mark(
-                token,
-                Mark::Semicolon,
-                State::InExpression(second, ExpressionState::Wanted),
-            )
-        }
-        Stack::SecondOfTwo(verb, left, outer) => {
-            let both = two_of(alloc, verb, left, expr)?;
-            expect_mark(token, Mark::Close, got_in(outer, both))
+    // A loop, so that a long expression takes little of the stack.
+    loop {
+        match stack {
+            Stack::Base(base) => return after_base(alloc, base, expr, token),
+            Stack::RightOf(verb, left, outer) => {
+                expr = two_of(alloc, verb, left, expr)?;
+                stack = Box::into_inner(outer);
+            }
+            Stack::Under(verb, outer) => {
+                expr = one_of(alloc, verb, expr)?;
+                stack = Box::into_inner(outer);
+            }
+            Stack::InBrackets(outer) => {
+                return expect_mark(token, Mark::Right, got_in(outer, expr));
+            }
+            Stack::Applied(verb, outer) => {
+                let one = one_of(alloc, verb, expr)?;
+                return expect_mark(token, Mark::Close, got_in(outer, one));
+            }
+            Stack::FirstOfTwo(verb, outer) => {
+                let second = Stack::SecondOfTwo(verb, expr, outer);
+                let state = State::InExpression(second, ExpressionState::Wanted);
+                return expect_mark(token, Mark::Semicolon, state);
+            }
+            Stack::SecondOfTwo(verb, left, outer) => {
+                let both = two_of(alloc, verb, left, expr)?;
+                return expect_mark(token, Mark::Close, got_in(outer, both));
+            }
         }
     }
 }

@@ -141,27 +141,30 @@ fn whole_of_query(outer: Outer, query: Query) -> Result<Request, Stop>
 }
 
 // The request of a query whose last expression ends the text.
-fn whole_of_expression(alloc: Global, stack: Stack, expr: Expr) -> Result<Request, Stop>
+fn whole_of_expression(alloc: Global, mut stack: Stack, mut expr: Expr) -> Result<Request, Stop>
     ensures { Finds request_of result (whole_expr (stack_of stack) (form expr)) }
 {
-    match stack {
-        Stack::Base(Base::Phrase(outer, query)) => {
-            let query = with_condition(query, expr)?;
-            whole_of_query(outer, query)
+    // A loop, so that a long expression takes little of the stack.
+    loop {
+        match stack {
+            Stack::Base(Base::Phrase(outer, query)) => {
+                let query = with_condition(query, expr)?;
+                return whole_of_query(outer, query);
+            }
+            Stack::Base(Base::Column(_, _, _, _)) => return Err(Stop::Here),
+            Stack::RightOf(verb, left, outer) => {
+                expr = Expr::Two(verb, boxed(alloc, left)?, boxed(alloc, expr)?);
+                stack = Box::into_inner(outer);
+            }
+            Stack::Under(verb, outer) => {
+                expr = Expr::One(verb, boxed(alloc, expr)?);
+                stack = Box::into_inner(outer);
+            }
+            Stack::InBrackets(_) => return Err(Stop::Here),
+            Stack::Applied(_, _) => return Err(Stop::Here),
+            Stack::FirstOfTwo(_, _) => return Err(Stop::Here),
+            Stack::SecondOfTwo(_, _, _) => return Err(Stop::Here),
         }
-        Stack::Base(Base::Column(_, _, _, _)) => Err(Stop::Here),
-        Stack::RightOf(verb, left, outer) => {
-            let both = Expr::Two(verb, boxed(alloc, left)?, boxed(alloc, expr)?);
-            whole_of_expression(alloc, Box::into_inner(outer), both)
-        }
-        Stack::Under(verb, outer) => {
-            let one = Expr::One(verb, boxed(alloc, expr)?);
-            whole_of_expression(alloc, Box::into_inner(outer), one)
-        }
-        Stack::InBrackets(_) => Err(Stop::Here),
-        Stack::Applied(_, _) => Err(Stop::Here),
-        Stack::FirstOfTwo(_, _) => Err(Stop::Here),
-        Stack::SecondOfTwo(_, _, _) => Err(Stop::Here),
     }
 }
 

@@ -18,20 +18,22 @@ fn first_name(expr: &Expr) -> Option<&[u8]>
     ensures first { map_option (λ name. name.now) result ≡ head_of (mentioned (form expr.now)) }
     ensures no_nul { IfSome result (λ name. HasNoNul name.now) }
 {
-    match expr {
-        Expr::Literal(_) => None,
-        Expr::Name(name) => {
-            if is_row_number_name(name.bytes()) {
-                None
-            } else {
-                Some(name.bytes())
+    let mut at = expr;
+    loop {
+        match at {
+            Expr::Literal(_) => return None,
+            Expr::Name(name) => {
+                if is_row_number_name(name.bytes()) {
+                    return None;
+                }
+                return Some(name.bytes());
             }
+            Expr::One(_, side) => at = side,
+            Expr::Two(_, left, right) => match first_name(left) {
+                Some(name) => return Some(name),
+                None => at = right,
+            },
         }
-        Expr::One(_, side) => first_name(side),
-        Expr::Two(_, left, right) => match first_name(left) {
-            Some(name) => Some(name),
-            None => first_name(right),
-        },
     }
 }
 

@@ -12,7 +12,6 @@ pub type Exprs = Sequence<Expr>;
 /// An expression over the rows of a table (Q for Mortals, 4 and 9).
 ///
 /// It is read from right to left without precedence: `a*b+c` is `a*(b+c)`.
-#[derive(Drop)]
 pub enum Expr {
     /// A literal: an atom, or a vector of atoms.
     Literal(Value),
@@ -22,6 +21,20 @@ pub enum Expr {
     One(Verb1, Box<Expr>),
     /// A verb between its left and its right side.
     Two(Verb, Box<Expr>, Box<Expr>),
+}
+
+// A loop along the sides at the right, so that a long expression takes little of the stack.
+impl Drop for Expr {
+    fn drop(mut self) {
+        loop {
+            match self {
+                Expr::Literal(_) => return,
+                Expr::Name(_) => return,
+                Expr::One(_, side) => self = Box::into_inner(side),
+                Expr::Two(_, _, right) => self = Box::into_inner(right),
+            }
+        }
+    }
 }
 
 /// A column of a result, with the name that the text gives it.

@@ -1,5 +1,5 @@
 -- An expression by row has, over the rows that flags keep, the items that they keep.
-use Rattle.std.proofs.Common.{◌≡◌, ℕ, Bool, true, false, ◌&&◌, cond, List, [], ◌∷◌, ◌++◌, length, map, replicate, refl, sym, ap, ap₂, ◌∙◌, arith}
+use Rattle.std.proofs.Common.{◌≡◌, Bool, true, false, ◌&&◌, cond, List, [], ◌∷◌, ◌++◌, length, map, refl, sym, ap, ap₂, ◌∙◌, arith}
 use Rattle.std.specs.Prelude.{unwrap_or, option_map, neg_ℤ}
 use Rattle.std.proofs.lemmas.List.{length-map}
 use Rattle.q_values.specs.Contents.{Contents}
@@ -20,11 +20,9 @@ use Rattle.q_verbs.specs.declared.verb.Verb1.{Verb1}
 use Rattle.q_verbs.specs.declared.verb.Verb1.TheVariants as u
 use Rattle.qsql_request.specs.Forms.{Form, constant, column, one, two}
 use Rattle.qsql_request.specs.Shapes.{is_test}
-use Rattle.qsql_request.specs.declared.shapes.Shape.TheVariants as s
 use Rattle.q_filter.specs.Places.{is_true}
 use Rattle.qsql_values.specs.Frames.{Frame, field_in, column_in}
 use Rattle.qsql_values.specs.ByRow.{is_fixed, is_by_item, is_by_row, picked, both, frame_where}
-use Rattle.qsql_values.specs.Operands.{HasShape}
 use Rattle.qsql_values.specs.Values.{val, value_of_one, value_of_two, formed_as, listed, by_item, by_item_of, kind_with, items_in, tested, lies_between, text_in, truths, selected, rows_where, kept}
 use Rattle.qsql_values.proofs.PlacesLemmas.{none-selected, selected-zip}
 
@@ -125,22 +123,6 @@ joined flags frame phrase test h is size =
     let flagged : truths (val (frame_where flags frame) phrase) ≡ selected flags (truths (vector test)) = ap truths value ∙ selected-map is_true flags test.atoms in
     ap (λ (fs : List Bool). record frame { rows = selected fs (selected flags frame.rows) }) flagged
     ∙ ap (λ (rows : List (List Atom)). record frame { rows = rows }) (selected-selected flags (truths (vector test)) frame.rows (length-map test.atoms is_true ∙ size))
-
-pub length_truths : (n : ℕ) (t : Tree) → HasShape n s.Rows t → length (truths t) ≡ n
-length_truths n (vector c) h = length-map c.atoms is_true ∙ h
-length_truths n t h = absurd h
-
-pub joined_value : (flags : List Bool) (frame : Frame) (phrase : Form) (t : Tree) → is_by_row phrase ≡ true → val frame phrase ≡ t → HasShape (length flags) s.Rows t → rows_where phrase (frame_where flags frame) ≡ frame_where (both flags (truths t)) frame
-joined_value flags frame phrase (vector c) h is size = joined flags frame phrase c h is size
-joined_value flags frame phrase t h is size = absurd size
-
--- flags that are all true keep each row
-selected_all : {X : Type 0} (xs : List X) → selected (replicate (length xs) true) xs ≡ xs
-selected_all [] = refl
-selected_all (x ∷ xs) = ap (λ l. x ∷ l) (selected_all xs)
-
-pub all_rows : (n : ℕ) (frame : Frame) → n ≡ length frame.rows → frame_where (replicate n true) frame ≡ frame
-all_rows n frame size = ap (λ (m : ℕ). frame_where (replicate m true) frame) size ∙ ap (λ (rows : List (List Atom)). record frame { rows = rows }) (selected_all frame.rows)
 
 -- phrases and one more
 pub kept-more : (phrases : List Form) (phrase : Form) (frame : Frame) → kept (phrases ++ phrase ∷ []) frame ≡ rows_where phrase (kept phrases frame)

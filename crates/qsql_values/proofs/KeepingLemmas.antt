@@ -1,5 +1,6 @@
 -- Rows that phrases keep, as indices.
-use Rattle.std.proofs.Common.{◌≡◌, ℕ, ◌+◌, ◌-◌, ◌<◌, Bool, true, false, List, [], ◌∷◌, length, map, take, drop, get_or, refl, sym, ap, ◌∙◌, arith, All, subst}
+use Rattle.std.proofs.Common.{◌≡◌, ℕ, ◌+◌, ◌-◌, ◌<◌, Bool, true, false, List, [], ◌∷◌, ◌++◌, length, map, take, drop, get_or, refl, sym, ap, ap₂, ◌∙◌, arith, All, subst, zero, suc, add-one}
+use Rattle.std.specs.Simd.Lanes.{zip2}
 use Rattle.std.proofs.Math.Seq.{take-add, take-length}
 use Rattle.std.proofs.lemmas.List.{drop_more, length-drop, drop-map, take-append-drop}
 use Rattle.std.proofs.lemmas.List.Elements.{All-nil, All-cons, All-head, All-tail}
@@ -95,3 +96,13 @@ truths_of_booleans (b ∷ flags) = ap (λ (fs : List Bool). b ∷ fs) (truths_of
 
 pub places_of_flags : (flags : List Bool) → places_of (map (λ (b : Bool). a.Boolean b) flags) ≡ places_from 0 flags
 places_of_flags flags = ap (places_from 0) (truths_of_booleans flags)
+
+-- one more index of two lists together
+pub zip-more : {X Y Z : Type 0} (f : X → Y → Z) (xs : List X) (ys : List Y) (i : ℕ) (x : X) (y : Y) → i < length xs → i < length ys → zip2 f (take (i + 1) xs) (take (i + 1) ys) ≡ zip2 f (take i xs) (take i ys) ++ f (get_or xs i x) (get_or ys i y) ∷ []
+zip-more f [] ys i x y p q = absurd (omega (arith, p))
+zip-more f (u ∷ us) [] i x y p q = absurd (omega (arith, q))
+zip-more f (u ∷ us) (w ∷ ws) zero x y p q = refl
+zip-more f (u ∷ us) (w ∷ ws) (suc i) x y p q =
+    ap₂ (λ (n m : ℕ). zip2 f (take n (u ∷ us)) (take m (w ∷ ws))) (add-one (suc i)) (add-one (suc i))
+    ∙ ap (λ (n : ℕ). f u w ∷ zip2 f (take n us) (take n ws)) (sym (add-one i))
+    ∙ ap (λ l. f u w ∷ l) (zip-more f us ws i x y (omega (arith, p)) (omega (arith, q)))

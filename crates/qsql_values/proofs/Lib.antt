@@ -1,9 +1,10 @@
 pub mod BesideLemmas
 pub mod BothLemmas
 pub mod ByRowLemmas
-pub mod ComparedLemmas
+pub mod CountingLemmas
 pub mod FrameLemmas
 pub mod KeepingLemmas
 pub mod OperandLemmas
 pub mod PlacesLemmas
+pub mod ResultLemmas
 pub mod ShapeLemmas

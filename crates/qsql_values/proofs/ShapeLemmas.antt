@@ -1,5 +1,5 @@
 -- The value of an expression has its shape.
-use Rattle.std.proofs.Common.{◌≡◌, ℕ, ◌+◌, ◌<◌, Bool, true, false, not, ◌&&◌, ◌||◌, cond, List, length, refl, sym, ap, ap₂, ◌∙◌, arith, Some, None, Option, subst}
+use Rattle.std.proofs.Common.{◌≡◌, ℕ, ◌+◌, ◌<◌, Bool, true, false, not, ◌&&◌, ◌||◌, cond, List, length, refl, sym, ap, ◌∙◌, arith, Some, None, Option, subst}
 use Rattle.std.specs.Prelude.{is_some, option_and_then}
 use Rattle.std.proofs.lemmas.List.{length-map}
 use Rattle.std.proofs.lemmas.Simd.{length-zip2}
@@ -17,7 +17,7 @@ use Rattle.qsql_request.specs.Shapes.{shape, shape_of_one, shape_of_two, is_test
 use Rattle.qsql_request.specs.Unbuilt.{has_unbuilt, is_wrong_right, is_unbuilt_phrase}
 use Rattle.qsql_request.specs.declared.shapes.Shape.{Shape}
 use Rattle.qsql_request.specs.declared.shapes.Shape.TheVariants as s
-use Rattle.qsql_values.specs.Frames.{Frame, field_in, kind_beside}
+use Rattle.qsql_values.specs.Frames.{Frame, field_in}
 use Rattle.qsql_values.specs.Kinds.{kind_in, literal_kind, kind_of_both, is_within, are_ends}
 use Rattle.qsql_values.specs.Operands.{HasShape, AreEven, AreSides, has_ends}
 use Rattle.qsql_values.specs.Values.{val, value_of_one, value_of_two, formed_as, by_item, items_in, tested}
@@ -216,6 +216,12 @@ left_size e verb left right other is same = rw (is, same) (omega arith)
 pub right_size : (e : Form) (verb : Verb) (left right other : Form) → e ≡ two verb left right → other ≡ right → form_size other < form_size e
 right_size e verb left right other is same = rw (is, same) (omega arith)
 
+pub sides_size : (e : Form) (verb : Verb) (left right : Form) → e ≡ two verb left right → form_size e ≡ (form_size left + form_size right) + 1
+sides_size e verb left right is = ap form_size is
+
+pub both_size : (e : Form) (outer : Verb1) (inner : Verb) (left right : Form) → e ≡ one outer (two inner left right) → form_size e ≡ ((form_size left + form_size right) + 1) + 1
+both_size e outer inner left right is = ap form_size is
+
 pub side_of : (columns : List ℕ → Option Kind) (e : Form) (verb : Verb1) (side : Form) → e ≡ one verb side → is_some (kind_in columns e) ≡ true → is_some (kind_in columns side) ≡ true
 side_of columns e verb side is kind = some_side verb (kind_in columns side) (ap (λ (f : Form). is_some (kind_in columns f)) (sym is) ∙ kind)
 
@@ -229,8 +235,3 @@ pub phrase_shape : (frame : Frame) (columns : List ℕ → Option Kind) (e : For
 phrase_shape frame columns e t kind built is =
     let both = neither (has_unbuilt e) (not (is_rows (shape e))) built in
     subst (HasShape (length frame.rows) s.Rows) (sym is) (subst (λ (of : Shape). HasShape (length frame.rows) of (val frame e)) (is_rows_of (shape e) both.1) (val_shape frame columns e kind both.0))
-
--- so has that of a phrase which is a verb with two sides
-pub phrase_of_two : (n : ℕ) (frame : Frame) (verb : Verb) (left right : Form) (l r : Tree) → is_some (kind_in (kind_beside frame) (two verb left right)) ≡ true → is_unbuilt_phrase (two verb left right) ≡ false → l ≡ val frame left → r ≡ val frame right → n ≡ length frame.rows → HasShape n s.Rows (value_of_two verb l r)
-phrase_of_two n frame verb left right l r kind built p q size =
-    subst (λ (m : ℕ). HasShape m s.Rows (value_of_two verb l r)) (sym size) (phrase_shape frame (kind_beside frame) (two verb left right) (value_of_two verb l r) kind built (ap₂ (value_of_two verb) p q))

@@ -1,10 +1,7 @@
 //! Where phrases hold, as flags: one for each row.
-ghost use Rattle.std.specs.Prelude.{◌≡◌, ◌<◌, ◌≤◌, false, true, IsTrue, IsSome, Some, map, take, length, All, IfOk, OnOk};
+ghost use Rattle.std.specs.Prelude.{◌≡◌, ◌<◌, ◌≤◌, false, true, Some, map, take, length, All, IfOk, OnOk};
 ghost use Rattle.q_values.specs.Tree.{vector};
 ghost use Rattle.q_values.specs.declared.kind.Kind.TheVariants as k;
-ghost use Rattle.q_verbs.specs.Kinds.{result_kind_of};
-ghost use Rattle.q_verbs.specs.Places;
-ghost use Rattle.qsql_request.specs.Forms.{two};
 ghost use Rattle.qsql_request.specs.Views.{form};
 ghost use Rattle.qsql_request.specs.Unbuilt.{is_unbuilt_phrase};
 ghost use Rattle.qsql_request.specs.declared.shapes.Shape.TheVariants as s;
@@ -12,17 +9,14 @@ ghost use Rattle.qsql_values.specs.ByRow;
 ghost use Rattle.qsql_values.specs.ByRow.{both, frame_where};
 ghost use Rattle.qsql_values.specs.Frames.{kind_beside};
 ghost use Rattle.qsql_values.specs.Kinds.{kind_in};
-ghost use Rattle.qsql_values.specs.Operands.{contents_of, operand_tree, kind_of_tree, AreSides, HasShape};
-ghost use Rattle.qsql_values.specs.Values.{val, value_of_two, truths, rows_where, kept};
+ghost use Rattle.qsql_values.specs.Operands.{contents_of};
+ghost use Rattle.qsql_values.specs.Values.{val, truths, rows_where, kept};
 
 use crate::by_row::is_by_row;
 use crate::operand::{Held, Operand};
 use crate::scope::Scope;
 use crate::values::value_of;
-use q_binary::keep_compared;
-use q_lanes::{Slice, keep_items};
 use q_values::{Column, NoMemory, Vector};
-use q_verbs::{Side, Verb};
 use qsql_request::Expr;
 use std::alloc::Global;
 
@@ -52,113 +46,62 @@ fn flags_of(test: &Vector) -> &[bool]
     }
 }
 
-fn compares(verb: Verb) -> bool
-    ensures { result ≡ Places.is_comparison verb }
+// The flags of a test, which are copied where they are lent.
+fn into_flags(alloc: Global, test: Held) -> Result<Vec<bool>, NoMemory>
+    requires { (contents_of test).kind ≡ k.Boolean }
+    ensures { IfOk result (λ v. v.items ≡ truths (vector (contents_of test.entry))) }
 {
-    matches!(
-        verb,
-        Verb::Eq | Verb::Ne | Verb::Lt | Verb::Gt | Verb::Le | Verb::Ge
-    )
-}
-
-// Leaves the flags true only where the comparison of two values, which has an item for each flag, is true too.
-fn keep_operands(
-    alloc: Global,
-    flags: &mut Vec<bool>,
-    verb: Verb,
-    left: &Operand,
-    right: &Operand,
-) -> Result<(), NoMemory>
-    requires verb { IsTrue (Places.is_comparison verb) }
-    requires row { IsSome (result_kind_of verb (kind_of_tree (operand_tree left.now)) (kind_of_tree (operand_tree right.now))) }
-    requires sides { AreSides verb (operand_tree left.now) (operand_tree right.now) }
-    requires size { HasShape (length flags.old.items) s.Rows (value_of_two verb (operand_tree left.now) (operand_tree right.now)) }
-    ensures { OnOk result (flags.new.items
-        ≡ both flags.old.items (truths (value_of_two verb (operand_tree left.now) (operand_tree right.now)))) }
-{
-    match (left, right) {
-        (Operand::Atom(_), Operand::Atom(_)) => unreachable!(),
-        (Operand::Atom(x), Operand::Column(items)) => {
-            let items = Side::Column(items.vector());
-            keep_compared(alloc, verb, flags, &Side::Atom(x), &items)
-        }
-        (Operand::Column(items), Operand::Atom(y)) => {
-            let items = Side::Column(items.vector());
-            keep_compared(alloc, verb, flags, &items, &Side::Atom(y))
-        }
-        (Operand::Column(items), Operand::Column(others)) => {
-            let items = Side::Column(items.vector());
-            keep_compared(alloc, verb, flags, &items, &Side::Column(others.vector()))
-        }
+    match test.into_vector(alloc)?.into_column() {
+        Column::Booleans(flags) => Ok(flags),
+        _ => unreachable!(),
     }
 }
 
-// Leaves the flags true only where the comparison of two expressions holds too, without a column of its results.
-fn join_compared<'a>(
-    alloc: Global,
-    flags: &mut Vec<bool>,
-    verb: Verb,
-    left: &'a Expr,
-    right: &'a Expr,
-    scope: &Scope<'a>,
-) -> Result<(), NoMemory>
-    requires verb { IsTrue (Places.is_comparison verb) }
-    requires size { length flags.old.items ≡ length scope.now.rows }
-    requires by_row { ByRow.is_by_row (two verb (form left.now) (form right.now)) ≡ true }
-    requires kind { kind_in (kind_beside scope.now) (two verb (form left.now) (form right.now)) ≡ Some k.Boolean }
-    requires built { is_unbuilt_phrase (two verb (form left.now) (form right.now)) ≡ false }
-    ensures size { OnOk result (length flags.new.items ≡ length scope.now.rows) }
-    ensures rows { OnOk result (frame_where flags.new.items scope.now
-        ≡ rows_where (two verb (form left.now) (form right.now)) (frame_where flags.old.items scope.now)) }
+// Leaves the flags true only where the others are true too. A slice lets the compiler join many at once, where a vector's
+// pointer would be read again for each.
+fn keep_both(flags: &mut [bool], others: &[bool])
+    requires { length others.now ≡ length flags.old }
+    ensures { flags.new ≡ both flags.old others.now }
 {
-    let first = value_of(alloc, left, scope)?;
-    let second = value_of(alloc, right, scope)?;
-    keep_operands(alloc, flags, verb, &first, &second)?;
-    Ok(())
+    for i in 0..others.len() {
+        flags[i] = flags[i] & others[i];
+    }
 }
 
 // Leaves the flags true only where the phrase holds too. Its item at a row comes of that row alone, so it is evaluated over
 // all rows.
 fn join_with<'a>(
     alloc: Global,
-    flags: &mut Vec<bool>,
+    flags: &mut [bool],
     phrase: &'a Expr,
     scope: &Scope<'a>,
 ) -> Result<(), NoMemory>
-    requires size { length flags.old.items ≡ length scope.now.rows }
+    requires size { length flags.old ≡ length scope.now.rows }
     requires by_row { ByRow.is_by_row (form phrase.now) ≡ true }
     requires kind { kind_in (kind_beside scope.now) (form phrase.now) ≡ Some k.Boolean }
     requires built { is_unbuilt_phrase (form phrase.now) ≡ false }
-    ensures size { OnOk result (length flags.new.items ≡ length scope.now.rows) }
-    ensures rows { OnOk result (frame_where flags.new.items scope.now ≡ rows_where (form phrase.now) (frame_where flags.old.items scope.now)) }
+    ensures size { OnOk result (length flags.new ≡ length scope.now.rows) }
+    ensures rows { OnOk result (frame_where flags.new scope.now ≡ rows_where (form phrase.now) (frame_where flags.old scope.now)) }
 {
-    match phrase {
-        Expr::Two(verb, left, right) if compares(*verb) => {
-            join_compared(alloc, flags, *verb, left, right, scope)
-        }
-        _ => {
-            let test = test_of(alloc, phrase, scope)?;
-            let others = flags_of(test.vector());
-            keep_items(flags, &Slice { items: others });
-            Ok(())
-        }
-    }
+    let test = test_of(alloc, phrase, scope)?;
+    keep_both(flags, flags_of(test.vector()));
+    Ok(())
 }
 
 // Leaves the flags true only where the phrases up to the first that isn't by row hold too, and gives their number.
 fn join_while_by_row<'a>(
     alloc: Global,
-    flags: &mut Vec<bool>,
+    flags: &mut [bool],
     phrases: &'a [Expr],
     scope: &Scope<'a>,
 ) -> Result<usize, NoMemory>
-    requires size { length flags.old.items ≡ length scope.now.rows }
+    requires size { length flags.old ≡ length scope.now.rows }
     requires kinds { All (λ p. kind_in (kind_beside scope.now) (form p) ≡ Some k.Boolean) phrases.now }
     requires built { All (λ p. is_unbuilt_phrase (form p) ≡ false) phrases.now }
     ensures within { IfOk result (λ n. n ≤ length phrases.now) }
-    ensures size { OnOk result (length flags.new.items ≡ length scope.now.rows) }
-    ensures rows { IfOk result (λ n. frame_where flags.new.items scope.now
-        ≡ kept (take n (map form phrases.now)) (frame_where flags.old.items scope.now)) }
+    ensures size { OnOk result (length flags.new ≡ length scope.now.rows) }
+    ensures rows { IfOk result (λ n. frame_where flags.new scope.now
+        ≡ kept (take n (map form phrases.now)) (frame_where flags.old scope.now)) }
 {
     let mut count = 0;
     while count < phrases.len() && is_by_row(&phrases[count]) {
@@ -168,9 +111,9 @@ fn join_while_by_row<'a>(
     Ok(count)
 }
 
-/// Where the first phrases hold, of which there is at least one, and how many phrases these are. Phrases that look at one
-/// row at a time are joined where there are two or more of them; the test of one phrase is as it was found, and lent where
-/// its column is.
+/// Where the first phrases hold, of which there is at least one, and how many phrases these are. Those that look at one row
+/// at a time are joined into the flags of the first phrase; the test of one phrase is as it was found, and lent where its
+/// column is.
 pub fn joined_test<'a>(
     alloc: Global,
     phrases: &'a [Expr],
@@ -186,12 +129,11 @@ pub fn joined_test<'a>(
     ensures rows { IfOk result (λ v. frame_where (truths (vector (contents_of v.0))) scope.now
         ≡ kept (take v.1 (map form phrases.now)) scope.now) }
 {
-    if phrases.len() == 1 || !is_by_row(&phrases[0]) || !is_by_row(&phrases[1]) {
-        let test = test_of(alloc, &phrases[0], scope)?;
+    let test = test_of(alloc, &phrases[0], scope)?;
+    if phrases.len() == 1 || !is_by_row(&phrases[1]) {
         return Ok((test, 1));
     }
-    let mut flags = vec![in alloc; true; scope.len()]?;
-    join_with(alloc, &mut flags, &phrases[0], scope)?;
+    let mut flags = into_flags(alloc, test)?;
     let more = join_while_by_row(alloc, &mut flags, &phrases[1..], scope)?;
     Ok((
         Held::Made(Vector::from_column(Column::Booleans(flags))),

@@ -12,7 +12,9 @@ use q_values::{Kind, Value};
 use q_verbs::{Verb, Verb1, result_kind, result_kind1};
 use qsql_request::Expr;
 
-/// The kind of the table's column with this name; each table has the columns `date` and `i` too.
+/// The kind of the table's column with this name; each table has the columns `date` and `i` too. It is out of line, as are
+/// those below, so that a level of `kind_of_expr` takes little of the stack.
+#[inline(never)]
 pub fn kind_of_column(table: &Shape, name: &[u8]) -> Option<Kind>
     ensures { result ≡ column_kind table.now name.now }
 {
@@ -25,6 +27,7 @@ pub fn kind_of_column(table: &Shape, name: &[u8]) -> Option<Kind>
     }
 }
 
+#[inline(never)]
 fn kind_of_literal(value: &Value) -> Option<Kind>
     ensures { result ≡ literal_kind (tree value.now) }
 {
@@ -56,6 +59,7 @@ fn has_two_items(value: &Value) -> bool
 }
 
 // Whether it is a vector literal of two items.
+#[inline(never)]
 fn has_ends(expr: &Expr) -> bool
     ensures { result ≡ are_ends (form expr.now) }
 {
@@ -73,6 +77,7 @@ fn is_within(verb: Verb) -> bool
     matches!(verb, Verb::Within)
 }
 
+#[inline(never)]
 fn kind_of_one(verb: Verb1, side: Option<Kind>) -> Option<Kind>
     ensures { result ≡ option_and_then (result_kind1_of verb) side }
 {
@@ -82,6 +87,7 @@ fn kind_of_one(verb: Verb1, side: Option<Kind>) -> Option<Kind>
     }
 }
 
+#[inline(never)]
 fn kind_of_two(verb: Verb, left: Option<Kind>, right: Option<Kind>) -> Option<Kind>
     ensures { result ≡ kind_of_both verb left right }
 {

@@ -12,11 +12,13 @@
 //! ints plus NANOSECONDS SUM
 //! dates above NANOSECONDS SUM
 //! longs filter NANOSECONDS SUM
+//! longs within NANOSECONDS SUM
 //! symbols equal NANOSECONDS SUM
 //! symbols equal_one NANOSECONDS SUM
 //! symbols in_50 NANOSECONDS SUM
 //! symbols like NANOSECONDS SUM
 //! symbols order NANOSECONDS NUMBER
+//! symbols filter NANOSECONDS COUNT
 //! long_symbols order NANOSECONDS NUMBER
 //! groups symbols_100 NANOSECONDS GROUPS
 //! sum_by symbols_100 NANOSECONDS SUM

@@ -1,9 +1,10 @@
 //! The verbs over columns of symbols, timed as `timed` does it.
 
 use crate::made::{self, NameLength};
-use crate::timed::{ROUNDS, columns_timed, in_timed, like_timed, one_timed, sum_of};
+use crate::timed::{
+    ROUNDS, a_tenth, columns_timed, filtered, in_timed, like_timed, one_timed, within_timed,
+};
 use anyhow::{Result, bail};
-use q_matching::is_within;
 use q_unary::unary;
 use q_values::{Atom, Kind, Sym, Vector};
 use q_verbs::{Side, Verb, Verb1, result_kind1};
@@ -29,18 +30,16 @@ fn order_timed<R: Clock + Print>(rt: &R, alloc: Global, name: &str, items: &Vect
     Ok(())
 }
 
-// Times `within` between two symbols.
-fn within_timed<R: Clock + Print>(rt: &R, alloc: Global, name: &str, items: &Vector) -> Result<()> {
-    if items.kind() != Kind::Symbol {
-        bail!("no symbols");
-    }
-    let low = Atom::Symbol(Sym::of(alloc, b"S2")?);
-    let high = Atom::Symbol(Sym::of(alloc, b"S6")?);
-    let start = Instant::now(rt)?;
-    let found = is_within(alloc, &Side::Column(items), &low, &high)?;
-    let nanos = start.elapsed(rt)?.as_nanos();
-    let sum = sum_of(alloc, &found)?;
-    println!(rt; "{name} {nanos} {sum}")?;
+// Times the filter of a column of symbols, of which a tenth is kept.
+fn filter_timed<R: Clock + Print>(
+    rt: &R,
+    alloc: Global,
+    items: &Vector,
+    booleans: &Vector,
+) -> Result<()> {
+    let (found, nanos) = filtered(rt, alloc, items, booleans)?;
+    let count = found.len();
+    println!(rt; "symbols filter {nanos} {count}")?;
     Ok(())
 }
 
@@ -67,6 +66,7 @@ fn names_timed<R: Clock + Print>(
     left: &Vector,
     right: &Vector,
     name: &Atom,
+    booleans: &Vector,
 ) -> Result<()> {
     let five = made::first_symbols(alloc, NameLength::Four, 5)?;
     let fifty = made::first_symbols(alloc, NameLength::Four, 50)?;
@@ -77,6 +77,7 @@ fn names_timed<R: Clock + Print>(
         in_timed(rt, alloc, "symbols in_50", left, &fifty)?;
         like_timed(rt, alloc, "symbols like", left)?;
         order_timed(rt, alloc, "symbols order", left)?;
+        filter_timed(rt, alloc, left, booleans)?;
     }
     Ok(())
 }
@@ -90,7 +91,8 @@ pub fn report_symbols<R: Clock + Print + AllocGlobal>(rt: &R, count: u32) -> Res
         bail!("no such columns");
     }
     let name = Atom::Symbol(Sym::of(alloc, b"S042")?);
-    names_timed(rt, alloc, &left, &right, &name)
+    let booleans = a_tenth(alloc, count)?;
+    names_timed(rt, alloc, &left, &right, &name, &booleans)
 }
 
 /// Times the verbs over `count` symbols of 5 to 20 bytes.
@@ -99,12 +101,14 @@ pub fn report_long_symbols<R: Clock + Print + AllocGlobal>(rt: &R, count: u32) -
     let left = made::symbols(alloc, NameLength::FiveToTwenty, count, made::STEP)?;
     let right = made::symbols(alloc, NameLength::FiveToTwenty, count, made::OTHER_STEP)?;
     let fifty = made::first_symbols(alloc, NameLength::FiveToTwenty, 50)?;
+    let low = Atom::Symbol(Sym::of(alloc, b"S2")?);
+    let high = Atom::Symbol(Sym::of(alloc, b"S6")?);
     for _ in 0..ROUNDS {
         columns_timed(rt, alloc, "long_symbols equal", Verb::Eq, &left, &right)?;
         columns_timed(rt, alloc, "long_symbols below", Verb::Lt, &left, &right)?;
         in_timed(rt, alloc, "long_symbols in_50", &left, &fifty)?;
         like_timed(rt, alloc, "long_symbols like", &left)?;
-        within_timed(rt, alloc, "long_symbols within", &left)?;
+        within_timed(rt, alloc, "long_symbols within", &left, &low, &high)?;
         distinct_timed(rt, alloc, "long_symbols distinct", &left)?;
         order_timed(rt, alloc, "long_symbols order", &left)?;
     }

@@ -10,7 +10,7 @@ use crate::made;
 use anyhow::{Result, bail};
 use q_binary::binary;
 use q_filter::places_where;
-use q_matching::{is_in, is_like};
+use q_matching::{is_in, is_like, is_within};
 use q_unary::{aggregate, unary};
 use q_values::{Atom, IntegerKind, Kind, Vector};
 use q_verbs::{Side, Verb, Verb1, result_kind, result_kind1};
@@ -26,6 +26,11 @@ const PREFIX: &[u8] = b"S4*";
 
 /// An atom beside a column.
 const THREE_HUNDRED: Atom = Atom::Integer(300);
+
+/// The least and the greatest long of a range.
+const THREE: Atom = Atom::Long(3);
+
+const TEN: Atom = Atom::Long(10);
 
 /// A tenth of the numbers of 24 bits are below it.
 const A_TENTH: Atom = Atom::Integer(1_677_722);
@@ -147,23 +152,20 @@ pub fn one_timed<R: Clock + Print>(
     binary_timed(rt, alloc, name, verb, &left, &Side::Atom(right))
 }
 
-// Times the filter of one column by the booleans of another comparison, and the gathering of what is kept.
-fn filter_timed<R: Clock + Print>(
+/// Filters a column by booleans and gathers what is kept. Gives that, and the nanoseconds that it took.
+pub fn filtered<R: Clock>(
     rt: &R,
     alloc: Global,
     items: &Vector,
     booleans: &Vector,
-) -> Result<()> {
+) -> Result<(Vector, u128)> {
     if booleans.kind() != Kind::Boolean || items.len() != booleans.len() {
         bail!("no such columns");
     }
     let start = Instant::now(rt)?;
     let places = places_where(alloc, booleans)?;
     let found = items.gather(alloc, &places)?;
-    let nanos = start.elapsed(rt)?.as_nanos();
-    let sum = sum_of(alloc, &found)?;
-    println!(rt; "longs filter {nanos} {sum}")?;
-    Ok(())
+    Ok((found, start.elapsed(rt)?.as_nanos()))
 }
 
 /// Times `in` among the items of a column.
@@ -304,22 +306,45 @@ fn dates_reported<R: Clock + Print>(rt: &R, alloc: Global, count: u32) -> Result
     Ok(())
 }
 
-// A tenth of the longs is kept.
-fn filter_reported<R: Clock + Print>(rt: &R, alloc: Global, count: u32) -> Result<()> {
-    let items = made::longs(alloc, count, made::STEP)?;
+/// Booleans of which a tenth holds.
+pub fn a_tenth(alloc: Global, count: u32) -> Result<Vector> {
     let others = made::integers(alloc, count, IntegerKind::Integer, made::STEP)?;
     if result_kind(Verb::Lt, others.kind(), Kind::Integer).is_none() {
         bail!("no such kinds");
     }
-    let booleans = binary(
-        alloc,
-        Verb::Lt,
-        &Side::Column(&others),
-        &Side::Atom(&A_TENTH),
-    )?;
+    let side = Side::Column(&others);
+    let booleans = binary(alloc, Verb::Lt, &side, &Side::Atom(&A_TENTH))?;
+    Ok(booleans)
+}
+
+fn filter_reported<R: Clock + Print>(rt: &R, alloc: Global, count: u32) -> Result<()> {
+    let items = made::longs(alloc, count, made::STEP)?;
+    let booleans = a_tenth(alloc, count)?;
     for _ in 0..ROUNDS {
-        filter_timed(rt, alloc, &items, &booleans)?;
+        let (found, nanos) = filtered(rt, alloc, &items, &booleans)?;
+        let sum = sum_of(alloc, &found)?;
+        println!(rt; "longs filter {nanos} {sum}")?;
     }
+    Ok(())
+}
+
+/// Times `within` between two atoms.
+pub fn within_timed<R: Clock + Print>(
+    rt: &R,
+    alloc: Global,
+    name: &str,
+    items: &Vector,
+    low: &Atom,
+    high: &Atom,
+) -> Result<()> {
+    if items.kind() != low.kind() || items.kind() != high.kind() {
+        bail!("no such kinds");
+    }
+    let start = Instant::now(rt)?;
+    let found = is_within(alloc, &Side::Column(items), low, high)?;
+    let nanos = start.elapsed(rt)?.as_nanos();
+    let sum = sum_of(alloc, &found)?;
+    println!(rt; "{name} {nanos} {sum}")?;
     Ok(())
 }
 
@@ -328,6 +353,7 @@ fn codes_reported<R: Clock + Print>(rt: &R, alloc: Global, count: u32) -> Result
     let five = made::five(alloc)?;
     for _ in 0..ROUNDS {
         in_timed(rt, alloc, "longs in", &codes, &five)?;
+        within_timed(rt, alloc, "longs within", &codes, &THREE, &TEN)?;
     }
     Ok(())
 }

@@ -19,8 +19,8 @@ loop-i-preserved g c =
     let first : x ≡ get_or items i x = sym (get_or_from_slice_get items i x x c.item.ensures) in
     let there : y ≡ get_or (drop half items) i y = sym (get_or_from_slice_get items (half + i) y y c.item-in-loop-i.ensures) ∙ sym (get_or-drop half items i y) in
     record {
-      best = extreme_more g.P.Pick.wanted g.P.Pick.number g.P.Pick.end c.loop-i.best x c.pick-best.result items i inside first c.loop-i.invariant.best c.pick-best.ensures.picks;
-      other = extreme_more g.P.Pick.wanted g.P.Pick.number g.P.Pick.end c.loop-i.other y c.pick-other.result (drop half items) i within there c.loop-i.invariant.other c.pick-other.ensures.picks;
+      best = extreme_more g.P.Pick.wanted g.P.Pick.number g.P.Pick.end (g.P.Pick.held c.loop-i.best) x (g.P.Pick.held c.pick-best.result) items i inside first c.loop-i.invariant.best c.pick-best.ensures.picks;
+      other = extreme_more g.P.Pick.wanted g.P.Pick.number g.P.Pick.end (g.P.Pick.held c.loop-i.other) y (g.P.Pick.held c.pick-other.result) (drop half items) i within there c.loop-i.invariant.other c.pick-other.ensures.picks;
     }
 
 pub returns-then-half-count : goal.returns-then-half-count
@@ -31,16 +31,16 @@ returns-then-half-count g c =
     let end = g.P.Pick.end in
     let half = c.count-count.result / 2 in
     let at : c.loop-i.i ≡ half = omega (arith, c.loop-i-test.false) in
-    let first = subst (λ (n : ℕ). c.loop-i.best ≡ extreme wanted number end (take n items)) at c.loop-i.invariant.best in
-    let second = subst (λ (n : ℕ). c.loop-i.other ≡ extreme wanted number end (take n (drop half items))) at c.loop-i.invariant.other in
+    let first = subst (λ (n : ℕ). g.P.Pick.held c.loop-i.best ≡ extreme wanted number end (take n items)) at c.loop-i.invariant.best in
+    let second = c.held-last.ensures ∙ subst (λ (n : ℕ). g.P.Pick.held c.loop-i.other ≡ extreme wanted number end (take n (drop half items))) at c.loop-i.invariant.other in
     let both =
-    extreme_joined wanted number c.end-best.ensures.ranks end c.loop-i.best c.loop-i.other c.pick-both.result (take half items) (take half (drop half items)) first second c.pick-both.ensures.picks c.pick-both.ensures.end
+    extreme_joined wanted number c.end-best.ensures.ranks end (g.P.Pick.held c.loop-i.best) c.held-last.result (g.P.Pick.held c.pick-both.result) (take half items) (take half (drop half items)) first second c.pick-both.ensures.picks c.pick-both.ensures.end
     ∙ ap (extreme wanted number end) (sym (take-add half half items)) in
     let inside : half + half < length items = omega (arith, c.if-half-count.true, c.count-count.ensures) in
     let x = c.item-then-half-count.result in
     let there : x ≡ get_or items (half + half) x = sym (get_or_from_slice_get items (half + half) x x c.item-then-half-count.ensures) in
     let whole : take (half + half + 1) items ≡ items = take_all (half + half + 1) items (omega (arith, c.count-count.ensures)) in
-    extreme_more wanted number end c.pick-both.result x c.pick.result items (half + half) inside there both c.pick.ensures.picks
+    c.held.ensures ∙ extreme_more wanted number end (g.P.Pick.held c.pick-both.result) x (g.P.Pick.held c.pick.result) items (half + half) inside there both c.pick.ensures.picks
     ∙ ap (extreme wanted number end) whole
 
 pub returns-else-half-count : goal.returns-else-half-count
@@ -51,9 +51,9 @@ returns-else-half-count g c =
     let end = g.P.Pick.end in
     let half = c.count-count.result / 2 in
     let at : c.loop-i.i ≡ half = omega (arith, c.loop-i-test.false) in
-    let first = subst (λ (n : ℕ). c.loop-i.best ≡ extreme wanted number end (take n items)) at c.loop-i.invariant.best in
-    let second = subst (λ (n : ℕ). c.loop-i.other ≡ extreme wanted number end (take n (drop half items))) at c.loop-i.invariant.other in
+    let first = subst (λ (n : ℕ). g.P.Pick.held c.loop-i.best ≡ extreme wanted number end (take n items)) at c.loop-i.invariant.best in
+    let second = c.held-last.ensures ∙ subst (λ (n : ℕ). g.P.Pick.held c.loop-i.other ≡ extreme wanted number end (take n (drop half items))) at c.loop-i.invariant.other in
     let both =
-    extreme_joined wanted number c.end-best.ensures.ranks end c.loop-i.best c.loop-i.other c.pick-both.result (take half items) (take half (drop half items)) first second c.pick-both.ensures.picks c.pick-both.ensures.end
+    extreme_joined wanted number c.end-best.ensures.ranks end (g.P.Pick.held c.loop-i.best) c.held-last.result (g.P.Pick.held c.pick-both.result) (take half items) (take half (drop half items)) first second c.pick-both.ensures.picks c.pick-both.ensures.end
     ∙ ap (extreme wanted number end) (sym (take-add half half items)) in
-    both ∙ ap (extreme wanted number end) (take_all (half + half) items (omega (arith, c.if-half-count.false, c.count-count.ensures)))
+    c.held-else-half-count.ensures ∙ both ∙ ap (extreme wanted number end) (take_all (half + half) items (omega (arith, c.if-half-count.false, c.count-count.ensures)))

@@ -21,6 +21,6 @@ loop-count-preserved c =
       size = c.in_ok-join_with.ensures.size;
       rows = c.in_ok-join_with.ensures.rows
           ∙ ap (rows_where (form phrase)) c.loop-count.invariant.rows
-          ∙ sym (kept-more (take count (map form phrases)) (form phrase) (frame_where c.args.flags.now.items c.args.scope.now))
-          ∙ ap (λ (fs : List Form). kept fs (frame_where c.args.flags.now.items c.args.scope.now)) (sym more);
+          ∙ sym (kept-more (take count (map form phrases)) (form phrase) (frame_where c.args.flags.now c.args.scope.now))
+          ∙ ap (λ (fs : List Form). kept fs (frame_where c.args.flags.now c.args.scope.now)) (sym more);
     }

@@ -11,19 +11,17 @@ use Rattle.qsql_values.specs.Values.{truths}
 use Rattle.qsql_values.proofs.ByRowLemmas.{joined}
 use Rattle.qsql_values.proofs.joining.join_with.Goals as goal
 
-pub returns-in_ok-test-in_default-clause-size : goal.returns-in_ok-test-in_default-clause-size
-returns-in_ok-test-in_default-clause-size c =
-    let before = c.args.flags.now.items in
-    let test = contents_of c.in_ok-test-in_default.test in
-    let flags : c.flags_of-others.result.now ≡ truths (vector test) = c.flags_of-others.ensures ∙ ap (λ (v : Contents). truths (vector v)) c.vector.ensures in
-    let size : length c.flags_of-others.result.now ≡ length before = ap length flags ∙ length-map test.atoms is_true ∙ c.in_ok-test-in_default.ensures.size ∙ sym c.requires.size in
-    ap length c.keep_items.ensures ∙ length-zip2 (λ (x y : Bool). x && y) before c.flags_of-others.result.now (sym size) ∙ c.requires.size
+pub returns-clause-size : goal.returns-clause-size
+returns-clause-size c =
+    let test = contents_of c.in_ok-test.test in
+    let flags : c.flags_of.result.now ≡ truths (vector test) = c.flags_of.ensures ∙ ap (λ (v : Contents). truths (vector v)) c.vector.ensures in
+    let size : length c.flags_of.result.now ≡ length c.args.flags.now = ap length flags ∙ length-map test.atoms is_true ∙ c.in_ok-test.ensures.size ∙ sym c.requires.size in
+    ap length c.keep_both.ensures ∙ length-zip2 (λ (x y : Bool). x && y) c.args.flags.now c.flags_of.result.now (sym size) ∙ c.requires.size
 
-pub returns-in_ok-test-in_default-clause-rows : goal.returns-in_ok-test-in_default-clause-rows
-returns-in_ok-test-in_default-clause-rows c =
-    let before = c.args.flags.now.items in
-    let test = contents_of c.in_ok-test-in_default.test in
-    let flags : c.flags_of-others.result.now ≡ truths (vector test) = c.flags_of-others.ensures ∙ ap (λ (v : Contents). truths (vector v)) c.vector.ensures in
-    let together : c.keep_items.new.flags.items ≡ both before (truths (vector test)) = c.keep_items.ensures ∙ ap (both before) flags in
+pub returns-clause-rows : goal.returns-clause-rows
+returns-clause-rows c =
+    let test = contents_of c.in_ok-test.test in
+    let flags : c.flags_of.result.now ≡ truths (vector test) = c.flags_of.ensures ∙ ap (λ (v : Contents). truths (vector v)) c.vector.ensures in
+    let together : c.keep_both.new.flags ≡ both c.args.flags.now (truths (vector test)) = c.keep_both.ensures ∙ ap (both c.args.flags.now) flags in
     ap (λ (fs : List Bool). frame_where fs c.args.scope.now) together
-    ∙ sym (joined before c.args.scope.now (form c.args.phrase.now) test c.requires.by_row (sym c.in_ok-test-in_default.ensures.value) (c.in_ok-test-in_default.ensures.size ∙ sym c.requires.size))
+    ∙ sym (joined c.args.flags.now c.args.scope.now (form c.args.phrase.now) test c.requires.by_row (sym c.in_ok-test.ensures.value) (c.in_ok-test.ensures.size ∙ sym c.requires.size))
