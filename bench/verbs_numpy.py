@@ -59,6 +59,7 @@ def report(count):
     kept = a < 1_677_722
     for _ in range(ROUNDS):
         timed("longs", "filter", lambda: x[numpy.flatnonzero(kept)])
+    for _ in range(ROUNDS):
         timed("longs", "in", lambda: numpy.isin(few, five))
         timed("longs", "within", lambda: (few >= 3) & (few <= 10))
 

@@ -332,15 +332,10 @@ class Folders(unittest.TestCase):
             for text, why in DEEP_REFUSED:
                 with self.subTest(text=text[:40]):
                     self.assert_refused(plant, text, why)
-        self.assertEqual(plant.status, 0)
-
-    def test_unfinished_texts_on_a_stack_of_512_kibibytes(self):
-        """Where a text ends too early, what was read of it is dropped by a function that calls itself."""
-        for text in DEEP_UNFINISHED:
-            with self.subTest(text=text[:40]):
-                with self.on_stack_of(512) as plant:
+            for text in DEEP_UNFINISHED:
+                with self.subTest(text=text[:40]):
                     self.assert_refused(plant, text, "parse")
-                self.assertEqual(plant.status, 0)
+        self.assertEqual(plant.status, 0)
 
     def on_stack_of(self, kibibytes):
         """A program in memory whose stack has this size."""

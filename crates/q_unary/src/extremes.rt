@@ -245,7 +245,8 @@ fn lowered_64(x: i64) -> i64
 }
 
 fn lesser_64(state: i64, x: &i64) -> i64
-    ensures picks { Picks is_le (number_in w64) (pos 9223372036854775807) (raised (pos 9223372036854775807) state) x.now (raised (pos 9223372036854775807) result) }
+    ensures picks { Picks is_le (number_in w64) (pos 9223372036854775807) (raised (pos 9223372036854775807) state) x.now
+        (raised (pos 9223372036854775807) result) }
     ensures end { x.now ≡ pos 9223372036854775807 → raised (pos 9223372036854775807) result ≡ raised (pos 9223372036854775807) state }
 {
     state.min(lowered_64(*x))

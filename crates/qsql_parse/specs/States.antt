@@ -1,5 +1,5 @@
 -- The states of the reader as contracts see them.
-use Rattle.std.specs.Prelude.{◌≡◌, Option, Some, None, Result, Ok, Err, map}
+use Rattle.std.specs.Prelude.{◌≡◌, List, [], ◌∷◌, Option, Some, None, Result, Ok, Err, map}
 use Rattle.qsql_request.specs.Views.{form, column_form, query_of, source_of, sub_of, request_of}
 use Rattle.qsql_parse.specs.Machine.{DraftForm, SideForm, to_left, to_right, OuterForm, alone, bare, bracketed, BaseForm, of_column, of_phrase}
 use Rattle.qsql_parse.specs.Machine.{StackForm, base, right_of, under, in_brackets, applied, first_of_two, second_of_two, StateForm, start}
@@ -14,9 +14,9 @@ use Rattle.qsql_parse.specs.declared.state.Outer.{Outer}
 use Rattle.qsql_parse.specs.declared.state.Outer.TheVariants as o
 use Rattle.qsql_parse.specs.declared.state.Base.{Base}
 use Rattle.qsql_parse.specs.declared.state.Base.TheVariants as b
+use Rattle.qsql_parse.specs.declared.state.Frame.{Frame}
+use Rattle.qsql_parse.specs.declared.state.Frame.TheVariants as f
 use Rattle.qsql_parse.specs.declared.state.Stack.{Stack}
-use Rattle.qsql_parse.specs.declared.state.Stack.TheOpen.{Stack-F}
-use Rattle.qsql_parse.specs.declared.state.Stack.TheFolds.{fold-Stack}
 use Rattle.qsql_parse.specs.declared.state.QueryState.{QueryState}
 use Rattle.qsql_parse.specs.declared.state.QueryState.TheVariants as q
 use Rattle.qsql_parse.specs.declared.state.ExpressionState.{ExpressionState}
@@ -46,17 +46,21 @@ abbrev pub base_of : Base → BaseForm
 base_of (b.Column o d g n) = of_column (outer_of o) (draft_of d) g n
 base_of (b.Phrase o q) = of_phrase (outer_of o) (query_of q)
 
-abbrev pub stack_step : Stack-F StackForm → StackForm
-stack_step (Stack-F.Base b) = base (base_of b)
-stack_step (Stack-F.RightOf v l k) = right_of v (form l) k.value
-stack_step (Stack-F.Under u k) = under u k.value
-stack_step (Stack-F.InBrackets k) = in_brackets k.value
-stack_step (Stack-F.Applied u k) = applied u k.value
-stack_step (Stack-F.FirstOfTwo v k) = first_of_two v k.value
-stack_step (Stack-F.SecondOfTwo v l k) = second_of_two v (form l) k.value
+-- what a frame makes of the stack that it is within
+abbrev pub around : Frame → StackForm → StackForm
+around (f.RightOf v l) k = right_of v (form l) k
+around (f.Under u) k = under u k
+around f.InBrackets k = in_brackets k
+around (f.Applied u) k = applied u k
+around (f.FirstOfTwo v) k = first_of_two v k
+around (f.SecondOfTwo v l) k = second_of_two v (form l) k
+
+abbrev pub stack_on : BaseForm → List Frame → StackForm
+stack_on b [] = base b
+stack_on b (frame ∷ outer) = around frame (stack_on b outer)
 
 abbrev pub stack_of : Stack → StackForm
-stack_of = fold-Stack StackForm stack_step
+stack_of s = stack_on (base_of s.base) s.frames.items
 
 abbrev pub query_state_of : OuterForm → QueryState → StateForm
 query_state_of o (q.VerbRead x) = verb_read o x

@@ -1,13 +1,15 @@
 //! Reading a request from its tokens, one at a time.
 ghost use Rattle.std.specs.Prelude.{◌≡◌, map, []};
 ghost use Rattle.qsql_tokens.specs.Views.{token_of, placed_of};
-ghost use Rattle.qsql_parse.specs.States.{state_of, query_state_of, expression_state_of, join_state_of, sub_state_of, outer_of, stack_of, Steps};
+ghost use Rattle.qsql_parse.specs.States.{base_of, state_of, query_state_of, expression_state_of, join_state_of, sub_state_of, outer_of, stack_of, Steps};
 ghost use Rattle.qsql_parse.specs.States.{Finds, IsFinished};
 ghost use Rattle.qsql_request.specs.Views.{form, query_of, request_of};
 ghost use Rattle.qsql_parse.specs.Machine.{step, start, dyad_read, whole, whole_query, whole_base, whole_expr};
 ghost use Rattle.qsql_parse.specs.Reading.{reading, Reads};
 
-use crate::expression_steps::{after_monad, after_term, before_expression, boxed};
+use crate::expression_steps::{
+    after_monad, after_term, before_expression, one_of, two_of, wanted_within,
+};
 use crate::outer_steps::{
     after_source, at_start, before_keys, before_names, before_query, before_source, before_tables,
     expect_mark,
@@ -18,7 +20,7 @@ use crate::query_steps::{
 };
 use crate::refusal::{ParseRefusal, Stop};
 use crate::state::{
-    Base, ExpressionState, JoinState, Outer, QueryState, Side, Stack, State, SubState,
+    Base, ExpressionState, Frame, JoinState, Outer, QueryState, Side, Stack, State, SubState,
 };
 use q_verbs::Verb;
 use qsql_request::{Expr, Query, Request};
@@ -52,14 +54,13 @@ fn next_in_query(
 }
 
 // The state after a verb with two sides that precedes its brackets.
-fn after_dyad(alloc: Global, verb: Verb, stack: Stack, token: &Token) -> Result<State, Stop>
+fn after_dyad(verb: Verb, stack: Stack, token: &Token) -> Result<State, Stop>
     ensures { Steps result (step (dyad_read verb (stack_of stack)) (token_of token.now)) }
 {
-    let outer = boxed(alloc, stack)?;
     expect_mark(
         token,
         Mark::Open,
-        State::InExpression(Stack::FirstOfTwo(verb, outer), ExpressionState::Wanted),
+        wanted_within(stack, Frame::FirstOfTwo(verb))?,
     )
 }
 
@@ -73,9 +74,9 @@ fn next_in_expression(
     ensures { Steps result (step (expression_state_of (stack_of stack) state) (token_of token)) }
 {
     match state {
-        ExpressionState::Wanted => before_expression(alloc, stack, token),
-        ExpressionState::MonadRead(verb) => after_monad(alloc, verb, stack, token),
-        ExpressionState::DyadRead(verb) => after_dyad(alloc, verb, stack, &token),
+        ExpressionState::Wanted => before_expression(stack, token),
+        ExpressionState::MonadRead(verb) => after_monad(verb, stack, token),
+        ExpressionState::DyadRead(verb) => after_dyad(verb, stack, &token),
         ExpressionState::Got(expr) => after_term(alloc, expr, stack, &token),
     }
 }
@@ -140,30 +141,30 @@ fn whole_of_query(outer: Outer, query: Query) -> Result<Request, Stop>
     }
 }
 
+// The request of a query whose last column or phrase ends the text.
+fn whole_of_base(base: Base, expr: Expr) -> Result<Request, Stop>
+    ensures { Finds request_of result (whole_base (base_of base) (form expr)) }
+{
+    match base {
+        Base::Phrase(outer, query) => whole_of_query(outer, with_condition(query, expr)?),
+        Base::Column(_, _, _, _) => Err(Stop::Here),
+    }
+}
+
 // The request of a query whose last expression ends the text.
 fn whole_of_expression(alloc: Global, mut stack: Stack, mut expr: Expr) -> Result<Request, Stop>
     ensures { Finds request_of result (whole_expr (stack_of stack) (form expr)) }
 {
     // A loop, so that a long expression takes little of the stack.
     loop {
-        match stack {
-            Stack::Base(Base::Phrase(outer, query)) => {
-                let query = with_condition(query, expr)?;
-                return whole_of_query(outer, query);
-            }
-            Stack::Base(Base::Column(_, _, _, _)) => return Err(Stop::Here),
-            Stack::RightOf(verb, left, outer) => {
-                expr = Expr::Two(verb, boxed(alloc, left)?, boxed(alloc, expr)?);
-                stack = Box::into_inner(outer);
-            }
-            Stack::Under(verb, outer) => {
-                expr = Expr::One(verb, boxed(alloc, expr)?);
-                stack = Box::into_inner(outer);
-            }
-            Stack::InBrackets(_) => return Err(Stop::Here),
-            Stack::Applied(_, _) => return Err(Stop::Here),
-            Stack::FirstOfTwo(_, _) => return Err(Stop::Here),
-            Stack::SecondOfTwo(_, _, _) => return Err(Stop::Here),
+        match stack.frames.pop_front() {
+            None => return whole_of_base(stack.base, expr),
+            Some(Frame::RightOf(verb, left)) => expr = two_of(alloc, verb, left, expr)?,
+            Some(Frame::Under(verb)) => expr = one_of(alloc, verb, expr)?,
+            Some(Frame::InBrackets) => return Err(Stop::Here),
+            Some(Frame::Applied(_)) => return Err(Stop::Here),
+            Some(Frame::FirstOfTwo(_)) => return Err(Stop::Here),
+            Some(Frame::SecondOfTwo(_, _)) => return Err(Stop::Here),
         }
     }
 }

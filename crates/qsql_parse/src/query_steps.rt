@@ -4,7 +4,8 @@ ghost use Rattle.qsql_tokens.specs.Views.{token_of};
 ghost use Rattle.qsql_parse.specs.States.{state_of, base_of, outer_of, draft_of, Steps};
 ghost use Rattle.qsql_request.specs.Views.{form, query_of};
 ghost use Rattle.qsql_parse.specs.Machine.{step, step_base, step_columns, step_column, step_name, step_selected, step_verb, step_table, is_from};
-ghost use Rattle.qsql_parse.specs.Machine.{is_by, is_where, grown, with_table, with_phrase, fresh, table_wanted, number_wanted, number_read};
+ghost use Rattle.qsql_parse.specs.Machine.{is_by, is_where, grown, with_table, with_phrase, fresh, wanted, base, of_phrase};
+ghost use Rattle.qsql_parse.specs.Machine.{table_wanted, number_wanted, number_read};
 
 use crate::expression_steps::{after_term, before_expression};
 use crate::outer_steps::{after_query, expect_mark};
@@ -101,6 +102,14 @@ fn after_columns(outer: Outer, draft: Draft, grouped: bool, token: &Token) -> Re
     }
 }
 
+// The state before a phrase.
+fn before_phrase(alloc: Global, outer: Outer, query: Query) -> State
+    ensures { state_of result ≡ wanted (base (of_phrase (outer_of outer) (query_of query))) }
+{
+    let stack = Stack::of(alloc, Base::Phrase(outer, query));
+    State::InExpression(stack, ExpressionState::Wanted)
+}
+
 /// The state after a whole expression of a query.
 pub fn after_base(alloc: Global, base: Base, expr: Expr, token: &Token) -> Result<State, Stop>
     ensures { Steps result (step_base (base_of base) (form expr) (token_of token.now)) }
@@ -117,10 +126,7 @@ pub fn after_base(alloc: Global, base: Base, expr: Expr, token: &Token) -> Resul
         Base::Phrase(outer, query) => {
             let query = with_condition(query, expr)?;
             if token.is(Mark::Comma) {
-                Ok(State::InExpression(
-                    Stack::Base(Base::Phrase(outer, query)),
-                    ExpressionState::Wanted,
-                ))
+                Ok(before_phrase(alloc, outer, query))
             } else {
                 after_query(alloc, outer, query, token)
             }
@@ -142,7 +148,7 @@ pub fn before_column(
         Ok(name) => Ok(State::InQuery(outer, QueryState::NameRead(draft, grouped, name))),
         Err(other) => {
             let base = Base::Column(outer, draft, grouped, None);
-            before_expression(alloc, Stack::Base(base), other)
+            before_expression(Stack::of(alloc, base), other)
         }
     }
 }
@@ -160,10 +166,10 @@ pub fn after_name(
 {
     if token.is(Mark::Colon) {
         let base = Base::Column(outer, draft, grouped, Some(name));
-        Ok(State::InExpression(Stack::Base(base), ExpressionState::Wanted))
+        Ok(State::InExpression(Stack::of(alloc, base), ExpressionState::Wanted))
     } else {
         let base = Base::Column(outer, draft, grouped, None);
-        after_term(alloc, Expr::Name(name), Stack::Base(base), token)
+        after_term(alloc, Expr::Name(name), Stack::of(alloc, base), token)
     }
 }
 
@@ -243,10 +249,7 @@ pub fn after_table(alloc: Global, outer: Outer, query: Query, token: &Token) -> 
     ensures { Steps result (step_table (outer_of outer) (query_of query) (token_of token.now)) }
 {
     if is_where_word(token.word()) {
-        Ok(State::InExpression(
-            Stack::Base(Base::Phrase(outer, query)),
-            ExpressionState::Wanted,
-        ))
+        Ok(before_phrase(alloc, outer, query))
     } else {
         after_query(alloc, outer, query, token)
     }

@@ -1,10 +1,16 @@
 //! The state of the reader: what has been read of a request, and what is expected next.
 //!
-//! Brackets and pending verbs are kept on a stack on the heap, so no text can make the reader recurse deeply.
+//! Brackets and pending verbs are kept in a list on the heap, so no text can make the reader recurse, nor the end of what
+//! it has read.
+ghost use Rattle.std.specs.Prelude.{◌≡◌, IfOk};
+ghost use Rattle.qsql_parse.specs.States.{around, base_of, stack_of};
+ghost use Rattle.qsql_parse.specs.Machine;
 
-use q_values::{Names, Sym};
+use q_values::{Names, NoMemory, Sym};
 use q_verbs::{Verb, Verb1};
 use qsql_request::{Cols, Expr, Query, Request, Source, SubRequest};
+use std::alloc::Global;
+use std::collections::VecDeque;
 
 /// A query before its `from`.
 #[derive(Drop)]
@@ -48,23 +54,51 @@ pub enum Base {
     Phrase(Outer, Query),
 }
 
-/// What an expression is part of, innermost first.
+/// What an expression is within: a verb that awaits it, or brackets.
 #[derive(Drop)]
-pub enum Stack {
-    /// A column or a phrase.
-    Base(Base),
+pub enum Frame {
     /// The right side of a verb.
-    RightOf(Verb, Expr, Box<Stack>),
+    RightOf(Verb, Expr),
     /// The side of a verb without brackets.
-    Under(Verb1, Box<Stack>),
+    Under(Verb1),
     /// Parentheses.
-    InBrackets(Box<Stack>),
+    InBrackets,
     /// The brackets of a verb with one side.
-    Applied(Verb1, Box<Stack>),
+    Applied(Verb1),
     /// The brackets of a verb with two sides, before `;`.
-    FirstOfTwo(Verb, Box<Stack>),
+    FirstOfTwo(Verb),
     /// The brackets of a verb with two sides, after `;`.
-    SecondOfTwo(Verb, Expr, Box<Stack>),
+    SecondOfTwo(Verb, Expr),
+}
+
+/// What an expression is part of.
+#[derive(Drop)]
+pub struct Stack {
+    /// The column or phrase.
+    pub base: Base,
+    /// The verbs and brackets around the expression, innermost first.
+    pub frames: VecDeque<Frame>,
+}
+
+impl Stack {
+    /// The stack of an expression that is the whole column or phrase.
+    pub fn of(alloc: Global, base: Base) -> Stack
+        ensures { stack_of result ≡ Machine.base (base_of base) }
+    {
+        Stack {
+            base,
+            frames: VecDeque::new(alloc),
+        }
+    }
+
+    /// The stack of an expression within the frame, which is within this stack.
+    pub fn with(self, frame: Frame) -> Result<Stack, NoMemory>
+        ensures { IfOk result (λ stack. stack_of stack ≡ around frame (stack_of self)) }
+    {
+        let mut stack = self;
+        stack.frames.push_front(frame)?;
+        Ok(stack)
+    }
 }
 
 /// The state within a query. A flag `exec` says whether it is an `exec`.
