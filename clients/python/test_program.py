@@ -53,6 +53,7 @@ DEEP_REFUSED = (
     (f"exec {'neg ' * 1020}sizes from trade", "sizes"),
     (f"exec {'neg ' * 1020}sym from trade", "type"),
     (f"exec x:{'neg size-' * 338}sym from trade", "type"),
+    (f"exec {'neg size-' * 338}sym from trade", "nyi"),
 )
 
 # Texts that end, or go on with a word, where such an expression lacks its last side.
