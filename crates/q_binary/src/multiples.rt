@@ -1,5 +1,5 @@
 //! `xbar` of a column by one width.
-ghost use Rattle.std.specs.Prelude.{◌≡◌, ◌<ℤ◌, pos, IfOk, map};
+ghost use Rattle.std.specs.Prelude.{◌≡◌, ◌<ℤ◌, pos, Some, IfOk, map};
 ghost use Rattle.std.specs.Int.{w64};
 ghost use Rattle.q_binary.specs.Computed.{computed};
 ghost use Rattle.q_verbs.specs.Numbers.{number_in};
@@ -12,18 +12,16 @@ use std::alloc::{AllocError, Global};
 // The greatest multiple of a width above 0 that isn't above a number.
 #[derive(Drop)]
 struct Multiples {
-    width: i64,
-    divisor: Divisor,
-    ghost of_width: { pos divisor.value ≡ width },
+    width: Divisor,
 }
 
 impl Multiples {
     // The multiple below a number, wrapped to 64 bits, or the null.
     fn below(&self, number: i64) -> Option<i64>
-        ensures { result ≡ computed multiple_of (number_in w64 self.now.width) (number_in w64 number) }
+        ensures { result ≡ computed multiple_of (Some self.now.width.value) (number_in w64 number) }
     {
         if number > i64::MIN {
-            Some(self.width.wrapping_mul(self.divisor.floored(number)))
+            Some(self.width.below(number))
         } else {
             None
         }
@@ -31,12 +29,11 @@ impl Multiples {
 }
 
 impl<T: Number, U: Reduced> Rule<T, U> for Multiples {
-    ghost use Rattle.std.specs.Int.{w64};
+    ghost use Rattle.std.specs.Prelude.{Some};
     ghost use Rattle.q_binary.specs.Computed.{computed};
-    ghost use Rattle.q_verbs.specs.Numbers.{number_in};
     ghost use Rattle.q_verbs.specs.Places.{multiple_of};
 
-    ghost value = { λ s x. U.of (computed multiple_of (number_in w64 s.width) (T.number x)) };
+    ghost value = { λ s x. U.of (computed multiple_of (Some s.width.value) (T.number x)) };
 
     fn apply(&self, x: &T) -> U {
         U::reduced_from(self.below(x.widened()))
@@ -54,8 +51,7 @@ pub(crate) fn multiples_of<T: Number, U: Reduced>(
         ≡ map (λ x. U.of (computed multiple_of (number_in w64 width) (T.number x))) items.now) }
 {
     let rule = Multiples {
-        width,
-        divisor: Divisor::of(width),
+        width: Divisor::of(width),
     };
     map_items::<Multiples, T, U>(alloc, &rule, items)
 }
