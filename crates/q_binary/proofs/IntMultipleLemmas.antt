@@ -1,7 +1,10 @@
 -- Multiples of a width of 31 bits.
-use Rattle.std.proofs.Common.{◌≡◌, ◌+◌, ◌-◌, ◌*◌, ◌/◌, ◌%◌, ◌<◌, ◌≤◌, ℕ, ℤ, pos, ◌*ℤ◌, Bool, true, false, if◌then◌else◌, Option, Some, None, arith, ap, sym, ◌∙◌}
+use Rattle.std.proofs.Common.{refl, List, [], ◌∷◌, ◌++◌, length, take, drop, map, get_or, set, ◌≡◌, ◌+◌, ◌-◌, ◌*◌, ◌/◌, ◌%◌, ◌<◌, ◌≤◌, ℕ, ℤ, pos, ◌*ℤ◌, Bool, true, false, if◌then◌else◌, Option, Some, None, arith, ap, sym, ◌∙◌}
 use Rattle.std.proofs.Math.Nat.{div-mul-le_self, mul-le-mul_left, mul-le-mul_right, mul_comm, div-add-mod}
 use Rattle.std.proofs.lemmas.Int.{ints}
+use Rattle.std.proofs.lemmas.List.{take_more, drop_more, map_push, length-set, map-append}
+use Rattle.std.proofs.lemmas.Grind.{take-set_at, drop-set_at}
+use Rattle.std.proofs.Math.Seq.{take-add}
 use Rattle.std.specs.Int.{w32, w64, int_wrap}
 use Rattle.std.specs.Int.RustNames.{int_lt}
 use Rattle.std.specs.Option.{option_map}
@@ -49,3 +52,21 @@ multiple w x h = ap (λ (b : Bool). if b then None else Some (pos w *ℤ floor_d
 pub int_multiple_is : (w : ℕ) (x z : ℤ) → 0 < w → int_lt (least w32) x ≡ true → z ≡ (pos w *ℤ floor_div x (pos w)) → int_wrap w32 z ≡ int_multiple (pos w) x
 int_multiple_is w x z h l e =
     rw l (ap (int_wrap w32) e ∙ sym (int_wrap-32 (pos w *ℤ floor_div x (pos w))) ∙ ap (λ (m : Option ℤ). reduced w32 (option_map (int_wrap w64) m)) (sym (multiple w x h)))
+
+-- one item more that is replaced
+pub replaced : (f : ℤ → ℤ) (old now : List ℤ) (i : ℕ) (y : ℤ) → i < length now → length now ≡ length old → take i now ≡ map f (take i old) → drop i now ≡ drop i old → y ≡ f (get_or now i (pos 0))
+    → (take (i + 1) (set now i y) ≡ map f (take (i + 1) old)) × (drop (i + 1) (set now i y) ≡ drop (i + 1) old) × (length (set now i y) ≡ length old)
+replaced f old now i y less size front back is =
+    let less' : i < length old = omega (arith, less, size) in
+    let both : get_or now i (pos 0) ∷ drop (i + 1) now ≡ get_or old i (pos 0) ∷ drop (i + 1) old = sym (drop_more now i (pos 0) less) ∙ back ∙ drop_more old i (pos 0) less' in
+    let head : get_or now i (pos 0) ≡ get_or old i (pos 0) = ap (λ (l : List ℤ). get_or l 0 (pos 0)) both in
+    let size' : length (set now i y) ≡ length now = length-set now i y in (
+      take-set_at now i (i + 1) y refl less ∙ ap (λ (l : List ℤ). l ++ y ∷ []) front ∙ ap (λ (x : ℤ). map f (take i old) ++ x ∷ []) (is ∙ ap f head)
+          ∙ sym (map_push f (take i old) (get_or old i (pos 0))) ∙ ap (map f) (sym (take_more old i (pos 0) less')),
+      ap (drop 1) (sym (drop_more (set now i y) i (pos 0) (omega (arith, less, size'))) ∙ drop-set_at now i i y refl less) ∙ ap (drop 1) both,
+      size' ∙ size,
+    )
+
+-- a part more of a list whose items a function changes
+pub grown : (f : ℤ → ℤ) (xs : List ℤ) (done part : ℕ) → map f (take done xs) ++ map f (take part (drop done xs)) ≡ map f (take (done + part) xs)
+grown f xs done part = sym (map-append f (take done xs) (take part (drop done xs))) ∙ ap (map f) (sym (take-add done part xs))

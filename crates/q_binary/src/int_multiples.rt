@@ -1,10 +1,9 @@
 //! `xbar` of a column of ints by one width, in 32 bits.
-ghost use Rattle.std.specs.Prelude.{◌≡◌, ◌<◌, ◌≤◌, ◌+◌, ◌*◌, ◌%◌, ◌^◌, ◌<ℤ◌, ◌≤ℤ◌, ◌-ℤ◌, ◌*ℤ◌, pos, negsuc, IfOk, map};
+ghost use Rattle.std.specs.Prelude.{◌≡◌, ◌<◌, ◌≤◌, ◌+◌, ◌*◌, ◌%◌, ◌^◌, ◌<ℤ◌, ◌≤ℤ◌, ◌-ℤ◌, ◌*ℤ◌, pos, negsuc, IfOk, OnOk, ◌++◌, map};
 ghost use Rattle.std.specs.Int.{w32};
 ghost use Rattle.q_binary.specs.Computed.{int_multiple};
 ghost use Rattle.q_verbs.specs.Places.{floor_div};
 
-use q_lanes::{Rule, map_items};
 use std::alloc::{AllocError, Global};
 
 // The greatest multiple of a width above 0 that isn't above an int. Nothing here wants more than 32 bits but one product,
@@ -85,15 +84,26 @@ impl IntMultiples {
     }
 }
 
-impl Rule<i32, i32> for IntMultiples {
-    ghost use Rattle.std.specs.Prelude.{pos};
-    ghost use Rattle.q_binary.specs.Computed.{int_multiple};
+// Ints that are copied and then changed, before the next ones are: they stay in the cache.
+const PART: usize = 4096;
 
-    ghost value = { λ s x. int_multiple (pos s.width) x };
-
-    fn apply(&self, x: &i32) -> i32 {
-        self.below(*x)
+// Puts the multiple below each int in its place.
+fn replace_each(rule: &IntMultiples, items: &mut [i32])
+    ensures { items.new ≡ map (int_multiple (pos rule.now.width)) items.old }
+{
+    for item in items.iter_mut() {
+        *item = rule.below(*item);
     }
+}
+
+// Appends the multiple below each int.
+fn append_each(rule: &IntMultiples, items: &[i32], out: &mut Vec<i32>) -> Result<(), AllocError>
+    ensures { OnOk result (out.new.items ≡ out.old.items ++ map (int_multiple (pos rule.now.width)) items.now) }
+{
+    let start = out.len();
+    out.extend_from_slice(items)?;
+    replace_each(rule, &mut out[start..]);
+    Ok(())
 }
 
 /// `xbar` of each int by one width above 0.
@@ -106,5 +116,12 @@ pub(crate) fn multiples_of_ints(
     ensures { IfOk result (λ v. v.items ≡ map (int_multiple width) items.now) }
 {
     let rule = IntMultiples::of(width);
-    map_items::<IntMultiples, i32, i32>(alloc, &rule, items)
+    let mut values = Vec::with_capacity(alloc, items.len())?;
+    let mut done = 0;
+    while done < items.len() {
+        let end = done + PART.min(items.len() - done);
+        append_each(&rule, &items[done..end], &mut values)?;
+        done = end;
+    }
+    Ok(values)
 }
