@@ -1,3 +1,4 @@
+pub mod BlockLemmas
 pub mod AmongLemmas
 pub mod LawLemmas
 pub mod LikeLemmas

@@ -22,6 +22,7 @@
 mod among;
 mod among_names;
 mod among_numbers;
+mod flags;
 pub mod laws;
 mod like;
 mod within;

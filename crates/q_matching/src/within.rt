@@ -11,9 +11,8 @@ ghost use Rattle.q_verbs.specs.Numbers.{numeric, worth};
 ghost use Rattle.q_verbs.specs.Sides.{side_kind, items_of};
 ghost use Rattle.q_verbs.specs.Tests.{lies_within};
 
-use q_lanes::{
-    Cells, Number, Ordered, Rule, TextList, Texts, booleans, map_items, number_of_atom, order_of,
-};
+use crate::flags::flags_of;
+use q_lanes::{Cells, Number, Ordered, Rule, TextList, Texts, booleans, number_of_atom, order_of};
 use q_values::{Atom, Element, NoMemory, ShortSymbol, Vector};
 use q_verbs::Side;
 use std::alloc::{AllocError, Global};
@@ -48,7 +47,7 @@ fn within_items<T: Ordered>(
         low: *low,
         high: *high,
     };
-    map_items::<Between<T>, T, bool>(alloc, &rule, items)
+    flags_of::<Between<T>, T>(alloc, &rule, items)
 }
 
 // Whether a number of any width lies between two numbers of 64 bits.
@@ -89,7 +88,7 @@ fn within_numbers<T: Number>(
         low: *low,
         high: *high,
     };
-    map_items::<BetweenWide, T, bool>(alloc, &rule, items)
+    flags_of::<BetweenWide, T>(alloc, &rule, items)
 }
 
 // Numbers of any width between numbers of 64 bits.
