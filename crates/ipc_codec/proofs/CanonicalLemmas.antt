@@ -1,8 +1,8 @@
 -- Vectors in their canonical encoding: what is read is what was written, byte for byte.
-use Rattle.std.proofs.Common.{nat_eq, ◌≡◌, ℕ, ℤ, zero, suc, ◌+◌, ◌-◌, ◌*◌, ◌<◌, ◌≤◌, ◌^◌, Bool, true, false, List, [], ◌∷◌, ◌++◌, length, get_or, take, drop, Result, Ok, Err, Some, None, refl, sym, ap, subst, ◌∙◌, append_assoc, arith, All, Fits, w8}
-use Rattle.std.specs.Prelude.{nat_le, slice_get, slice_index, if◌then◌else◌, ◌&&◌, Option}
+use Rattle.std.proofs.Common.{◌≡◌, ℕ, ℤ, zero, suc, ◌-◌, ◌<◌, ◌≤◌, ◌^◌, Bool, true, false, List, [], ◌∷◌, ◌++◌, length, get_or, take, drop, Result, Ok, Err, Some, None, refl, sym, ap, subst, ◌∙◌, arith, All, Fits, w8}
+use Rattle.std.specs.Prelude.{nat_le, slice_get, slice_index, if◌then◌else◌}
 use Rattle.std.specs.List.{AllByRecursion, flat_map, list_all}
-use Rattle.std.specs.Int.{w16, w32, w64, cast_unsigned, cast_signed, from_le_bytes}
+use Rattle.std.specs.Int.{w16, w32, w64, cast_unsigned}
 use Rattle.std.proofs.lemmas.Bool.{leb-true}
 use Rattle.std.proofs.lemmas.Int.{of_z-to_z}
 use Rattle.std.proofs.lemmas.Nat.{le_bytes_2, le_bytes_4, le_bytes_8}
@@ -12,7 +12,7 @@ use Rattle.byteorder.specs.Endian.{little_bytes, little_number}
 use Rattle.q_values.specs.Atom.{kind_of}
 use Rattle.q_values.specs.Contents.{Contents}
 use Rattle.q_values.specs.Kind.{kind_at, type_number}
-use Rattle.q_values.specs.Tree.{Tree, vector}
+use Rattle.q_values.specs.Tree.{vector}
 use Rattle.q_values.specs.declared.atom.Atom.{Atom}
 use Rattle.q_values.specs.declared.atom.Atom.TheVariants as a
 use Rattle.q_values.specs.declared.kind.Kind.{Kind}
@@ -26,8 +26,8 @@ use Rattle.ipc_codec.specs.declared.order.Order.TheVariants as o
 use Rattle.ipc_codec.specs.Canonical.{IsWritable, BeginsWith, BeginsWithNone, IfNotCanonical, is_boolean, fault_of}
 use Rattle.ipc_codec.specs.Numbers.{boolean_of, short_of, integer_of, long_of, number}
 use Rattle.ipc_codec.specs.Reading.{Stops, vector_at}
-use Rattle.ipc_codec.specs.Written.{element_bytes, vector_bytes, written, AtomFits, VectorFits, IsPlain}
-use Rattle.ipc_codec.specs.Spells.{InTurn, SpellsCount, SpellsElement, SpellsElementOf, SpellsVector, Spells}
+use Rattle.ipc_codec.specs.Written.{element_bytes, vector_bytes, written, AtomFits}
+use Rattle.ipc_codec.specs.Spells.{InTurn, SpellsElement, SpellsElementOf, SpellsVector, Spells}
 use Rattle.ipc_codec.proofs.ElementLemmas.{vector_took}
 use Rattle.ipc_codec.proofs.LawLemmas.{no_spelling_begins}
 use Rattle.ipc_codec.proofs.PlainLemmas.{spelled-fit}

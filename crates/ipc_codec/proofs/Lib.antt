@@ -16,3 +16,4 @@ pub mod PlainLemmas
 pub mod LengthLemmas
 pub mod FitLemmas
 pub mod CanonicalLemmas
+pub mod MemoryLemmas

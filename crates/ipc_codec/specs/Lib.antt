@@ -7,6 +7,7 @@ pub mod Written
 pub mod Appends
 pub mod Spells
 pub mod Laws
+pub mod Memory
 pub mod Lengths
 pub mod Decoded
 pub mod Canonical

@@ -30,6 +30,7 @@
 //! may nest 64 levels deep.
 #![tactic(auto)]
 
+mod budget;
 mod elements;
 mod fault;
 mod form;

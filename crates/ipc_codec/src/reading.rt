@@ -2,7 +2,7 @@
 //! `room` is the number of levels that may still be opened; `left` the number of bytes from the type byte of the
 //! current object on, from which the offset of a fault follows. A list is made with the room that its count asks for, and
 //! with no more than the bytes that are left can fill: an object has two bytes at least, a column six, a text one.
-ghost use Rattle.std.specs.Prelude.{◌≡◌, ◌<◌, ◌^◌, ◌≤◌, ◌-◌, ℕ, length, take, map, nat_eq, Ok, IfOk, IfErr};
+ghost use Rattle.std.specs.Prelude.{◌≡◌, ◌<◌, ◌^◌, ◌≤◌, ◌-◌, ◌+◌, ◌*◌, ℕ, length, take, map, max, nat_eq, Ok, IfOk, IfErr};
 ghost use Rattle.q_values.specs.Bytes.{HasNoNul};
 ghost use Rattle.q_values.specs.Column.{contents};
 ghost use Rattle.q_values.specs.Table.{rows_of};
@@ -11,10 +11,12 @@ ghost use Rattle.ipc_codec.specs.Reading.{Gives, Finds, RefusesObject, texts_at,
 ghost use Rattle.ipc_codec.specs.Reading.{have_equal_lengths, names_at, list_of_columns_at, grid_at, shaped, extent, checked, joined, identity_at};
 ghost use Rattle.ipc_codec.specs.Reading.{items_at, list_at, dictionary_at, object_by, object_at, object_of};
 ghost use Rattle.ipc_codec.specs.Front.{with_front};
+ghost use Rattle.ipc_codec.specs.Memory.{values_within, values_among};
 ghost use Rattle.ipc_codec.specs.Spells.{Spells};
 ghost use Rattle.ipc_codec.specs.Decoded.{Reads};
 ghost use Rattle.ipc_codec.specs.Written.{IsPlain, AtomsFit};
 
+use crate::budget::{Budget, SIDES, VALUE, memory_beside};
 use crate::elements::{column_of, element_of};
 use crate::fault::{Fault, Stop};
 use crate::form::{Form, form_of_byte};
@@ -295,7 +297,8 @@ fn extent_of(value: &Value) -> usize
 
 // A dictionary of two sides; a keyed table, where both are tables.
 fn dictionary_from(alloc: Global, keys: Value, values: Value, left: usize) -> Result<Value, Stop>
-    ensures { Gives tree result (joined left (tree keys) (tree values)) }
+    ensures found { Gives tree result (joined left (tree keys) (tree values)) }
+    ensures few { IfOk result (λ x. values_within (tree x) ≤ 2 + values_within (tree keys) + values_within (tree values)) }
 {
     match (keys, values) {
         (Value::Table(keys), Value::Table(values)) => keyed_from(alloc, keys, values, left),
@@ -336,19 +339,28 @@ fn identity_of(bytes: &[u8], left: usize) -> Result<&[u8], Fault>
 }
 
 #[cycle(objects)]
-fn items_in(
+fn items_in<'a>(
     alloc: Global,
-    bytes: &[u8],
+    bytes: &'a [u8],
     order: Order,
     room: u32,
     count: usize,
-) -> Result<(Values, &[u8]), Stop>
-    ensures { Gives (λ x. (items_of (trees x.0), x.1.now)) result (items_at (object_at room order) count bytes.now) }
+    budget: &mut Budget,
+) -> Result<(Values, &'a [u8]), Stop>
+    requires { count < 2 ^ 31 }
+    ensures found { Gives (λ x. (items_of (trees x.0), x.1.now)) result (items_at (object_at room order) count bytes.now) }
+    ensures few { IfOk result (λ x. budget.new.left + 56 * values_among (items_of (trees x.0)) ≤ budget.old.left) }
 {
-    let mut items = Values::with_capacity(alloc, count.min(bytes.len() / 2))?;
+    let places = count.min(bytes.len() / 2);
+    budget.take(places * VALUE)?;
+    let mut items = Values::with_capacity(alloc, places)?;
     let mut rest = bytes;
-    for _ in 0..count {
-        let (item, after) = object_in(alloc, rest, order, room)?;
+    for i in 0..count {
+        let (item, after) = object_in(alloc, rest, order, room, budget)?;
+        // An item that the list has no room for yet. There is none, as an object has two bytes.
+        if i >= places {
+            budget.take(VALUE)?;
+        }
         items.push(item)?;
         rest = after;
     }
@@ -357,43 +369,55 @@ fn items_in(
 
 #[cycle(objects)]
 #[tactic(auto, unfolding(crate::specs::Reading::list_at))]
-fn list_in(alloc: Global, bytes: &[u8], order: Order, room: u32) -> Result<(Value, &[u8]), Stop>
-    ensures { Gives (λ x. (tree x.0, x.1.now)) result (list_at (object_at room order) order bytes.now) }
+fn list_in<'a>(
+    alloc: Global,
+    bytes: &'a [u8],
+    order: Order,
+    room: u32,
+    budget: &mut Budget,
+) -> Result<(Value, &'a [u8]), Stop>
+    ensures found { Gives (λ x. (tree x.0, x.1.now)) result (list_at (object_at room order) order bytes.now) }
+    ensures few { IfOk result (λ x. budget.new.left + 56 * values_within (tree x.0) ≤ budget.old.left) }
 {
     let (count, rest) = count_of(bytes, order)?;
-    let (items, rest) = items_in(alloc, rest, order, room, count)?;
+    let (items, rest) = items_in(alloc, rest, order, room, count, budget)?;
     Ok((Value::List(items), rest))
 }
 
 #[cycle(objects)]
 #[tactic(auto, unfolding(crate::specs::Reading::dictionary_at))]
-fn dictionary_in(
+fn dictionary_in<'a>(
     alloc: Global,
-    bytes: &[u8],
+    bytes: &'a [u8],
     order: Order,
     room: u32,
     left: usize,
-) -> Result<(Value, &[u8]), Stop>
-    ensures { Gives (λ x. (tree x.0, x.1.now)) result (dictionary_at (object_at room order) left bytes.now) }
+    budget: &mut Budget,
+) -> Result<(Value, &'a [u8]), Stop>
+    ensures found { Gives (λ x. (tree x.0, x.1.now)) result (dictionary_at (object_at room order) left bytes.now) }
+    ensures few { IfOk result (λ x. budget.new.left + 56 * values_within (tree x.0) ≤ budget.old.left) }
 {
-    let (keys, rest) = object_in(alloc, bytes, order, room)?;
-    let (values, rest) = object_in(alloc, rest, order, room)?;
+    budget.take(SIDES)?;
+    let (keys, rest) = object_in(alloc, bytes, order, room, budget)?;
+    let (values, rest) = object_in(alloc, rest, order, room, budget)?;
     Ok((dictionary_from(alloc, keys, values, left)?, rest))
 }
 
 // An object, after its type byte.
 #[cycle(objects)]
 #[tactic(auto, unfolding(crate::specs::Reading::object_by))]
-fn form_in(
+fn form_in<'a>(
     alloc: Global,
-    bytes: &[u8],
+    bytes: &'a [u8],
     order: Order,
     room: u32,
     form: Form,
     left: usize,
-) -> Result<(Value, &[u8]), Stop>
-    ensures { Gives (λ x. (tree x.0, x.1.now)) result
+    budget: &mut Budget,
+) -> Result<(Value, &'a [u8]), Stop>
+    ensures found { Gives (λ x. (tree x.0, x.1.now)) result
         (object_by (object_at room order) room order form left bytes.now) }
+    ensures few { IfOk result (λ x. budget.new.left + 56 * values_within (tree x.0) ≤ budget.old.left) }
 {
     match form {
         Form::Atom(kind) => {
@@ -404,8 +428,8 @@ fn form_in(
             let (x, rest) = vector_of(alloc, bytes, order, kind)?;
             Ok((Value::Vector(x), rest))
         }
-        Form::List => list_in(alloc, bytes, order, room),
-        Form::Dictionary => dictionary_in(alloc, bytes, order, room, left),
+        Form::List => list_in(alloc, bytes, order, room, budget),
+        Form::Dictionary => dictionary_in(alloc, bytes, order, room, left, budget),
         Form::Table => {
             let (x, rest) = table_of(alloc, bytes, order, room, left)?;
             Ok((Value::Table(x), rest))
@@ -422,8 +446,15 @@ fn form_in(
 
 #[cycle(objects)]
 #[tactic(auto, unfolding(crate::specs::Reading::object_at))]
-fn object_in(alloc: Global, bytes: &[u8], order: Order, room: u32) -> Result<(Value, &[u8]), Stop>
-    ensures { Gives (λ x. (tree x.0, x.1.now)) result (object_at room order bytes.now) }
+fn object_in<'a>(
+    alloc: Global,
+    bytes: &'a [u8],
+    order: Order,
+    room: u32,
+    budget: &mut Budget,
+) -> Result<(Value, &'a [u8]), Stop>
+    ensures found { Gives (λ x. (tree x.0, x.1.now)) result (object_at room order bytes.now) }
+    ensures few { IfOk result (λ x. budget.new.left + 56 * values_within (tree x.0) ≤ budget.old.left) }
 {
     match bytes {
         [] => Err(Stop::At(Fault::Truncated)),
@@ -431,20 +462,25 @@ fn object_in(alloc: Global, bytes: &[u8], order: Order, room: u32) -> Result<(Va
             if room == 0 {
                 return Err(Stop::At(Fault::TooDeep(bytes.len())));
             }
-            form_in(
+            let (value, after) = form_in(
                 alloc,
                 rest,
                 order,
                 room - 1,
                 form_of_byte(*first),
                 bytes.len(),
-            )
+                budget,
+            )?;
+            budget.take(memory_beside(&value, rest.len().saturating_sub(after.len())))?;
+            Ok((value, after))
         }
     }
 }
 
 /// Reads the object at the front of the bytes; returns its value and its length in bytes (KX, IPC reference). Bytes after
 /// the object aren't read. Where the bytes don't begin with an object, the refusal is the first one from left to right.
+/// A value that would take more than 20 bytes of memory for each of the bytes, and more than 65,536, is refused as one that
+/// there is no memory for.
 pub fn decode(alloc: Global, bytes: &[u8], order: Order) -> Result<(Value, usize), DecodeRefusal>
     ensures found { IfOk result (λ x. object_of order bytes.now ≡ Ok (tree x.0, x.1)) }
     ensures refused { IfErr result (RefusesObject (object_of order bytes.now)) }
@@ -453,11 +489,14 @@ pub fn decode(alloc: Global, bytes: &[u8], order: Order) -> Result<(Value, usize
     // A value that was read can be written.
     ensures plain { IfOk result (λ x. IsPlain (tree x.0)) }
     ensures fit { IfOk result (λ x. AtomsFit (tree x.0)) }
+    // The values within it, of 56 bytes each, take at most 20 bytes for each byte, or 65,536.
+    ensures few { IfOk result (λ x. 56 * values_within (tree x.0) ≤ max 65536 (20 * length bytes.now)) }
     // Each encoding of a value at the front of the bytes is read as that value, unless memory runs out.
     ensures only { (t : Tree) (n : ℕ) → n ≤ length bytes.now → Spells order (take n bytes.now) t
         → Reads t n result }
 {
-    match object_in(alloc, bytes, order, 64) {
+    let mut budget = Budget::of_object(bytes.len());
+    match object_in(alloc, bytes, order, 64, &mut budget) {
         Ok((value, rest)) => Ok((value, bytes.len().saturating_sub(rest.len()))),
         Err(Stop::At(fault)) => Err(fault.placed_in(bytes.len())),
         Err(Stop::Memory) => Err(DecodeRefusal::NoMemory),

@@ -5,6 +5,8 @@
 //! bytes, and what is expected.
 //!
 //! - `objects` reads, measures and writes each object again, and compares the bytes with its canonical encoding.
+//! - `memory` reads lists of short objects, up to 16 MB of them, and compares which are refused for the memory that they
+//!   would take.
 //! - `refusals` compares the refusal of `decode` and of `measure` with the expected one.
 //! - `streams` has a stream of a handshake and five messages in both byte orders, one of them with a type that is not
 //!   supported. It is split at each offset and into single bytes, and the framer has to return the same each time. The other
@@ -20,6 +22,8 @@
 //! `ipc_frame::laws`, and not tested. Sockets and sessions are tested in `plant_vectors`.
 #![tactic(auto)]
 
+#[cfg(test)]
+mod memory;
 #[cfg(test)]
 mod object_rows;
 #[cfg(test)]

@@ -1,5 +1,6 @@
-use Rattle.std.proofs.Common.{◌≡◌, ◌-◌, ◌+◌, ◌*◌}
-use Rattle.q_values.specs.Tree.{trees}
+use Rattle.std.proofs.Common.{◌≡◌, ◌-◌, ◌+◌, ◌*◌, ◌≤◌}
+use Rattle.q_values.specs.Tree.{trees, items_of}
+use Rattle.ipc_codec.specs.Memory.{values_among}
 use Rattle.ipc_codec.specs.Reading.{items_at, object_at}
 use Rattle.ipc_codec.proofs.FrontLemmas.{behind_items}
 use Rattle.ipc_codec.proofs.reading.+objects.Given as goal
@@ -19,5 +20,8 @@ decreases-items_in l = 4 * l.room + 1
 abbrev pub decreases-dictionary_in : goal.decreases-dictionary_in
 decreases-dictionary_in l = 4 * l.room + 1
 
-abbrev pub invariant-items_in-loop : goal.invariant-items_in-loop
-invariant-items_in-loop l = behind_items (trees l.items) (items_at (object_at l.room l.order) (l.count - l.counter) l.rest) ≡ items_at (object_at l.room l.order) l.count l.bytes
+abbrev pub invariant-items_in-loop-i : goal.invariant-items_in-loop-i
+invariant-items_in-loop-i l = record {
+  found : behind_items (trees l.items) (items_at (object_at l.room l.order) (l.count - l.i) l.rest) ≡ items_at (object_at l.room l.order) l.count l.bytes;
+  few : l.budget.left + 56 * values_among (items_of (trees l.items)) + 56 * (l.places - l.i) ≤ l.fn.budget.left;
+}

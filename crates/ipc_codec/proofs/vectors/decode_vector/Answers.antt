@@ -1,18 +1,10 @@
-use Rattle.std.proofs.Common.{◌≡◌, ◌-◌, ◌∷◌, List, ℕ, length, take, drop, Bool, true, false, Result, Ok, Err, sym, ap, ◌∙◌, arith}
+use Rattle.std.proofs.Common.{◌≡◌, ◌-◌, ◌∷◌, List, ℕ, length, take, drop, true, false, sym, ap, ◌∙◌}
 use Rattle.std.specs.Prelude.{nat_le}
 use Rattle.std.specs.List.{list_all}
 use Rattle.std.proofs.lemmas.Result.{err_from_is_err_and}
-use Rattle.q_values.specs.Contents.{Contents}
 use Rattle.q_values.specs.Kind.{type_number}
 use Rattle.q_values.specs.declared.kind.Kind.{Kind}
 use Rattle.q_values.specs.declared.kind.Kind.TheVariants as k
-use Rattle.ipc_codec.specs.Canonical.{BeginsWith, BeginsWithNone, IfNotCanonical, fault_of}
-use Rattle.ipc_codec.specs.Reading.{Stops, vector_at}
-use Rattle.ipc_codec.specs.declared.fault.Fault.{Fault}
-use Rattle.ipc_codec.specs.declared.fault.Stop.{Stop}
-use Rattle.ipc_codec.specs.declared.fault.Stop.TheVariants as s
-use Rattle.ipc_codec.specs.declared.vectors.VectorFault.{VectorFault}
-use Rattle.ipc_codec.specs.declared.order.Order.TheVariants as o
 use Rattle.ipc_codec.proofs.CanonicalLemmas.{AreBytes-from_each, begun_reads, begun_bits, found_begins, boolean_kind, not_boolean, stop_refuses, same_rest}
 use Rattle.ipc_codec.proofs.vectors.decode_vector.Goals as goal
 use Rattle.ipc_codec.proofs.vectors.decode_vector.Goals.{else-is_boolean-via-then-is_boolean+else-not-are_booleans, else-is_boolean-via-else-is_boolean}
