@@ -14,10 +14,13 @@ const LEAST: usize = 65_536;
 /// The bytes of a value, beside what it keeps elsewhere.
 pub const VALUE: usize = size_of::<Value>();
 
-/// The bytes of a dictionary's two sides, or of a keyed table's, with what the C library adds to them.
-pub const SIDES: usize = 2 * VALUE + 16;
+/// The most bytes that the C library adds to a block of memory whose length is a multiple of eight.
+pub const HEADER: usize = 16;
 
-/// The most bytes that the C library adds to a block of memory, its rounding included.
+/// The bytes of a dictionary's two sides, or of a keyed table's.
+pub const SIDES: usize = 2 * VALUE + HEADER;
+
+/// The most bytes that the C library adds to any block of memory.
 const BLOCK: usize = 32;
 
 /// The bytes of memory that are left for what is still to be read.

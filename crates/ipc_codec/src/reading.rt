@@ -16,7 +16,7 @@ ghost use Rattle.ipc_codec.specs.Spells.{Spells};
 ghost use Rattle.ipc_codec.specs.Decoded.{Reads};
 ghost use Rattle.ipc_codec.specs.Written.{IsPlain, AtomsFit};
 
-use crate::budget::{Budget, SIDES, VALUE, memory_beside};
+use crate::budget::{Budget, HEADER, SIDES, VALUE, memory_beside};
 use crate::elements::{column_of, element_of};
 use crate::fault::{Fault, Stop};
 use crate::form::{Form, form_of_byte};
@@ -352,7 +352,7 @@ fn items_in<'a>(
     ensures few { IfOk result (λ x. budget.new.left + 56 * values_among (items_of (trees x.0)) ≤ budget.old.left) }
 {
     let places = count.min(bytes.len() / 2);
-    budget.take(places * VALUE)?;
+    budget.take(places * VALUE + HEADER)?;
     let mut items = Values::with_capacity(alloc, places)?;
     let mut rest = bytes;
     for i in 0..count {
