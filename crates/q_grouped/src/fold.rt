@@ -38,7 +38,7 @@ impl<T: Copy> Items<T> for Slice<'_, T> {
 }
 
 /// What one more item makes of the state of its group.
-pub(crate) trait Fold<T, S> {
+pub trait Fold<T, S> {
     ghost next: { S → T → S };
 
     ghost fits: { T → Bool };
@@ -62,7 +62,7 @@ fn starts<S: Copy>(alloc: Global, start: S, count: usize) -> Result<Vec<S>, NoMe
 }
 
 /// For each group the state after its items in order, from `start`. It goes over the rows once.
-pub(crate) fn fold_by<F: Fold<T, S>, T: Copy, S: Copy, I: Items<T>>(
+pub fn fold_by<F: Fold<T, S>, T: Copy, S: Copy, I: Items<T>>(
     alloc: Global,
     start: S,
     items: &I,
