@@ -5,7 +5,7 @@
 //! bytes, and what is expected.
 //!
 //! - `objects` reads, measures and writes each object again, and compares the bytes with its canonical encoding.
-//! - `memory` reads lists of short objects, up to 16 MB of them, and compares which are refused for the memory that they
+//! - `memory` reads lists of short objects, up to a million of them, and compares which are refused for the memory that they
 //!   would take.
 //! - `refusals` compares the refusal of `decode` and of `measure` with the expected one.
 //! - `streams` has a stream of a handshake and five messages in both byte orders, one of them with a type that is not

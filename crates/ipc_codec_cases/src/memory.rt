@@ -9,7 +9,7 @@ use std::process::Abort;
 type Row = (&'static str, &'static [u8], u32, bool);
 
 const ROWS: [Row; 14] = [
-    ("ints", b"\xfa\x01\0\0\0", 1_000_000, true),
+    ("ints", b"\xfa\x01\0\0\0", 200_000, true),
     ("symbols of four bytes", b"\xf5abcd\0", 100_000, true),
     (
         "vectors of one boolean",
@@ -49,7 +49,7 @@ const ROWS: [Row; 14] = [
         true,
     ),
     ("one identity more", b"e\0", 1_171, false),
-    ("a message of identities", b"e\0", 8_000_000, false),
+    ("a million identities", b"e\0", 1_000_000, false),
     ("symbols of one byte", b"\xf5a\0", 100_000, false),
     ("dictionaries of identities", b"ce\0e\0", 100_000, false),
     (
