@@ -62,7 +62,10 @@ const ROWS: [Row; 14] = [
 
 // A general list of this many copies of an object.
 fn list_of(rt: &impl Abort, alloc: Global, object: &[u8], count: u32) -> Vec<u8> {
-    let room = 6 + object.len().saturating_mul(count as usize);
+    let room = object
+        .len()
+        .saturating_mul(count as usize)
+        .saturating_add(6);
     let mut bytes = Vec::with_capacity(alloc, room).expect(rt, "memory");
     bytes.extend_from_slice(b"\0\0").expect(rt, "memory");
     bytes
