@@ -128,8 +128,17 @@ fn host<O: Outside, D: Disk + Send, R: Threads + Wait + Sync>(
         clock_old (O.Clock.readings result.2) (O.seen outside.old) (O.seen outside.new) result.1 }
 {
     let mut clock = outside.clock();
-    let (disk, service) = host_disk(rt, alloc, door, disk, schema, limits, &mut clock, outside);
+    let source = Source { disk, schema };
+    let (disk, service) = host_disk(rt, alloc, door, source, limits, &mut clock, outside);
     (disk, service, clock)
+}
+
+/// What a plant is loaded from.
+struct Source<D> {
+    /// The disk with its logs and parts.
+    disk: D,
+    /// The tables that it is expected to have.
+    schema: Schema,
 }
 
 /// The same, by this clock.
@@ -137,16 +146,16 @@ fn host_disk<O: Outside, D: Disk + Send, C: Clock, R: Threads + Wait + Sync>(
     rt: &R,
     alloc: Global,
     door: Door,
-    disk: D,
-    schema: Schema,
+    source: Source<D>,
     limits: &Limits,
     clock: &mut C,
     outside: &mut O,
 ) -> (D, Service)
     requires { AreLimits limits.now }
-    ensures { Hosts limits.now schema door.port door.sessions (D.shown disk) (D.shown result.0)
+    ensures { Hosts limits.now source.schema door.port door.sessions (D.shown source.disk) (D.shown result.0)
         (C.readings clock.old) (C.readings clock.new) (O.seen outside.old) (O.seen outside.new) result.1 }
 {
+    let Source { disk, schema } = source;
     let first = clock.now();
     match Plant::load(alloc, disk, schema, open_date(first), limits) {
         Ok(plant) => host_plant(rt, alloc, door, plant, limits, outside),

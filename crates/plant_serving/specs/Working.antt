@@ -4,20 +4,32 @@ use mathlib.Core.List.{IsPrefix}
 use Rattle.day_rows.specs.declared.entry.Entry.{Entry}
 use Rattle.day_rows.specs.declared.schema.Shape.{Shape}
 use Rattle.outside_api.specs.Disk.{DiskView}
-use Rattle.plant_lock.specs.Told.{Told}
+use Rattle.plant_core.specs.Plant.{PlantView}
+use Rattle.plant_lock.specs.Told.{Lock, Told}
 use Rattle.plant_serving.specs.declared.end.ServeEnd.{ServeEnd}
 use Rattle.plant_serving.specs.declared.end.ServeEnd.TheVariants as v
 use Rattle.plant_serving.specs.declared.end.Progress.{Progress}
-use Rattle.plant_serving.specs.Serving.{Setting, Accepted, Session, Begins, WasServed, NumbersRise, served_of}
+use Rattle.plant_serving.specs.Serving.{Setting, Accepted, Session, Begins, IsEnded, WasServed, NumbersRise, served_of, setting_of}
 use Rattle.program_outside.specs.Outside.{OutsideView}
 use Rattle.q_values.specs.Limits.{AreLimits}
+use Rattle.q_values.specs.declared.limits.Limits.{Limits}
 use Rattle.session.specs.declared.end.End.{End}
 use Rattle.session.specs.declared.end.End.TheVariants as e
+use Rattle.shared_sessions.specs.Sessions.{Line}
 
 -- what a thread promises of its session: it began so, and in this setting
 pub record Promised (D : Type 0) : Type 0 where
   pub setting : Setting D
   pub accepted : Accepted
+
+-- what the thread of a session promises that is served through this lock, with these limits, devices and pass
+abbrev pub promised : {D : Type 0} → Lock (PlantView D) → Limits → Line → Told Entry → Promised D
+promised lock limits before began = record { setting = setting_of lock limits; accepted = record { before = before; began = began } }
+
+-- that session was served
+abbrev pub ServesOne : {D : Type 0} → (D → DiskView) → Lock (PlantView D) → Limits → Line → Told Entry → Line → Told Entry → End → Type 0
+ServesOne shown lock limits before began after pass end =
+    IsEnded shown (setting_of lock limits) (record { before = before; began = began }) after pass end
 
 -- a session that is waited for
 pub record IsAwaited {D : Type 0} (setting : Setting D) (promised : Promised D) : Type 0 where

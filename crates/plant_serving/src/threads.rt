@@ -1,6 +1,7 @@
 //! A session on a thread of its own.
 ghost use Rattle.std.specs.Prelude.{◌≡◌, IfOk, IfErr};
 ghost use Rattle.plant_serving.specs.Serving.{IsEnded, setting_of};
+ghost use Rattle.plant_serving.specs.Working.{ServesOne, promised};
 ghost use Rattle.shared_sessions.specs.Sessions.{MayServe, IsServed, home_of, line};
 
 use day_rows::Schema;
@@ -134,51 +135,142 @@ fn start_by<
 ) -> Result<Running<K::Disk, L, C, G, N>, Finished<L, C, N>>
     requires { MayServe (K.lock_of shop.now.lock.now) pass schema.value shop.now.limits.now }
     ensures started { let before = line (L.shown connection.link) (C.readings connection.clock) (N.noted connection.recorder) in
-        IfOk result (λ r. r ≡ record {
-          setting = setting_of (K.lock_of shop.now.lock.now) shop.now.limits.now;
-          accepted = record { before = before; began = pass };
-        }) }
+        IfOk result (λ r. r ≡ promised (K.lock_of shop.now.lock.now) shop.now.limits.now before pass) }
     ensures here { let before = line (L.shown connection.link) (C.readings connection.clock) (N.noted connection.recorder) in
         IfErr result (λ f. let after = line (L.shown f.link) (C.readings f.clock) (N.noted f.recorder) in
-        IsEnded K.Disk.shown (setting_of (K.lock_of shop.now.lock.now) shop.now.limits.now) (record { before = before; began = pass }) after f.pass f.end) }
+        ServesOne K.Disk.shown (K.lock_of shop.now.lock.now) shop.now.limits.now before pass after f.pass f.end) }
 {
-    let Shop {
-        rt,
-        alloc,
-        lock,
-        limits,
-    } = *shop;
-    let Some((ours, theirs)) = flags(alloc) else {
-        let plant = lock.plant_lock();
-        return Err(serve_shared(rt, alloc, plant, pass, schema, connection, limits));
-    };
-    let promise = SessionPromise {
-        lock: Snapshot::of(lock.plant_lock()),
-        limits: *limits,
-        pass: Snapshot::of(&pass),
-        connection: Snapshot::of(&connection),
-    };
-    let started = scope.spawn_with(
-        promise,
-        move || -> Finished<L, C, N>
-            requires { MayServe (K.lock_of lock.now) pass schema.value limits.now }
-            ensures { let before = line (L.shown connection.link) (C.readings connection.clock) (N.noted connection.recorder) in
-                let after = line (L.shown result.link) (C.readings result.clock) (N.noted result.recorder) in
-                IsEnded K.Disk.shown (setting_of (K.lock_of lock.entry.now) limits.entry.now) (record { before = before; began = pass })
-                after result.pass result.end }
-        {
-            let plant = lock.plant_lock();
-            let finished = serve_shared(rt, alloc, plant, pass, schema, connection, limits);
-            theirs.store(true, Ordering::SeqCst);
-            finished
-        },
-    );
-    match started {
-        Ok(thread) => Ok(Running {
-            has_ended: ours,
-            thread,
-        }),
-        Err(refused) => Err((refused.value)()),
+    let task = Task::of(shop, pass, schema, connection);
+    match flags(shop.alloc) {
+        Some(flags) => task.start(scope, flags),
+        None => Err(task.run()),
+    }
+}
+
+/// A session that is to be served: what its thread is given.
+#[derive(Drop)]
+struct Task<'s, K: PlantGuard, L, C, G, N, R> {
+    shop: Shop<'s, K, R>,
+    pass: PlantPass<K::Disk>,
+    schema: Arc<Schema>,
+    connection: Connection<L, C, G, N>,
+}
+
+impl<
+    's,
+    K: PlantGuard + Sync + 's,
+    L: Link + Send + Drop + 's,
+    C: Clock + Send + Drop + 's,
+    G: Gate + Send + Drop + 's,
+    N: Recorder + Send + Drop + 's,
+    R: Wait + Sync + 's,
+> Task<'s, K, L, C, G, N, R> {
+    /// A session of this shop.
+    fn of(
+        shop: &Shop<'s, K, R>,
+        pass: PlantPass<K::Disk>,
+        schema: Arc<Schema>,
+        connection: Connection<L, C, G, N>,
+    ) -> Task<'s, K, L, C, G, N, R>
+        ensures shop { result.shop ≡ shop.now }
+        ensures pass { result.pass ≡ pass }
+        ensures schema { result.schema ≡ schema }
+        ensures connection { result.connection ≡ connection }
+    {
+        let Shop {
+            rt,
+            alloc,
+            lock,
+            limits,
+        } = *shop;
+        Task {
+            shop: Shop {
+                rt,
+                alloc,
+                lock,
+                limits,
+            },
+            pass,
+            schema,
+            connection,
+        }
+    }
+
+    /// What its thread promises.
+    fn promise(&self) -> SessionPromise<K::Disk, L, C, G, N>
+        ensures lock { result.lock.value ≡ K.lock_of self.now.shop.lock.now }
+        ensures limits { result.limits ≡ self.now.shop.limits.now }
+        ensures pass { result.pass.value ≡ self.now.pass }
+        ensures connection { result.connection.value ≡ self.now.connection }
+    {
+        SessionPromise {
+            lock: Snapshot::of(self.shop.lock.plant_lock()),
+            limits: *self.shop.limits,
+            pass: Snapshot::of(&self.pass),
+            connection: Snapshot::of(&self.connection),
+        }
+    }
+
+    /// Serves it on this thread.
+    fn run(self) -> Finished<L, C, N>
+        requires { MayServe (K.lock_of self.shop.lock.now) self.pass self.schema.value self.shop.limits.now }
+        ensures { let before = line (L.shown self.connection.link) (C.readings self.connection.clock) (N.noted self.connection.recorder) in
+            let after = line (L.shown result.link) (C.readings result.clock) (N.noted result.recorder) in
+            ServesOne K.Disk.shown (K.lock_of self.shop.lock.now) self.shop.limits.now before self.pass after result.pass result.end }
+    {
+        let Task {
+            shop,
+            pass,
+            schema,
+            connection,
+        } = self;
+        let plant = shop.lock.plant_lock();
+        serve_shared(
+            shop.rt,
+            shop.alloc,
+            plant,
+            pass,
+            schema,
+            connection,
+            shop.limits,
+        )
+    }
+
+    /// Serves it on a thread of its own, or here where none can be started. The flags are one, which is set at its end.
+    fn start<E>(
+        self,
+        scope: &Scope<'s, E>,
+        flags: (Arc<AtomicBool>, Arc<AtomicBool>),
+    ) -> Result<Running<K::Disk, L, C, G, N>, Finished<L, C, N>>
+        requires { MayServe (K.lock_of self.shop.lock.now) self.pass self.schema.value self.shop.limits.now }
+        ensures started { let before = line (L.shown self.connection.link) (C.readings self.connection.clock) (N.noted self.connection.recorder) in
+            IfOk result (λ r. r ≡ promised (K.lock_of self.shop.lock.now) self.shop.limits.now before self.pass) }
+        ensures here { let before = line (L.shown self.connection.link) (C.readings self.connection.clock) (N.noted self.connection.recorder) in
+            IfErr result (λ f. let after = line (L.shown f.link) (C.readings f.clock) (N.noted f.recorder) in
+            ServesOne K.Disk.shown (K.lock_of self.shop.lock.now) self.shop.limits.now before self.pass after f.pass f.end) }
+    {
+        let (ours, theirs) = flags;
+        let task = self;
+        let started = scope.spawn_with(
+            task.promise(),
+            move || -> Finished<L, C, N>
+                requires { MayServe (K.lock_of task.shop.lock.now) task.pass task.schema.value task.shop.limits.now }
+                ensures { let before = line (L.shown task.connection.link) (C.readings task.connection.clock) (N.noted task.connection.recorder) in
+                    let after = line (L.shown result.link) (C.readings result.clock) (N.noted result.recorder) in
+                    ServesOne K.Disk.shown (K.lock_of task.shop.lock.now) task.shop.limits.now before task.pass after result.pass result.end }
+            {
+                let finished = task.run();
+                theirs.store(true, Ordering::SeqCst);
+                finished
+            },
+        );
+        match started {
+            Ok(thread) => Ok(Running {
+                has_ended: ours,
+                thread,
+            }),
+            Err(refused) => Err((refused.value)()),
+        }
     }
 }
 
