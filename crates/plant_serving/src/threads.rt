@@ -214,9 +214,9 @@ impl<
     /// Serves it on this thread.
     fn run(self) -> Finished<L, C, N>
         requires { MayServe (K.lock_of self.shop.lock.now) self.pass self.schema.value self.shop.limits.now }
-        ensures { let before = line (L.shown self.connection.link) (C.readings self.connection.clock) (N.noted self.connection.recorder) in
+        ensures { let before = line (L.shown self.entry.connection.link) (C.readings self.entry.connection.clock) (N.noted self.entry.connection.recorder) in
             let after = line (L.shown result.link) (C.readings result.clock) (N.noted result.recorder) in
-            ServesOne K.Disk.shown (K.lock_of self.shop.lock.now) self.shop.limits.now before self.pass after result.pass result.end }
+            ServesOne K.Disk.shown (K.lock_of self.entry.shop.lock.now) self.entry.shop.limits.now before self.entry.pass after result.pass result.end }
     {
         let Task {
             shop,
@@ -243,11 +243,11 @@ impl<
         flags: (Arc<AtomicBool>, Arc<AtomicBool>),
     ) -> Result<Running<K::Disk, L, C, G, N>, Finished<L, C, N>>
         requires { MayServe (K.lock_of self.shop.lock.now) self.pass self.schema.value self.shop.limits.now }
-        ensures started { let before = line (L.shown self.connection.link) (C.readings self.connection.clock) (N.noted self.connection.recorder) in
-            IfOk result (λ r. r ≡ promised (K.lock_of self.shop.lock.now) self.shop.limits.now before self.pass) }
-        ensures here { let before = line (L.shown self.connection.link) (C.readings self.connection.clock) (N.noted self.connection.recorder) in
+        ensures started { let before = line (L.shown self.entry.connection.link) (C.readings self.entry.connection.clock) (N.noted self.entry.connection.recorder) in
+            IfOk result (λ r. r ≡ promised (K.lock_of self.entry.shop.lock.now) self.entry.shop.limits.now before self.entry.pass) }
+        ensures here { let before = line (L.shown self.entry.connection.link) (C.readings self.entry.connection.clock) (N.noted self.entry.connection.recorder) in
             IfErr result (λ f. let after = line (L.shown f.link) (C.readings f.clock) (N.noted f.recorder) in
-            ServesOne K.Disk.shown (K.lock_of self.shop.lock.now) self.shop.limits.now before self.pass after f.pass f.end) }
+            ServesOne K.Disk.shown (K.lock_of self.entry.shop.lock.now) self.entry.shop.limits.now before self.entry.pass after f.pass f.end) }
     {
         let (ours, theirs) = flags;
         let task = self;
@@ -255,9 +255,9 @@ impl<
             task.promise(),
             move || -> Finished<L, C, N>
                 requires { MayServe (K.lock_of task.shop.lock.now) task.pass task.schema.value task.shop.limits.now }
-                ensures { let before = line (L.shown task.connection.link) (C.readings task.connection.clock) (N.noted task.connection.recorder) in
+                ensures { let before = line (L.shown task.entry.connection.link) (C.readings task.entry.connection.clock) (N.noted task.entry.connection.recorder) in
                     let after = line (L.shown result.link) (C.readings result.clock) (N.noted result.recorder) in
-                    ServesOne K.Disk.shown (K.lock_of task.shop.lock.now) task.shop.limits.now before task.pass after result.pass result.end }
+                    ServesOne K.Disk.shown (K.lock_of task.entry.shop.lock.now) task.entry.shop.limits.now before task.entry.pass after result.pass result.end }
             {
                 let finished = task.run();
                 theirs.store(true, Ordering::SeqCst);
