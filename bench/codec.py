@@ -4,14 +4,9 @@
 Works on a table of trades, on a vector of longs, and on two of symbols: of four bytes, and of 5 to 20. Prints the
 milliseconds of each call, the best of all rounds, and its ratios to the copy and to the loop. Needs rustc and the kit's
 `rt`, and nothing else but Python 3.
-
-With --memory it decodes lists of the smallest objects instead, and prints how much more memory each took at its peak
-than the same program that only measures the list, in bytes for each byte of the list.
 """
 
 import argparse
-import os
-import subprocess
 import tempfile
 
 import programs
@@ -21,27 +16,6 @@ CALLS = (("decode", "decode"), ("encode", "encode"), ("measure", None), ("feed",
 
 # The objects, and what is printed of each.
 VALUES = (("table", "table"), ("longs", "longs"), ("short", "4 bytes"), ("long", "5 to 20"))
-
-# The objects of the lists, and the length of each in bytes.
-OBJECTS = (("identity", 2), ("boolean", 2), ("character", 2), ("symbol", 2), ("error", 2), ("letter", 3), ("short", 3), ("dictionary", 5), ("vector", 6))
-
-
-def peak(*command):
-    """The most memory that a run took, in bytes."""
-    child = subprocess.Popen(command, stdout=subprocess.DEVNULL)
-    _, status, usage = os.wait4(child.pid, 0)
-    if status != 0:
-        raise SystemExit(f"{' '.join(command)} failed")
-    return usage.ru_maxrss * 1024
-
-
-def show_memory(program, size):
-    print(f"{'list of':12} {'bytes':>11} {'peak, MiB':>10} {'per byte':>9}")
-    for name, length in OBJECTS:
-        count = str(size // length)
-        most = peak(program, "decode", name, count)
-        more = most - peak(program, "measure", name, count)
-        print(f"{name:12} {size:11,} {most / 2**20:10.1f} {more / size:9.2f}")
 
 
 def ratio(own, other):
@@ -54,10 +28,7 @@ def main():
     parser.add_argument("--longs", type=int, default=10_000_000, metavar="N", help="longs of the vector (10000000)")
     parser.add_argument("--symbols", type=int, default=1_000_000, metavar="N", help="symbols of each vector (1000000)")
     parser.add_argument("--runs", type=int, default=3, metavar="N", help="runs of each program, of five rounds (3)")
-    parser.add_argument("--memory", type=int, metavar="N", help="decode lists of N bytes, and print their memory instead")
     options = parser.parse_args()
-    if options.memory:
-        return show_memory(programs.proved("codec_bench"), options.memory)
     if min(options.rows, options.longs, options.symbols, options.runs) < 1:
         parser.error("N is at least 1")
     arguments = [str(options.rows), str(options.longs), str(options.symbols)]

@@ -8,9 +8,7 @@ would take more is answered `wsfull`. Needs the built plant, and nothing else bu
 """
 
 import argparse
-import os
 import subprocess
-import tempfile
 
 import programs
 
@@ -38,18 +36,26 @@ def message(objects):
     return b"\x01\x01\x00\x00" + (8 + len(body)).to_bytes(4, "little") + body
 
 
+def peak_of(process):
+    """The peak of a running program's memory, in bytes."""
+    with open(f"/proc/{process.pid}/status", encoding="ascii") as lines:
+        kilobytes = next(line.split()[1] for line in lines if line.startswith("VmHWM:"))
+    return int(kilobytes) * 1024
+
+
 def served(plant, sent):
-    """What a session answers, and the peak of the program's memory in bytes."""
-    with tempfile.TemporaryFile() as given, tempfile.TemporaryFile() as told:
-        given.write(HANDSHAKE + sent)
-        given.seek(0)
-        process = subprocess.Popen([plant, "once"], stdin=given, stdout=told)
-        _, status, used = os.wait4(process.pid, 0)
-        process.returncode = os.waitstatus_to_exitcode(status)
-        if process.returncode != 0:
-            raise SystemExit(f"the plant ended with status {process.returncode}")
-        told.seek(0)
-        return told.read(), used.ru_maxrss * 1024
+    """The body of what a session answers to a message, and the peak of the program's memory then in bytes."""
+    with subprocess.Popen([plant, "once"], stdin=subprocess.PIPE, stdout=subprocess.PIPE) as process:
+        process.stdin.write(HANDSHAKE + sent)
+        process.stdin.flush()
+        process.stdout.read(1)
+        answer = b""
+        if sent:
+            length = int.from_bytes(process.stdout.read(8)[4:], "little")
+            answer = process.stdout.read(length - 8)
+        peak = peak_of(process)
+        process.stdin.close()
+    return answer, peak
 
 
 def main():
@@ -63,7 +69,7 @@ def main():
     for name, one in OBJECTS:
         sent = message([one] * ((options.bytes - 14) // len(one)))
         answer, peak = served(plant, sent)
-        error = answer[10:-1].decode() if answer[9:10] == b"\x80" else "a value"
+        error = answer[1:-1].decode() if answer[:1] == b"\x80" else "a value"
         for_each = (peak - least) / len(sent)
         print(f"{name:22} {len(sent):10,} {error:>8} {for_each:8.2f} {for_each - 1:8.2f}")
 

@@ -81,14 +81,3 @@ pub fn trades(alloc: Global, rows: u32) -> Result<Vec<u8>, AllocError> {
     put_numbers(&mut out, 7, rows, 100)?;
     Ok(out)
 }
-
-/// The bytes of a list of `count` times this object.
-pub fn list_of(alloc: Global, object: &[u8], count: u32) -> Result<Vec<u8>, AllocError> {
-    let room = (count as usize).saturating_mul(object.len());
-    let mut out = Vec::with_capacity(alloc, room.saturating_add(6))?;
-    put_head(&mut out, 0, count)?;
-    for _ in 0..count {
-        out.extend_from_slice(object)?;
-    }
-    Ok(out)
-}

@@ -14,41 +14,21 @@
 //! table feed NANOSECONDS BYTES
 //! ```
 //!
-//! With the name of an object of `lists` it makes a list of COUNT such objects and decodes it once, or only measures it,
-//! so that the caller can compare the most memory that the two took:
-//!
-//! ```text
-//! codec_bench decode NAME COUNT
-//! codec_bench measure NAME COUNT
-//!
-//! NAME BYTES
-//! ```
-//!
 //! What was decoded and encoded again has to be the same bytes. The numbers of bytes are printed so that no call can be
-//! left out by the compiler. It takes no
-//! object from a file, and times neither sockets nor sessions.
+//! left out by the compiler. It takes no object from a file, and times neither sockets nor sessions.
 #![tactic(auto)]
 
-mod lists;
 mod made;
 mod timed;
 
-use anyhow::{Result, bail};
+use anyhow::Result;
 use std::env;
 
 fn main(rt: HostRuntime) -> Result<()> {
     let mut arguments = env::args(&rt)?;
     let _program = arguments.next();
-    if let Some(first) = arguments.next() {
-        let first = first.as_str();
-        if first == "decode" || first == "measure" {
-            let (Some(name), Some(count)) = (arguments.next(), arguments.next()) else {
-                bail!("a name and a count");
-            };
-            let count = count.as_str().parse::<u32>()?;
-            return lists::report(&rt, name.as_str(), count, first == "decode");
-        }
-        let rows = first.parse::<u32>()?;
+    if let Some(rows) = arguments.next() {
+        let rows = rows.as_str().parse::<u32>()?;
         timed::report(&rt, "table", &made::trades(rt.alloc(), rows)?)?;
     }
     if let Some(count) = arguments.next() {
