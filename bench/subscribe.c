@@ -75,7 +75,7 @@ static int64_t *times_of(long count) {
     return times;
 }
 
-/* A connection that has sent a greeting and got its reply. */
+/* A connection that has sent a handshake and got its reply. */
 static int greeted(int port, Bytes greeting, Bytes reply) {
     int link = connected(port);
     struct timeval most = {.tv_sec = WAIT_SECONDS};
@@ -83,8 +83,8 @@ static int greeted(int port, Bytes greeting, Bytes reply) {
     send_whole(link, greeting.bytes, greeting.length);
     char piece[PIECE];
     if (reply.length > sizeof piece) stop("a reply", "is too long");
-    if (reply.length > 0 && recv(link, piece, reply.length, MSG_WAITALL) < (ssize_t)reply.length) fail("no reply to a greeting");
-    if (memcmp(piece, reply.bytes, reply.length)) stop("a greeting", "got another reply than it should");
+    if (reply.length > 0 && recv(link, piece, reply.length, MSG_WAITALL) < (ssize_t)reply.length) fail("no reply to a handshake");
+    if (memcmp(piece, reply.bytes, reply.length)) stop("a handshake", "got another reply than it should");
     return link;
 }
 

@@ -6,7 +6,7 @@ documents (docs/FORMATS.md), and from Redis (PUBLISH, SUBSCRIBE) a payload of ju
 price. Updates are sent
 
     one by one           the next when all subscribers have the last, for a second
-    1,000 unanswered     at most so many without their answers: how many messages a second reach the subscribers, also with none
+    1,000 unanswered     at most this many without their answers: how many messages a second reach the subscribers, also with none
     10,000 a second      whether those before are answered or not: how long after the answer a subscriber gets its message
 
 Redis is told to keep all that a subscriber hasn't read yet (client-output-buffer-limit pubsub 0 0 0).
