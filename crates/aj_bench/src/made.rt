@@ -1,7 +1,9 @@
 //! The rows that are joined: trades and quotes of one date, in the order of their times.
 
 use anyhow::{Result, bail};
-use q_values::{Atom, Column, Columns, Kind, LongKind, Names, NoMemory, Sym, Vector};
+use q_values::{
+    Atom, Column, Columns, Kind, LongKind, NANOSECONDS_PER_DAY, Names, NoMemory, Sym, Vector,
+};
 use qsql_eval::Rows;
 use std::alloc::Global;
 
@@ -12,7 +14,7 @@ const STEP: u64 = 0x9e37_79b9_7f4a_7c15;
 const OTHER_STEP: u64 = 0xd1b5_4a32_d192_ed03;
 
 // The nanoseconds of a day.
-const DAY: u64 = 86_400_000_000_000;
+const DAY: u64 = NANOSECONDS_PER_DAY as u64;
 
 // `count` longs from 10,000 on, of ten bits more, in no order.
 fn numbers(alloc: Global, count: u32, step: u64) -> Result<Vector, NoMemory> {

@@ -15,7 +15,7 @@ use Rattle.qsql_values.specs.Beside.{beside}
 use Rattle.asof_join.specs.Asof.{KeyedRows, row_as_of, rows_as_of, added_names, is_added, head_names, last_name, keyed_rows, added_columns, column_as_of, column_named}
 use Rattle.asof_join.specs.Heads.{IsKey, AreHeads}
 use Rattle.asof_join.specs.Lasts.{AreNumbers}
-use Rattle.asof_join.proofs.KeyLemmas.{IsEven, even_left, even_right}
+use Rattle.asof_join.proofs.KeyLemmas.{HasBothSizes, even_left, even_right}
 use Rattle.asof_join.proofs.JudgeLemmas.{some_beside, has_some}
 
 -- a name at an index is among the names
@@ -79,13 +79,13 @@ all_there keys names columns size =
     (λ i d low. column_there names columns i (get_or names i d) size low (get_or_default names i d (get_or names i d) low))
 
 module _ (keys : List (List ℕ)) (left right : Grid) (some : 0 < length keys) (are : All (IsKey left right) keys) where
-  even_of : (name : List ℕ) → IsKey left right name → IsEven left right (rows_of left.columns) (rows_of right.columns) name
+  even_of : (name : List ℕ) → IsKey left right name → HasBothSizes left right (rows_of left.columns) (rows_of right.columns) name
   even_of name h = record { in_left = h.left_size; in_right = h.right_size }
 
-  pub heads_even : All (IsEven left right (rows_of left.columns) (rows_of right.columns)) (head_names keys)
+  pub heads_even : All (HasBothSizes left right (rows_of left.columns) (rows_of right.columns)) (head_names keys)
   heads_even = λ i d low.
       let size = length-take (length keys - 1) keys in
-      subst (IsEven left right (rows_of left.columns) (rows_of right.columns)) (sym (get_or-take (length keys - 1) keys i d (omega arith)))
+      subst (HasBothSizes left right (rows_of left.columns) (rows_of right.columns)) (sym (get_or-take (length keys - 1) keys i d (omega arith)))
       (even_of (get_or keys i d) (are i d (omega arith)))
 
   last_key : IsKey left right (last_name keys)

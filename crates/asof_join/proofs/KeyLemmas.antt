@@ -88,31 +88,31 @@ rest_of x y xs ys e = ap (drop 1) e
 
 module _ (left right : Grid) (m n : ℕ) where
   -- a column of both sides has an item for each row
-  pub record IsEven (name : List ℕ) : Type 0 where
+  pub record HasBothSizes (name : List ℕ) : Type 0 where
     pub in_left : length (column_named left name).atoms ≡ m
     pub in_right : length (column_named right name).atoms ≡ n
 
-  pub even_left : (names : List (List ℕ)) → All IsEven names → length (key_rows m (map (column_named left) names)) ≡ m
+  pub even_left : (names : List (List ℕ)) → All HasBothSizes names → length (key_rows m (map (column_named left) names)) ≡ m
   even_left [] even = length-replicate m []
   even_left (name ∷ names) even =
       let first = even 0 name (omega arith) in
       zip_with_atoms m (column_named left name).atoms (key_rows m (map (column_named left) names)) first.in_left (even_left names (λ i d low. even (suc i) d (omega (arith, low))))
 
-  pub even_right : (names : List (List ℕ)) → All IsEven names → length (key_rows n (map (column_named right) names)) ≡ n
+  pub even_right : (names : List (List ℕ)) → All HasBothSizes names → length (key_rows n (map (column_named right) names)) ≡ n
   even_right [] even = length-replicate n []
   even_right (name ∷ names) even =
       let first = even 0 name (omega arith) in
       zip_with_atoms n (column_named right name).atoms (key_rows n (map (column_named right) names)) first.in_right (even_right names (λ i d low. even (suc i) d (omega (arith, low))))
 
   -- the rows of the columns of both sides are those of the left one, and then those of the right one
-  rows_both : (names : List (List ℕ)) (columns : List Contents) → All IsEven names → map (λ (c : Contents). c.atoms) columns ≡ map (both_atoms left right) names
+  rows_both : (names : List (List ℕ)) (columns : List Contents) → All HasBothSizes names → map (λ (c : Contents). c.atoms) columns ≡ map (both_atoms left right) names
       → key_rows (m + n) columns ≡ key_rows m (map (column_named left) names) ++ key_rows n (map (column_named right) names)
   rows_both [] [] even e = replicate_both m n []
   rows_both [] (c ∷ columns) even e = let bad : suc (length (map (λ (d : Contents). d.atoms) columns)) ≡ 0 = ap length e in absurd (omega (arith, bad))
   rows_both (name ∷ names) [] even e = let bad : 0 ≡ suc (length (map (both_atoms left right) names)) = ap length e in absurd (omega (arith, bad))
   rows_both (name ∷ names) (c ∷ columns) even e =
       let first = even 0 name (omega arith) in
-      let later : All IsEven names = λ i d low. even (suc i) d (omega (arith, low)) in
+      let later : All HasBothSizes names = λ i d low. even (suc i) d (omega (arith, low)) in
       let atoms = first_of c.atoms (both_atoms left right name) (map (λ (d : Contents). d.atoms) columns) (map (both_atoms left right) names) e in
       let rest = rows_both names columns later (rest_of c.atoms (both_atoms left right name) (map (λ (d : Contents). d.atoms) columns) (map (both_atoms left right) names) e) in
       (λ i. zip2 (λ (x : Atom) (key : List Atom). x ∷ key) (atoms i) (rest i))
@@ -120,7 +120,7 @@ module _ (left right : Grid) (m n : ℕ) where
       (first.in_left ∙ sym (even_left names later))
 
   -- columns of both sides have an item for each row of both
-  both_even : (names : List (List ℕ)) (columns : List Contents) → All IsEven names → map (λ (c : Contents). c.atoms) columns ≡ map (both_atoms left right) names
+  both_even : (names : List (List ℕ)) (columns : List Contents) → All HasBothSizes names → map (λ (c : Contents). c.atoms) columns ≡ map (both_atoms left right) names
       → All (λ (c : Contents). length c.atoms ≡ m + n) columns
   both_even [] [] even e = All-nil (λ (c : Contents). length c.atoms ≡ m + n)
   both_even [] (c ∷ columns) even e = let bad : suc (length (map (λ (d : Contents). d.atoms) columns)) ≡ 0 = ap length e in absurd (omega (arith, bad))
@@ -136,7 +136,7 @@ module _ (left right : Grid) (m n : ℕ) where
   count_even [] even low = absurd (omega (arith, low))
   count_even (c ∷ columns) even low = even 0 c (omega arith)
 
-  module _ (names : List (List ℕ)) (columns : List Contents) (even : All IsEven names) (atoms : map (λ (c : Contents). c.atoms) columns ≡ map (both_atoms left right) names) where
+  module _ (names : List (List ℕ)) (columns : List Contents) (even : All HasBothSizes names) (atoms : map (λ (c : Contents). c.atoms) columns ≡ map (both_atoms left right) names) where
     -- these columns are of one length
     pub columns_even : All (λ (c : Contents). length c.atoms ≡ rows_of columns) columns
     columns_even = λ i d low. both_even names columns even atoms i d low ∙ sym (count_even columns (both_even names columns even atoms) (omega (arith, low)))

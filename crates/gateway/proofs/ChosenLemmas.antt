@@ -15,7 +15,7 @@ use Rattle.day_rows.specs.declared.schema.Shape.{Shape}
 use Rattle.plant_memory.specs.Memory.{HasColumn}
 use Rattle.qsql_values.specs.Beside.{beside}
 use Rattle.qsql_values.specs.Frames.{AreColumns, frame_of}
-use Rattle.qsql_values.proofs.FrameLemmas.{Even, column-lent, kind-lent}
+use Rattle.qsql_values.proofs.FrameLemmas.{AreOfSize, column-lent, kind-lent}
 use Rattle.qsql_eval.proofs.ReadyLemmas.{even_rows}
 use Rattle.gateway.specs.Needs.{chosen, SameColumn}
 use Rattle.gateway.specs.TableRows.{columns_from}
@@ -42,17 +42,17 @@ length-chosen p (name ∷ names) (c ∷ columns) size = by_test (p name) (length
     by_test true h = ap suc h
     by_test false h = h
 
-pub even_chosen : (n : ℕ) (p : List ℕ → Bool) (names : List (List ℕ)) (columns : List Contents) → Even n columns → Even n (chosen p names columns)
+pub even_chosen : (n : ℕ) (p : List ℕ → Bool) (names : List (List ℕ)) (columns : List Contents) → AreOfSize n columns → AreOfSize n (chosen p names columns)
 even_chosen n p [] columns even = All-nil (λ (c : Contents). length c.atoms ≡ n)
 even_chosen n p (name ∷ names) [] even = All-nil (λ (c : Contents). length c.atoms ≡ n)
 even_chosen n p (name ∷ names) (c ∷ columns) even = by_test (p name) (even_chosen n p names columns (All-tail (λ (d : Contents). length d.atoms ≡ n) c columns even))
   where
-    by_test : (b : Bool) → Even n (chosen p names columns) → Even n (cond b (c ∷ chosen p names columns) (chosen p names columns))
+    by_test : (b : Bool) → AreOfSize n (chosen p names columns) → AreOfSize n (cond b (c ∷ chosen p names columns) (chosen p names columns))
     by_test true h = All-cons (λ (d : Contents). length d.atoms ≡ n) c (chosen p names columns) (All-head (λ (d : Contents). length d.atoms ≡ n) c columns even) h
     by_test false h = h
 
 -- chosen columns of one length make rows
-pub chosen_columns : (n : ℕ) (p : List ℕ → Bool) (names : List (List ℕ)) (columns : List Contents) → length names ≡ length columns → Even n columns → AreColumns (filter p names) (chosen p names columns)
+pub chosen_columns : (n : ℕ) (p : List ℕ → Bool) (names : List (List ℕ)) (columns : List Contents) → length names ≡ length columns → AreOfSize n columns → AreColumns (filter p names) (chosen p names columns)
 chosen_columns n p names columns size even = record {
   named = length-chosen p names columns size;
   even = even_rows n (chosen p names columns) (even_chosen n p names columns even);
@@ -87,7 +87,7 @@ same_column names others columns more name c mine its found there = record {
 }
 
 -- where a column is found, the columns have its length
-pub size_of_found : (n : ℕ) (names : List (List ℕ)) (columns : List Contents) (name : List ℕ) (c : Contents) → Even n columns → beside name names columns ≡ Some c → rows_of columns ≡ n
+pub size_of_found : (n : ℕ) (names : List (List ℕ)) (columns : List Contents) (name : List ℕ) (c : Contents) → AreOfSize n columns → beside name names columns ≡ Some c → rows_of columns ≡ n
 size_of_found n names [] name c even found = absurd (never (nothing names) found)
   where
     nothing : (ns : List (List ℕ)) → beside {X = Contents} name ns [] ≡ None
@@ -120,7 +120,7 @@ pub kinds-columns_from : (place : ℕ) (kinds : List Kind) (rows : List Row) →
 kinds-columns_from place [] rows = refl
 kinds-columns_from place (kind ∷ kinds) rows = ap (λ l. kind ∷ l) (kinds-columns_from (place + 1) kinds rows)
 
-pub even-columns_from : (n place : ℕ) (kinds : List Kind) (rows : List Row) → length rows ≡ n → Even n (columns_from place kinds rows)
+pub even-columns_from : (n place : ℕ) (kinds : List Kind) (rows : List Row) → length rows ≡ n → AreOfSize n (columns_from place kinds rows)
 even-columns_from n place [] rows e = All-nil (λ (c : Contents). length c.atoms ≡ n)
 even-columns_from n place (kind ∷ kinds) rows e = All-cons (λ (c : Contents). length c.atoms ≡ n) (column_of kind place rows) (columns_from (place + 1) kinds rows) (length-map rows (field place) ∙ e) (even-columns_from n (place + 1) kinds rows e)
 

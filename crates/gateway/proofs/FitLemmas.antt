@@ -21,7 +21,7 @@ use Rattle.qsql_request.specs.Unbuilt.{is_empty}
 use Rattle.qsql_values.specs.Beside.{beside}
 use Rattle.qsql_values.specs.Frames.{Frame, AreColumns, frame_of, kind_beside}
 use Rattle.qsql_values.specs.Kinds.{column_kind}
-use Rattle.qsql_values.proofs.FrameLemmas.{Even, some-lent, length_frame}
+use Rattle.qsql_values.proofs.FrameLemmas.{AreOfSize, some-lent, length_frame}
 use Rattle.qsql_eval.proofs.ReadyLemmas.{even_rows}
 use Rattle.qsql_eval.specs.Judgement.{mistyped, fits, first_unknown, judged_by_names, judged_over, judgement, table_named, all_columns, is_typed, IsFit}
 use Rattle.qsql_eval.specs.Views.{needed, is_kind, has_column, has_columns}
@@ -121,7 +121,7 @@ table_kinds dates first entries index table name =
 table_size : (dates : List ℕ) (first : ℤ) (entries : List Entry) (index : ℕ) (table : Shape) → length table.names ≡ length table.kinds → length (table_names table) ≡ length (columns_on dates first entries index table)
 table_size dates first entries index table size = ap (λ (n : ℕ). suc (suc n)) (size ∙ sym (length-columns_from 0 table.kinds (rows_on dates first entries index)))
 
-table_even : (dates : List ℕ) (first : ℤ) (entries : List Entry) (index : ℕ) (table : Shape) → Even (length (rows_on dates first entries index)) (columns_on dates first entries index table)
+table_even : (dates : List ℕ) (first : ℤ) (entries : List Entry) (index : ℕ) (table : Shape) → AreOfSize (length (rows_on dates first entries index)) (columns_on dates first entries index table)
 table_even dates first entries index table =
     let rows = rows_on dates first entries index in
     let P : Contents → Type 0 = λ c. length c.atoms ≡ length rows in
@@ -141,7 +141,7 @@ wanted_columns dates first entries index table needs size =
     chosen_columns (length (rows_on dates first entries index)) (is_wanted needs) (table_names table) (columns_on dates first entries index table) (table_size dates first entries index table size) (table_even dates first entries index table)
 
 -- they have a row for each
-pub wanted_even : (dates : List ℕ) (first : ℤ) (entries : List Entry) (index : ℕ) (table : Shape) (needs : List (List ℕ)) → Even (length (rows_on dates first entries index)) (chosen (is_wanted needs) (table_names table) (columns_on dates first entries index table))
+pub wanted_even : (dates : List ℕ) (first : ℤ) (entries : List Entry) (index : ℕ) (table : Shape) (needs : List (List ℕ)) → AreOfSize (length (rows_on dates first entries index)) (chosen (is_wanted needs) (table_names table) (columns_on dates first entries index table))
 wanted_even dates first entries index table needs = even_chosen (length (rows_on dates first entries index)) (is_wanted needs) (table_names table) (columns_on dates first entries index table) (table_even dates first entries index table)
 
 some_item : {X : Type 0} (o : Option X) → is_some o ≡ true → (x : X) × (o ≡ Some x)

@@ -25,7 +25,7 @@ use Rattle.qsql_parse.specs.Verdicts.{Verdict, asks, too_much, no_request, not_b
 use Rattle.qsql_values.specs.ByRow.{frame_where}
 use Rattle.qsql_values.specs.Frames.{frame_of, rows_beside, column_in}
 use Rattle.qsql_values.specs.Values.{selected}
-use Rattle.qsql_values.proofs.FrameLemmas.{Even, column-read}
+use Rattle.qsql_values.proofs.FrameLemmas.{AreOfSize, column-read}
 use Rattle.qsql_values.proofs.PlacesLemmas.{selected-zip}
 use Rattle.qsql_dates.specs.Dates.{date_column, keeps}
 use Rattle.qsql_dates.proofs.DateLemmas.{kept-dates}
@@ -200,7 +200,7 @@ table_kept phrases first entries index table ascend =
 size_numbers : (first : ℤ) (entries : List Entry) (index : ℕ) → DatesAscend first entries → length (numbers_on (every_date first entries) first entries index).atoms ≡ length (view first entries index)
 size_numbers first entries index ascend = length-numbers_on (every_date first entries) first entries index ∙ ap length (every_row first entries index ascend)
 
-table_even : (first : ℤ) (entries : List Entry) (index : ℕ) (table : Shape) → DatesAscend first entries → Even (length (dates_of_rows (view first entries index)).atoms) (table_columns first entries index table)
+table_even : (first : ℤ) (entries : List Entry) (index : ℕ) (table : Shape) → DatesAscend first entries → AreOfSize (length (dates_of_rows (view first entries index)).atoms) (table_columns first entries index table)
 table_even first entries index table ascend =
     let rows = view first entries index in
     let n = length (map date_of_row rows) in

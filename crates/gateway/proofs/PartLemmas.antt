@@ -28,7 +28,7 @@ use Rattle.qsql_values.specs.Kinds.{column_kind, kind_in}
 use Rattle.qsql_values.specs.Operands.{HasShape}
 use Rattle.qsql_values.specs.Values.{val, truths, rows_where, kept}
 use Rattle.qsql_values.proofs.ByRowLemmas.{kept-more}
-use Rattle.qsql_values.proofs.FrameLemmas.{Even, length_frame, length_rows_at}
+use Rattle.qsql_values.proofs.FrameLemmas.{AreOfSize, length_frame, length_rows_at}
 use Rattle.qsql_values.proofs.KeepingLemmas.{first_rows, next_rows, next_within}
 use Rattle.qsql_values.proofs.PlacesLemmas.{columns-gathered, frame-gathered}
 use Rattle.qsql_values.proofs.ShapeLemmas.{neither, phrase_shape}
@@ -61,7 +61,7 @@ frame_part names columns None are within = ap (frame_of names) (map_none columns
 frame_part names columns (Some places) are within = frame-gathered names columns places are within
 
 -- columns of one length at some indices have one length
-pub columns_part : (n : ℕ) (names : List (List ℕ)) (columns : List Contents) (o : Option (List ℕ)) → AreColumns names columns → Even n columns → AreWithin n o → AreColumns names (map (column_part o) columns)
+pub columns_part : (n : ℕ) (names : List (List ℕ)) (columns : List Contents) (o : Option (List ℕ)) → AreColumns names columns → AreOfSize n columns → AreWithin n o → AreColumns names (map (column_part o) columns)
 columns_part n names columns None are even within = subst (AreColumns names) (sym (map_none columns)) are
 columns_part n names [] (Some places) are even within = record { named = are.named; even = All-nil (λ (c : Contents). length c.atoms ≡ 0) }
 columns_part n names (c ∷ columns) (Some places) are even within =

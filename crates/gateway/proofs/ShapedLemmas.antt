@@ -25,7 +25,7 @@ use Rattle.qsql_values.specs.Frames.{Frame, column_in, kind_beside}
 use Rattle.qsql_values.specs.Operands.{HasShape}
 use Rattle.qsql_values.specs.Ready.{IsReady}
 use Rattle.qsql_values.specs.Values.{items_in, val, kept}
-use Rattle.qsql_values.proofs.FrameLemmas.{Even}
+use Rattle.qsql_values.proofs.FrameLemmas.{AreOfSize}
 use Rattle.qsql_values.proofs.ShapeLemmas.{val_shape}
 use Rattle.std.specs.List.{list_any, position_or_len}
 use Rattle.std.specs.Ordering.{is_eq}
@@ -243,7 +243,7 @@ rows_shaped frame shape q h = by_exec q.exec refl
 
 -- ---- `by`
 
-entry_shaped : (n : ℕ) (keys values : List Contents) → Even n keys → Even n values → IsShaped (dictionary_of keys values)
+entry_shaped : (n : ℕ) (keys values : List Contents) → AreOfSize n keys → AreOfSize n values → IsShaped (dictionary_of keys values)
 entry_shaped n [] values h j = record { nested = omega arith; parts = tt }
 entry_shaped n (k ∷ []) [] h j = record { nested = omega arith; parts = tt }
 entry_shaped n (k ∷ []) (v ∷ []) h j =
@@ -290,13 +290,13 @@ firsts_within rows =
 -- ---- the groups have rows, and their keys are of one length
 
 record AreGrouped (g : Groups) : Type 0 where
-  keys : Even (length g.firsts) g.keys
+  keys : AreOfSize (length g.firsts) g.keys
   last : All (λ (p : ℕ). p < length g.rows.rows) (map last_row (parts_of g))
 
 are_grouped : (frame : Frame) (shape : Shape) (q : Query) → IsGroupable frame shape q → AreGrouped (grouped frame q)
 are_grouped frame shape q h =
     let keys = key_columns (map column_form q.by) frame in
-    let even : Even (length frame.rows) keys = keys_even_of frame q.by h.keys in
+    let even : AreOfSize (length frame.rows) keys = keys_even_of frame q.by h.keys in
     let some : 0 < length keys = omega (arith, key_count frame q.by, h.some) in
     let rows = key_rows (rows_of keys) keys in
     let codes = codes_in rows in

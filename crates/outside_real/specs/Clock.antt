@@ -7,7 +7,7 @@ use Rattle.std.specs.declared.time.Duration.{Duration}
 use Rattle.outside_api.specs.Counts.{counted}
 use Rattle.outside_real.specs.declared.clock.RealClock.{RealClock}
 
--- the moment, in nanoseconds since 2000.01.01, that lies so many nanoseconds after 1970.01.01; it saturates
+-- the moment, in nanoseconds since 2000.01.01, that lies this many nanoseconds after 1970.01.01; it saturates
 abbrev pub moment : ℕ → ℤ
 moment since_1970 = int_min (pos since_1970 -ℤ pos 946684800000000000) (pos (2 ^ 63 - 1))
 

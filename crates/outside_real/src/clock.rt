@@ -70,7 +70,7 @@ impl<C: time::Clock> Clock for RealClock<C> {
     }
 }
 
-/// The moment, in nanoseconds since 2000.01.01, that is so long after 1970.01.01.
+/// The moment, in nanoseconds since 2000.01.01, that is this long after 1970.01.01.
 fn moment_of(since_1970: Duration) -> i64
     ensures { result ≡ moment (as_nanos since_1970) }
 {

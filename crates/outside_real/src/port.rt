@@ -14,8 +14,8 @@ use thiserror::Error;
 /// The errors of a process, and of a machine, that has too many files open.
 const TOO_MANY_FILES: [i32; 2] = [24, 23];
 
-/// How long an accept sleeps that failed for want of something that other sessions may free, in milliseconds.
-const PAUSE_MILLISECONDS: u64 = 50;
+/// How long an accept sleeps where too many files are open, in milliseconds.
+const ACCEPT_MILLISECONDS: u64 = 50;
 
 /// Why a port can't be listened on, or connections not be accepted.
 #[derive(Clone, Copy, Debug, PartialEq, Eq, Error)]
@@ -91,7 +91,7 @@ fn with_options(stream: TcpStream) -> Option<TcpStream> {
 fn may_accept_again<R: Clock>(rt: &R, error: &io::Error) -> bool {
     if let Some(code) = error.raw_os_error() {
         if TOO_MANY_FILES.contains(&code) {
-            thread::sleep(rt, Duration::from_millis(PAUSE_MILLISECONDS));
+            thread::sleep(rt, Duration::from_millis(ACCEPT_MILLISECONDS));
             return true;
         }
     }

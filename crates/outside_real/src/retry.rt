@@ -15,7 +15,7 @@ use std::{io, thread};
 const READ_TRIES: u32 = 50;
 
 /// How long a call that would block sleeps before it is tried again, in milliseconds.
-const PAUSE_MILLISECONDS: u64 = 1;
+const RETRY_MILLISECONDS: u64 = 1;
 
 /// Whether a read that failed so timed out.
 fn is_timeout(kind: ErrorKind) -> bool
@@ -48,7 +48,7 @@ fn would_block(kind: ErrorKind) -> bool {
 }
 
 fn pause<R: Clock>(rt: &R) {
-    thread::sleep(rt, Duration::from_millis(PAUSE_MILLISECONDS));
+    thread::sleep(rt, Duration::from_millis(RETRY_MILLISECONDS));
 }
 
 /// One read, which isn't interrupted by a signal.

@@ -137,7 +137,7 @@ impl JoinedWait {
         })
     }
 
-    /// Waits until bytes may be there, a wake, or so long. Whether bytes may be there; they may where a wait fails.
+    /// Waits until bytes may be there, a wake, or the given time is over. Whether bytes may be there; they may where a wait fails.
     fn finds_bytes(&mut self, at_most: Duration) -> bool {
         if self.more || self.poll.poll(&mut self.events, Some(at_most)).is_err() {
             return true;
@@ -180,7 +180,7 @@ impl<'a> Waiting<'a> {
         }
     }
 
-    /// Wakes the others where bytes came since the last wait, and then waits, at most so long, if the connection has joined
+    /// Wakes the others where bytes came since the last wait, and then waits, at most for this time, if the connection has joined
     /// them. Whether to read: a read that follows `false` would find nothing.
     pub(crate) fn finds_bytes<R: Wait>(&mut self, rt: &R, at_most: Duration) -> bool {
         if self.acted {

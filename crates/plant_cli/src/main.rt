@@ -1,4 +1,5 @@
-//! The program `plant_cli`: a kdb+ tick plant, one session over standard input and output.
+//! The program `plant_cli`: a kdb+ tick plant, which serves one session over standard input and output, or the clients of a
+//! port.
 //!
 //! `plant_run` does all that it does, generic in the outside that makes its devices; `main` gives it the machine's, reads the
 //! arguments and turns what it gives into the exit status.
@@ -7,10 +8,12 @@
 //! plant_cli init --dir plant                                                        makes and formats the folder plant
 //! plant_cli once --dir plant < messages > responses                                 one session over the plant in it
 //! plant_cli once --clock 2024.01.02D09:30:00.000000000 < messages > responses       one over a new plant in memory
+//! plant_cli serve --port 5010 --sessions 8 --dir plant                              the clients of a port, over the plant in it
 //! plant_cli --help                                                                  all commands and options
 //! ```
 //!
-//! The exit statuses and the lines on standard error are those that `plant_run` lists.
+//! The exit statuses and the lines on standard error are those that `plant_run` lists. No option and no file sets a limit.
+//! What the program does is the contract of `plant_run::run`; this crate adds no promise of its own.
 #![tactic(auto)]
 
 use plant_edge::{StandardOutside, Wakers};

@@ -1,7 +1,8 @@
 //! Tests of `plant_core` over a disk in memory, through its public calls.
 //!
 //! `passes` goes through the calls of a pass that has a plant to itself; `damaged` spoils a log; `sizes` logs many rows and
-//! many updates, and loads them again; `closed` gives the disks and the plants that they share.
+//! many updates, and loads them again; `closed` gives the disks and the plants that they share. `reload` closes plants and
+//! loads them again; `crashes` lets calls of the disk fail, and takes the disk down after each of them.
 //!
 //! ```text
 //! let mut solo = new_solo(alloc)?;                       // a plant on a new disk, held by one pass
@@ -12,16 +13,18 @@
 //! ```
 //!
 //! The expected values come from the documented layout of the log, not from the contracts. The tests are in a crate of
-//! their own since a crate with tests is proved twice, with and without them. No call of the disk fails here
-//! (`plant_core_stops` makes each of them fail), no session asks (`disk_sessions`), and what a plant shows once it is
-//! closed and loaded again is compared in `plant_reload_cases`.
+//! their own since a crate with tests is proved twice, with and without them. No session asks here (`disk_sessions`).
 #![tactic(auto)]
 
 #[cfg(test)]
 mod closed;
 #[cfg(test)]
+mod crashes;
+#[cfg(test)]
 mod damaged;
 #[cfg(test)]
 mod passes;
+#[cfg(test)]
+mod reload;
 #[cfg(test)]
 mod sizes;

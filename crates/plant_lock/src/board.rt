@@ -19,12 +19,15 @@ pub(crate) const NUMBERS: usize = 3;
 /// What the table is told once: the state that the lock is made with, and the number of its first pass.
 #[derive(Drop)]
 pub struct Start<S> {
+    /// The state that the lock is made with, for contracts.
     pub state: Snapshot<S>,
+    /// The number of the first pass.
     pub first: u64,
 }
 
 /// The rule of the table.
 pub struct Law<S> {
+    // The kind of state alone.
     of: PhantomData<S>,
 }
 

@@ -14,10 +14,15 @@ use std::marker::Model;
 
 /// The state of a lock, and the pass that holds it. It can't be dropped: end it by [`Held::give`].
 pub struct Held<'a, S: Chronicle> {
+    // The lock that the state was taken from.
     lock: &'a PlantLock<S>,
+    // The seat of the pass at that lock's table. It holds the slot.
     seat: Place<S>,
+    // The number of the pass.
     number: u64,
+    // How many entries the state had when it was taken; the pass has seen these.
     taken: u64,
+    // The state itself, which may have more entries by now.
     state: S,
 }
 

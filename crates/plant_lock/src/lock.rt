@@ -28,6 +28,8 @@ pub type NoteOf<S> = Note<<S as Chronicle>::Entry>;
 /// Each call's passes, notes and holds have to be of this lock.
 #[derive(Drop)]
 pub struct PlantLock<S: Chronicle> {
+    /// The table of one slot, which has the state, and of four words, as `board` numbers them. Its key has the state that
+    /// the lock was made with.
     pub(crate) table: Board<S>,
     /// The threads that sleep until they may take the state.
     pub(crate) sleepers: Sleepers,

@@ -6,11 +6,13 @@ use crate::view::View;
 use atomic_table::{Badge, Seat};
 use std::marker::Model;
 
-/// One asker's token. It has a number, the beginning of the history that it has seen, and the entries that it made.
-/// Only [`crate::PlantLock`]'s calls change it. It may go to another thread.
+/// What a lock knows of one of its users: a number, the beginning of the history that this user has seen, and the entries
+/// that the user added. Only [`crate::PlantLock`]'s calls change it. It may go to another thread.
 #[derive(Drop)]
 pub struct Pass<E> {
+    // The seat at the lock's table, which holds nothing. What the pass has seen and added is in the seat's view.
     badge: Badge<View<E>>,
+    // The pass's number, which is also in that view.
     number: u64,
 }
 
@@ -62,6 +64,7 @@ impl<E> Pass<E> {
 /// What a pass had seen, for another pass to learn. It may go to another thread.
 #[derive(Drop)]
 pub struct Note<E> {
+    // A seat at the lock's table without a number of its own, whose view has what the pass had seen.
     badge: Badge<View<E>>,
 }
 

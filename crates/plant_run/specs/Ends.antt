@@ -50,7 +50,7 @@ abbrev pub printed : OutsideView → Option (List ℕ) → OutsideView
 printed seen None = seen
 printed seen (Some line) = warned_of seen line
 
--- the program ends with the status and the line of the session's end
+-- the program ends with the exit status and the line of the session's end
 abbrev pub Concludes : End → OutsideView → OutsideView → ℕ → Type 0
 Concludes end old new status = (status ≡ status_of end) × (new ≡ printed old (line_of end))
 

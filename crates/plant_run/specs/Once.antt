@@ -140,7 +140,7 @@ Refuses None why old new status = IsShort old new status
 Refuses (Some path) why old new status =
     ((why ≡ l.NoMemory) × IsShort old new status) ⊎ ((why ≢ l.NoMemory) × CannotStart path (s.Load why) old new status)
 
--- the devices are handed back, and the program ends with the status and the lines of its course
+-- the devices are handed back, and the program ends with the exit status and the lines of its course
 abbrev pub Finishes : Option (List ℕ) → Option (Option (List ℤ)) → OutsideView → OutsideView → ℕ → CourseView → Type 0
 Finishes folder handed old new status (not_loaded why) = Refuses folder why (clock_back old handed) new status
 Finishes folder handed old new status (not_linked cause) =

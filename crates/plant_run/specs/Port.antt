@@ -64,7 +64,7 @@ Hosts limits tables port count disk_old disk_new clock_old clock_new old new (s.
 Hosts limits tables port count disk_old disk_new clock_old clock_new old new (s.Ended end) =
     HostsLoaded limits tables port count disk_old disk_new clock_old clock_new old new (s.Ended end)
 
--- the status and the lines of how it went
+-- the exit status and the lines of how it went
 abbrev pub EndsService : Option (List ℕ) → ℕ → OutsideView → OutsideView → ℕ → Service → Type 0
 EndsService folder port old new status (s.NotLoaded why) = Refuses folder why old new status
 EndsService folder port old new status (s.NotListening cause) = CannotListen port cause old new status

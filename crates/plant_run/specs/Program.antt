@@ -29,7 +29,7 @@ RunsOnce limits folder schema ticking old new status =
     HasNoTables schema old new status
     ⊎ ((tables : List Shape) × ((seen : OutsideView) × HasTables schema tables old seen × RunsWith limits tables ticking folder seen new status))
 
--- so many sessions of a port are served within these limits, with the tables that are found first
+-- `count` sessions of a port are served within these limits, with the tables that are found first
 abbrev pub RunsServe : Limits → ℕ → ℕ → Option (List ℕ) → Option (List ℕ) → OutsideView → OutsideView → ℕ → Type 0
 RunsServe limits port count folder schema old new status =
     HasNoTables schema old new status

@@ -10,7 +10,7 @@ use crate::init::format_folder;
 use crate::once::serve_once;
 use crate::port::{Door, serve_door};
 use crate::tables::find_tables;
-use plant_words::{Command, Init, Once, Serve, WordsRefusal, read_words};
+use plant_words::{ArgumentsRefusal, Command, Init, Once, Serve, read_arguments};
 use program_outside::Outside;
 use q_values::Limits;
 use std::alloc::Global;
@@ -19,8 +19,8 @@ use std::thread::Threads;
 
 /// Does all that the program does, and gives its exit status. The arguments are those after the program's own name.
 ///
-/// First the arguments are judged, then the schema's file, then the folder. With each status but 0 a line is printed on
-/// standard error; where there is a cause to tell, with status 1, 6 and 9, a second one says it.
+/// First the arguments are judged, then the schema's file, then the folder. With each exit status but 0 a line is printed
+/// on standard error; with exit statuses 1, 6 and 9 a second one gives the cause.
 pub fn run<O: Outside, R: Threads + Wait + Sync>(
     rt: &R,
     alloc: Global,
@@ -29,22 +29,22 @@ pub fn run<O: Outside, R: Threads + Wait + Sync>(
 ) -> u8
     ensures { Runs (map string_bytes arguments.now) (O.seen outside.old) (O.seen outside.new) result }
 {
-    match read_words(alloc, arguments) {
-        Ok(Command::Init(words)) => run_init(alloc, &words, outside),
-        Ok(Command::Once(words)) => run_once(rt, alloc, &words, &limits_with(words.batch), outside),
-        Ok(Command::Serve(words)) => run_serve(
+    match read_arguments(alloc, arguments) {
+        Ok(Command::Init(init)) => run_init(alloc, &init, outside),
+        Ok(Command::Once(once)) => run_once(rt, alloc, &once, &limits_with(once.batch), outside),
+        Ok(Command::Serve(serve)) => run_serve(
             rt,
             alloc,
-            &words,
-            &limits_with(words.batch),
+            &serve,
+            &limits_with(serve.batch),
             outside,
         ),
-        Err(WordsRefusal::Shown(text)) => show(text.as_str(), outside),
-        Err(WordsRefusal::Usage(line)) => {
+        Err(ArgumentsRefusal::Shown(text)) => show(text.as_str(), outside),
+        Err(ArgumentsRefusal::Usage(line)) => {
             warn_of_usage(line.as_bytes(), outside);
             1
         }
-        Err(WordsRefusal::NoMemory) => short(outside),
+        Err(ArgumentsRefusal::NoMemory) => short(outside),
     }
 }
 
@@ -78,11 +78,11 @@ fn limits_with(batch: bool) -> Limits
 }
 
 /// Formats a folder.
-fn run_init<O: Outside>(alloc: Global, words: &Init<'_>, outside: &mut O) -> u8
-    ensures { RunsInit words.now.folder.now (option_map (λ s. s.now) words.now.schema) (O.seen outside.old) (O.seen outside.new) result }
+fn run_init<O: Outside>(alloc: Global, command: &Init<'_>, outside: &mut O) -> u8
+    ensures { RunsInit command.now.folder.now (option_map (λ s. s.now) command.now.schema) (O.seen outside.old) (O.seen outside.new) result }
 {
-    match find_tables(alloc, words.schema, outside) {
-        Ok(schema) => format_folder(alloc, words.folder, &schema, outside),
+    match find_tables(alloc, command.schema, outside) {
+        Ok(schema) => format_folder(alloc, command.folder, &schema, outside),
         Err(status) => status,
     }
 }
@@ -91,21 +91,21 @@ fn run_init<O: Outside>(alloc: Global, words: &Init<'_>, outside: &mut O) -> u8
 pub fn run_once<O: Outside, R: Wait>(
     rt: &R,
     alloc: Global,
-    words: &Once<'_>,
+    command: &Once<'_>,
     limits: &Limits,
     outside: &mut O,
 ) -> u8
     requires { AreLimits limits.now }
-    ensures { RunsOnce limits.now (option_map (λ s. s.now) words.now.folder) (option_map (λ s. s.now) words.now.schema) words.now.clock
+    ensures { RunsOnce limits.now (option_map (λ s. s.now) command.now.folder) (option_map (λ s. s.now) command.now.schema) command.now.clock
         (O.seen outside.old) (O.seen outside.new) result }
 {
-    match find_tables(alloc, words.schema, outside) {
+    match find_tables(alloc, command.schema, outside) {
         Ok(schema) => serve_once(
             rt,
             alloc,
-            words.folder,
+            command.folder,
             schema,
-            words.clock,
+            command.clock,
             limits,
             outside,
         ),
@@ -117,20 +117,20 @@ pub fn run_once<O: Outside, R: Wait>(
 fn run_serve<O: Outside, R: Threads + Wait + Sync>(
     rt: &R,
     alloc: Global,
-    words: &Serve<'_>,
+    command: &Serve<'_>,
     limits: &Limits,
     outside: &mut O,
 ) -> u8
     requires { AreLimits limits.now }
-    ensures { RunsServe limits.now words.now.port words.now.sessions (option_map (λ s. s.now) words.now.folder)
-        (option_map (λ s. s.now) words.now.schema) (O.seen outside.old) (O.seen outside.new) result }
+    ensures { RunsServe limits.now command.now.port command.now.sessions (option_map (λ s. s.now) command.now.folder)
+        (option_map (λ s. s.now) command.now.schema) (O.seen outside.old) (O.seen outside.new) result }
 {
     let door = Door {
-        port: words.port,
-        sessions: words.sessions,
+        port: command.port,
+        sessions: command.sessions,
     };
-    match find_tables(alloc, words.schema, outside) {
-        Ok(schema) => serve_door(rt, alloc, door, words.folder, schema, limits, outside),
+    match find_tables(alloc, command.schema, outside) {
+        Ok(schema) => serve_door(rt, alloc, door, command.folder, schema, limits, outside),
         Err(status) => status,
     }
 }

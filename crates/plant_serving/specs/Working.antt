@@ -49,7 +49,7 @@ faults_of (Some v.Served) = 0
 faults_of (Some (v.NotAccepted cause)) = 1
 faults_of (Some v.NoMemory) = 0
 
--- why no more are accepted than this many of so many, if so
+-- why no more than `accepted` of `count` connections are accepted, if so
 abbrev pub IsStop : ℕ → ℕ → Option ServeEnd → Type 0
 IsStop accepted count None = accepted ≤ count
 IsStop accepted count (Some v.Served) = ⊥

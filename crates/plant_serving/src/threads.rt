@@ -214,7 +214,8 @@ impl<
     /// Serves it on this thread.
     fn run(self) -> Finished<L, C, N>
         requires { MayServe (K.lock_of self.shop.lock.now) self.pass self.schema.value self.shop.limits.now }
-        ensures { let before = line (L.shown self.entry.connection.link) (C.readings self.entry.connection.clock) (N.noted self.entry.connection.recorder) in
+        ensures { let given = self.entry.connection in
+            let before = line (L.shown given.link) (C.readings given.clock) (N.noted given.recorder) in
             let after = line (L.shown result.link) (C.readings result.clock) (N.noted result.recorder) in
             ServesOne K.Disk.shown (K.lock_of self.entry.shop.lock.now) self.entry.shop.limits.now before self.entry.pass after result.pass result.end }
     {
@@ -243,9 +244,11 @@ impl<
         flags: (Arc<AtomicBool>, Arc<AtomicBool>),
     ) -> Result<Running<K::Disk, L, C, G, N>, Finished<L, C, N>>
         requires { MayServe (K.lock_of self.shop.lock.now) self.pass self.schema.value self.shop.limits.now }
-        ensures started { let before = line (L.shown self.entry.connection.link) (C.readings self.entry.connection.clock) (N.noted self.entry.connection.recorder) in
+        ensures started { let given = self.entry.connection in
+            let before = line (L.shown given.link) (C.readings given.clock) (N.noted given.recorder) in
             IfOk result (λ r. r ≡ promised (K.lock_of self.entry.shop.lock.now) self.entry.shop.limits.now before self.entry.pass) }
-        ensures here { let before = line (L.shown self.entry.connection.link) (C.readings self.entry.connection.clock) (N.noted self.entry.connection.recorder) in
+        ensures here { let given = self.entry.connection in
+            let before = line (L.shown given.link) (C.readings given.clock) (N.noted given.recorder) in
             IfErr result (λ f. let after = line (L.shown f.link) (C.readings f.clock) (N.noted f.recorder) in
             ServesOne K.Disk.shown (K.lock_of self.entry.shop.lock.now) self.entry.shop.limits.now before self.entry.pass after f.pass f.end) }
     {
@@ -255,7 +258,8 @@ impl<
             task.promise(),
             move || -> Finished<L, C, N>
                 requires { MayServe (K.lock_of task.shop.lock.now) task.pass task.schema.value task.shop.limits.now }
-                ensures { let before = line (L.shown task.entry.connection.link) (C.readings task.entry.connection.clock) (N.noted task.entry.connection.recorder) in
+                ensures { let given = task.entry.connection in
+                    let before = line (L.shown given.link) (C.readings given.clock) (N.noted given.recorder) in
                     let after = line (L.shown result.link) (C.readings result.clock) (N.noted result.recorder) in
                     ServesOne K.Disk.shown (K.lock_of task.entry.shop.lock.now) task.entry.shop.limits.now before task.entry.pass after result.pass result.end }
             {

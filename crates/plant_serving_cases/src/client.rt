@@ -62,7 +62,8 @@ pub fn serve<R: Abort + Threads + Wait + Sync, O: Outside>(
     run(rt, alloc, &words, outside)
 }
 
-/// What clients on a thread find of a plant in memory that serves this many sessions meanwhile, and then ends with status 0.
+/// What clients on a thread find of a plant in memory that serves this many sessions meanwhile, and then ends with exit
+/// status 0.
 pub fn served<T, F, R: Abort + Threads + Wait + Sync, O: Outside>(
     threads: &R,
     rt: &HostRuntime,

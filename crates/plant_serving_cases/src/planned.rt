@@ -112,7 +112,7 @@ impl<'a, R: AllocGlobal> PlannedOutside<'a, R> {
         }
     }
 
-    /// The same, but its port fails after so many connections.
+    /// The same, but its port fails after this many connections.
     pub fn failing_after(rt: &'a R, wakers: &'a Wakers, connections: u32) -> PlannedOutside<'a, R> {
         PlannedOutside {
             left: connections,

@@ -6,6 +6,8 @@
 //! - `sessions` has sessions that read messages, whole, divided into pieces, truncated or malformed.
 //! - `updates` has updates: the order of rows, the end of a date, refusals, and async messages.
 //! - `faults` has links that fail or time out.
+//! - `subscriptions` has sessions that subscribe. Subscribers of a plant that other sessions feed are in
+//!   `shared_sessions_cases`.
 //!
 //! ```text
 //! in      u:p 03 00, an update of trade by one row, "select from trade"
@@ -14,8 +16,8 @@
 //! end     Closed
 //! ```
 //!
-//! Sessions at real sizes are in `session_size_cases`, the order of their calls in `session_order_cases`, queries in
-//! `query_vectors`. The crate has no code outside its tests: so the crates that it tests are proved once, and not again with
+//! Queries and sessions at real sizes are in `query_vectors`, the order of a session's calls in `session_order_cases`. The
+//! crate has no code outside its tests: so the crates that it tests are proved once, and not again with
 //! their tests.
 #![tactic(auto)]
 
@@ -23,5 +25,7 @@
 mod faults;
 #[cfg(test)]
 mod sessions;
+#[cfg(test)]
+mod subscriptions;
 #[cfg(test)]
 mod updates;

@@ -1,4 +1,4 @@
--- What words ask for, part by part.
+-- What arguments ask for, part by part.
 use Rattle.std.proofs.Common.{◌≡◌, ◌↔◌, ℕ, Bool, true, false, List, [], ◌∷◌, Option, Some, None, Err, codes, refl, sym, ap, ◌∙◌, subst, arith}
 use Rattle.std.specs.Str.{bytes_eq}
 use Rattle.plant_words.specs.Asked.{Text, Given, AreOptions, Asked, init, once, serve, command_name, Asks, AsksServe, IsAsked, IsClock, shown}
@@ -43,7 +43,7 @@ serve-asks given (once folder schema ticking is_batch) name asks = let bad : tru
 serve-asks given (serve port sessions folder schema is_batch) name asks =
     record { port = port; sessions = sessions; folder = folder; schema = schema; is_batch = is_batch; is = refl; asks = asks }
 
--- what words ask for, where the options after the name are these or none
+-- what arguments ask for, where the options after the name are these or none
 pub record HasParts (name : Text) (o : Option Given) (asked : Asked) : Type 0 where
   pub given : Given
   pub are : o ≡ Some given

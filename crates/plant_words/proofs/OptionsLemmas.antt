@@ -1,11 +1,11 @@
--- Reading the words gives the options of their settings.
+-- Reading the arguments gives the options of their settings.
 use Rattle.std.proofs.Common.{◌≡◌, Bool, true, false, List, [], ◌∷◌, ◌++◌, Option, Some, None, is_some, if◌then◌else◌, codes, refl, sym, ap, ◌∙◌, ◌⊎◌, inl, inr, append-nil, ap₂, subst}
 use Rattle.std.specs.List.{AllByRecursion}
 use Rattle.std.specs.Option.{option_to_list}
 use Rattle.std.specs.Str.{bytes_eq}
 use Rattle.std.specs.Cmp.Lexicographic.{same_text}
 use Rattle.plant_words.specs.Asked.{set_dir, set_schema, set_clock, set_step, set_port, set_sessions, set_batch}
-use Rattle.plant_words.specs.Asked.{Text, Setting, words_of_setting, words_of, begins_with_hyphen, HasPlainValue, Given, flags, Gives, AreOptions}
+use Rattle.plant_words.specs.Asked.{Text, Setting, arguments_of_setting, arguments_of, begins_with_hyphen, HasPlainValue, Given, flags, Gives, AreOptions}
 use Rattle.plant_words.specs.Reading.{State, nothing_given, valued_named, value_in, with_value, waiting_for, named, read_from}
 use Rattle.plant_words.specs.declared.options.Valued.{Valued}
 use Rattle.plant_words.specs.declared.options.Valued.TheVariants.{Dir, Schema, Clock, Step, Port, Sessions}
@@ -29,7 +29,7 @@ text_of Step = codes "--step"
 text_of Port = codes "--port"
 text_of Sessions = codes "--sessions"
 
-written_as : (name : Valued) (value : Text) → words_of_setting (setting_of name value) ≡ text_of name ∷ value ∷ []
+written_as : (name : Valued) (value : Text) → arguments_of_setting (setting_of name value) ≡ text_of name ∷ value ∷ []
 written_as Dir value = refl
 written_as Schema value = refl
 written_as Clock value = refl
@@ -119,33 +119,33 @@ completes-nothing given =
       batches = append-nil (flags given.batch);
     }
 
--- what words give that were read from here on, where an option may wait for its value
-record Names (from : Given) (words : List Text) (to : Given) : Type 0 where
+-- what arguments give that were read from here on, where an option may wait for its value
+record Names (from : Given) (arguments : List Text) (to : Given) : Type 0 where
   settings : List Setting
-  written : words ≡ words_of settings
+  written : arguments ≡ arguments_of settings
   plain : AllByRecursion HasPlainValue settings
   whole : Completes from settings to
 
-record Values (name : Valued) (from : Given) (words : List Text) (to : Given) : Type 0 where
+record Values (name : Valued) (from : Given) (arguments : List Text) (to : Given) : Type 0 where
   value : Text
   after : List Text
-  written : words ≡ value ∷ after
+  written : arguments ≡ value ∷ after
   plain : begins_with_hyphen value ≡ false
   rest : Names (with_value from name value) after to
 
 abbrev Reads : Given → Option Valued → List Text → Given → Type 0
-Reads from None words to = Names from words to
-Reads from (Some name) words to = (value_in from name ≡ None) → Values name from words to
+Reads from None arguments to = Names from arguments to
+Reads from (Some name) arguments to = (value_in from name ≡ None) → Values name from arguments to
 
 -- a name that is known, of an option that has no value
-record IsName (from : Given) (word : Text) (state : State) : Type 0 where
+record IsName (from : Given) (argument : Text) (state : State) : Type 0 where
   name : Valued
-  written : word ≡ text_of name
+  written : argument ≡ text_of name
   none : value_in from name ≡ None
   is : state ≡ record { given = from; waiting = Some name }
 
-record IsFlag (from : Given) (word : Text) (state : State) : Type 0 where
-  written : word ≡ codes "--batch"
+record IsFlag (from : Given) (argument : Text) (state : State) : Type 0 where
+  written : argument ≡ codes "--batch"
   none : from.batch ≡ false
   is : state ≡ record { given = record from { batch = true }; waiting = None }
 
@@ -153,57 +153,57 @@ absent : (o : Option Text) → is_some o ≡ false → o ≡ None
 absent None e = refl
 absent (Some x) e = absurd (cc)
 
-read-none : (words : List Text) (to : Given) → read_from None words ≡ Some to → ⊥
-read-none words to e = cc
+read-none : (arguments : List Text) (to : Given) → read_from None arguments ≡ Some to → ⊥
+read-none arguments to e = cc
 
-named_by : (word : Text) (name : Valued) (b1 b2 b3 b4 b5 b6 : Bool)
-    → bytes_eq word (codes "--dir") ≡ b1 → bytes_eq word (codes "--schema") ≡ b2 → bytes_eq word (codes "--clock") ≡ b3
-    → bytes_eq word (codes "--step") ≡ b4 → bytes_eq word (codes "--port") ≡ b5 → bytes_eq word (codes "--sessions") ≡ b6
+named_by : (argument : Text) (name : Valued) (b1 b2 b3 b4 b5 b6 : Bool)
+    → bytes_eq argument (codes "--dir") ≡ b1 → bytes_eq argument (codes "--schema") ≡ b2 → bytes_eq argument (codes "--clock") ≡ b3
+    → bytes_eq argument (codes "--step") ≡ b4 → bytes_eq argument (codes "--port") ≡ b5 → bytes_eq argument (codes "--sessions") ≡ b6
     → (if b1 then Some Dir else if b2 then Some Schema else if b3 then Some Clock
-    else if b4 then Some Step else if b5 then Some Port else if b6 then Some Sessions else None) ≡ Some name → word ≡ text_of name
-named_by word name true b2 b3 b4 b5 b6 e1 e2 e3 e4 e5 e6 h =
-    let is : Dir ≡ name = cc in subst (λ n. word ≡ text_of n) is (same_text word (codes "--dir") (sym e1))
-named_by word name false true b3 b4 b5 b6 e1 e2 e3 e4 e5 e6 h =
-    let is : Schema ≡ name = cc in subst (λ n. word ≡ text_of n) is (same_text word (codes "--schema") (sym e2))
-named_by word name false false true b4 b5 b6 e1 e2 e3 e4 e5 e6 h =
-    let is : Clock ≡ name = cc in subst (λ n. word ≡ text_of n) is (same_text word (codes "--clock") (sym e3))
-named_by word name false false false true b5 b6 e1 e2 e3 e4 e5 e6 h =
-    let is : Step ≡ name = cc in subst (λ n. word ≡ text_of n) is (same_text word (codes "--step") (sym e4))
-named_by word name false false false false true b6 e1 e2 e3 e4 e5 e6 h =
-    let is : Port ≡ name = cc in subst (λ n. word ≡ text_of n) is (same_text word (codes "--port") (sym e5))
-named_by word name false false false false false true e1 e2 e3 e4 e5 e6 h =
-    let is : Sessions ≡ name = cc in subst (λ n. word ≡ text_of n) is (same_text word (codes "--sessions") (sym e6))
-named_by word name false false false false false false e1 e2 e3 e4 e5 e6 h = absurd (cc)
+    else if b4 then Some Step else if b5 then Some Port else if b6 then Some Sessions else None) ≡ Some name → argument ≡ text_of name
+named_by argument name true b2 b3 b4 b5 b6 e1 e2 e3 e4 e5 e6 h =
+    let is : Dir ≡ name = cc in subst (λ n. argument ≡ text_of n) is (same_text argument (codes "--dir") (sym e1))
+named_by argument name false true b3 b4 b5 b6 e1 e2 e3 e4 e5 e6 h =
+    let is : Schema ≡ name = cc in subst (λ n. argument ≡ text_of n) is (same_text argument (codes "--schema") (sym e2))
+named_by argument name false false true b4 b5 b6 e1 e2 e3 e4 e5 e6 h =
+    let is : Clock ≡ name = cc in subst (λ n. argument ≡ text_of n) is (same_text argument (codes "--clock") (sym e3))
+named_by argument name false false false true b5 b6 e1 e2 e3 e4 e5 e6 h =
+    let is : Step ≡ name = cc in subst (λ n. argument ≡ text_of n) is (same_text argument (codes "--step") (sym e4))
+named_by argument name false false false false true b6 e1 e2 e3 e4 e5 e6 h =
+    let is : Port ≡ name = cc in subst (λ n. argument ≡ text_of n) is (same_text argument (codes "--port") (sym e5))
+named_by argument name false false false false false true e1 e2 e3 e4 e5 e6 h =
+    let is : Sessions ≡ name = cc in subst (λ n. argument ≡ text_of n) is (same_text argument (codes "--sessions") (sym e6))
+named_by argument name false false false false false false e1 e2 e3 e4 e5 e6 h = absurd (cc)
 
-text-named : (word : Text) (name : Valued) → valued_named word ≡ Some name → word ≡ text_of name
-text-named word name e = named_by word name _ _ _ _ _ _ refl refl refl refl refl refl e
+text-named : (argument : Text) (name : Valued) → valued_named argument ≡ Some name → argument ≡ text_of name
+text-named argument name e = named_by argument name _ _ _ _ _ _ refl refl refl refl refl refl e
 
-flag_by : (from : Given) (word : Text) (state : State) (f : Bool) → bytes_eq word (codes "--batch") ≡ true → from.batch ≡ f
-    → (if f then None else Some (record { given = record from { batch = true }; waiting = None })) ≡ Some state → IsFlag from word state
-flag_by from word state true e none h = absurd (cc)
-flag_by from word state false e none h = record { written = same_text word (codes "--batch") (sym e); none = none; is = cc }
+flag_by : (from : Given) (argument : Text) (state : State) (f : Bool) → bytes_eq argument (codes "--batch") ≡ true → from.batch ≡ f
+    → (if f then None else Some (record { given = record from { batch = true }; waiting = None })) ≡ Some state → IsFlag from argument state
+flag_by from argument state true e none h = absurd (cc)
+flag_by from argument state false e none h = record { written = same_text argument (codes "--batch") (sym e); none = none; is = cc }
 
-name_by : (from : Given) (word : Text) (name : Valued) (state : State) (f : Bool) → valued_named word ≡ Some name → is_some (value_in from name) ≡ f
-    → (if f then None else Some (record { given = from; waiting = Some name })) ≡ Some state → IsName from word state
-name_by from word name state true e none h = absurd (cc)
-name_by from word name state false e none h = record { name = name; written = text-named word name e; none = absent (value_in from name) none; is = cc }
+name_by : (from : Given) (argument : Text) (name : Valued) (state : State) (f : Bool) → valued_named argument ≡ Some name → is_some (value_in from name) ≡ f
+    → (if f then None else Some (record { given = from; waiting = Some name })) ≡ Some state → IsName from argument state
+name_by from argument name state true e none h = absurd (cc)
+name_by from argument name state false e none h = record { name = name; written = text-named argument name e; none = absent (value_in from name) none; is = cc }
 
-word_by : (from : Given) (word : Text) (state : State) (b : Bool) (o : Option Valued) → bytes_eq word (codes "--batch") ≡ b → valued_named word ≡ o
+argument_by : (from : Given) (argument : Text) (state : State) (b : Bool) (o : Option Valued) → bytes_eq argument (codes "--batch") ≡ b → valued_named argument ≡ o
     → (if b then (if from.batch then None else Some (record { given = record from { batch = true }; waiting = None })) else waiting_for from o) ≡ Some state
-    → IsFlag from word state ⊎ IsName from word state
-word_by from word state true o e is h = inl (flag_by from word state from.batch e refl h)
-word_by from word state false None e is h = absurd (cc)
-word_by from word state false (Some name) e is h = inr (name_by from word name state (is_some (value_in from name)) is refl h)
+    → IsFlag from argument state ⊎ IsName from argument state
+argument_by from argument state true o e is h = inl (flag_by from argument state from.batch e refl h)
+argument_by from argument state false None e is h = absurd (cc)
+argument_by from argument state false (Some name) e is h = inr (name_by from argument name state (is_some (value_in from name)) is refl h)
 
 abbrev ReadsAll : List Text → Type 0
-ReadsAll words = (from : Given) (waiting : Option Valued) (to : Given) → read_from (Some (record { given = from; waiting = waiting })) words ≡ Some to → Reads from waiting words to
+ReadsAll arguments = (from : Given) (waiting : Option Valued) (to : Given) → read_from (Some (record { given = from; waiting = waiting })) arguments ≡ Some to → Reads from waiting arguments to
 
-after_name : (word : Text) (words : List Text) (from to : Given) → ReadsAll words → (o : Option State) → named from word ≡ o → read_from o words ≡ Some to → Names from (word ∷ words) to
-after_name word words from to ih None is e = absurd (cc)
-after_name word words from to ih (Some state) is e =
-    elim (word_by from word state (bytes_eq word (codes "--batch")) (valued_named word) refl refl is) [
+after_name : (argument : Text) (arguments : List Text) (from to : Given) → ReadsAll arguments → (o : Option State) → named from argument ≡ o → read_from o arguments ≡ Some to → Names from (argument ∷ arguments) to
+after_name argument arguments from to ih None is e = absurd (cc)
+after_name argument arguments from to ih (Some state) is e =
+    elim (argument_by from argument state (bytes_eq argument (codes "--batch")) (valued_named argument) refl refl is) [
       | inl flag ↦
-          let rest = ih (record from { batch = true }) None to (ap (λ s. read_from (Some s) words) (sym flag.is) ∙ e) in
+          let rest = ih (record from { batch = true }) None to (ap (λ s. read_from (Some s) arguments) (sym flag.is) ∙ e) in
           record {
             settings = set_batch ∷ rest.settings;
             written = ap₂ (λ x xs. x ∷ xs) flag.written rest.written;
@@ -219,28 +219,28 @@ after_name word words from to ih (Some state) is e =
             };
           }
       | inr known ↦
-          let found = ih from (Some known.name) to (ap (λ s. read_from (Some s) words) (sym known.is) ∙ e) known.none in
+          let found = ih from (Some known.name) to (ap (λ s. read_from (Some s) arguments) (sym known.is) ∙ e) known.none in
           record {
             settings = setting_of known.name found.value ∷ found.rest.settings;
-            written = ap₂ (λ x xs. x ∷ xs) known.written (found.written ∙ ap (λ xs. found.value ∷ xs) found.rest.written) ∙ ap (λ xs. xs ++ words_of found.rest.settings) (sym (written_as known.name found.value));
+            written = ap₂ (λ x xs. x ∷ xs) known.written (found.written ∙ ap (λ xs. found.value ∷ xs) found.rest.written) ∙ ap (λ xs. xs ++ arguments_of found.rest.settings) (sym (written_as known.name found.value));
             plain = (plain_value known.name found.value found.plain, found.rest.plain);
             whole = completes-valued known.name found.value from to found.rest.settings known.none found.rest.whole;
           }
     ]
 
-after_value : (name : Valued) (word : Text) (words : List Text) (from to : Given) → ReadsAll words → (b : Bool) → begins_with_hyphen word ≡ b
-    → read_from (if b then None else Some (record { given = with_value from name word; waiting = None })) words ≡ Some to → Values name from (word ∷ words) to
-after_value name word words from to ih true plain e = absurd (cc)
-after_value name word words from to ih false plain e =
-    record { value = word; after = words; written = refl; plain = plain; rest = ih (with_value from name word) None to e }
+after_value : (name : Valued) (argument : Text) (arguments : List Text) (from to : Given) → ReadsAll arguments → (b : Bool) → begins_with_hyphen argument ≡ b
+    → read_from (if b then None else Some (record { given = with_value from name argument; waiting = None })) arguments ≡ Some to → Values name from (argument ∷ arguments) to
+after_value name argument arguments from to ih true plain e = absurd (cc)
+after_value name argument arguments from to ih false plain e =
+    record { value = argument; after = arguments; written = refl; plain = plain; rest = ih (with_value from name argument) None to e }
 
-reads : (words : List Text) → ReadsAll words
+reads : (arguments : List Text) → ReadsAll arguments
 reads [] from None to e =
     let same : from ≡ to = cc in
     record { settings = []; written = refl; plain = tt; whole = subst (λ g. Completes from [] g) same (completes-nothing from) }
 reads [] from (Some name) to e = λ none. absurd (cc)
-reads (word ∷ words) from None to e = after_name word words from to (reads words) (named from word) refl e
-reads (word ∷ words) from (Some name) to e = λ none. after_value name word words from to (reads words) (begins_with_hyphen word) refl e
+reads (argument ∷ arguments) from None to e = after_name argument arguments from to (reads arguments) (named from argument) refl e
+reads (argument ∷ arguments) from (Some name) to e = λ none. after_value name argument arguments from to (reads arguments) (begins_with_hyphen argument) refl e
 
 -- ---- the two directions
 
@@ -268,12 +268,12 @@ completes-gives settings to whole =
       batch = whole.batches;
     }
 
-pub read-options : (words : List Text) (given : Given) → AreOptions words given → read_from (Some (record { given = nothing_given; waiting = None })) words ≡ Some given
-read-options words given are =
+pub read-options : (arguments : List Text) (given : Given) → AreOptions arguments given → read_from (Some (record { given = nothing_given; waiting = None })) arguments ≡ Some given
+read-options arguments given are =
     ap (λ ws. read_from (Some (record { given = nothing_given; waiting = None })) ws) are.written
     ∙ read-settings are.settings nothing_given given are.plain (gives-completes are.settings given are.values)
 
-pub options-read : (words : List Text) (given : Given) → read_from (Some (record { given = nothing_given; waiting = None })) words ≡ Some given → AreOptions words given
-options-read words given e =
-    let found = reads words nothing_given None given e in
+pub options-read : (arguments : List Text) (given : Given) → read_from (Some (record { given = nothing_given; waiting = None })) arguments ≡ Some given → AreOptions arguments given
+options-read arguments given e =
+    let found = reads arguments nothing_given None given e in
     record { settings = found.settings; written = found.written; plain = found.plain; values = completes-gives found.settings given found.whole }

@@ -3,7 +3,7 @@ use Rattle.std.proofs.Common.{◌≡◌, Bool, true, false, List, [], ◌∷◌,
 use Rattle.std.specs.List.{AllByRecursion}
 use Rattle.std.specs.Option.{option_to_list}
 use Rattle.plant_words.specs.Asked.{set_dir, set_schema, set_clock, set_step, set_port, set_sessions, set_batch}
-use Rattle.plant_words.specs.Asked.{Text, Setting, words_of, begins_with_hyphen, HasPlainValue, Given, dir_of, schema_of, clock_of, step_of, port_of, sessions_of, batch_of, flags}
+use Rattle.plant_words.specs.Asked.{Text, Setting, arguments_of, begins_with_hyphen, HasPlainValue, Given, dir_of, schema_of, clock_of, step_of, port_of, sessions_of, batch_of, flags}
 use Rattle.plant_words.specs.Reading.{with_value, named, taken_by, read_from}
 use Rattle.plant_words.specs.declared.options.Valued.{Valued}
 use Rattle.plant_words.specs.declared.options.Valued.TheVariants.{Dir, Schema, Clock, Step, Port, Sessions}
@@ -56,18 +56,18 @@ same_given a b whole =
     λ i. record { dir = dirs i; schema = schemas i; clock = clocks i; step = steps i; port = ports i; sessions = counts i; batch = batches i }
 
 -- a name and a value, of an option that has none yet
-read-valued : (from : Given) (name : Valued) (word value : Text) (rest : List Text) → named from word ≡ Some (record { given = from; waiting = Some name }) → begins_with_hyphen value ≡ false
-    → read_from (Some (record { given = from; waiting = None })) (word ∷ value ∷ rest) ≡ read_from (Some (record { given = with_value from name value; waiting = None })) rest
-read-valued from name word value rest is_named plain =
+read-valued : (from : Given) (name : Valued) (argument value : Text) (rest : List Text) → named from argument ≡ Some (record { given = from; waiting = Some name }) → begins_with_hyphen value ≡ false
+    → read_from (Some (record { given = from; waiting = None })) (argument ∷ value ∷ rest) ≡ read_from (Some (record { given = with_value from name value; waiting = None })) rest
+read-valued from name argument value rest is_named plain =
     let valued : taken_by from (Some name) value ≡ Some (record { given = with_value from name value; waiting = None }) = rw plain refl in
     ap (λ state. read_from state (value ∷ rest)) is_named ∙ ap (λ state. read_from state rest) valued
 
 pub read-settings : (settings : List Setting) (from to : Given) → AllByRecursion HasPlainValue settings → Completes from settings to
-    → read_from (Some (record { given = from; waiting = None })) (words_of settings) ≡ Some to
+    → read_from (Some (record { given = from; waiting = None })) (arguments_of settings) ≡ Some to
 read-settings [] from to plain whole = ap Some (same_given from to whole)
 read-settings (set_dir value ∷ rest) from to plain whole =
     let none : from.dir ≡ None = no_option from.dir to.dir value (filter_map dir_of rest) whole.dirs in
-    read-valued from Dir (codes "--dir") value (words_of rest) (rw none refl) plain.0
+    read-valued from Dir (codes "--dir") value (arguments_of rest) (rw none refl) plain.0
     ∙ read-settings rest (with_value from Dir value) to plain.1 (record {
       dirs = rw none at whole.dirs;
       schemas = whole.schemas;
@@ -79,7 +79,7 @@ read-settings (set_dir value ∷ rest) from to plain whole =
     })
 read-settings (set_schema value ∷ rest) from to plain whole =
     let none : from.schema ≡ None = no_option from.schema to.schema value (filter_map schema_of rest) whole.schemas in
-    read-valued from Schema (codes "--schema") value (words_of rest) (rw none refl) plain.0
+    read-valued from Schema (codes "--schema") value (arguments_of rest) (rw none refl) plain.0
     ∙ read-settings rest (with_value from Schema value) to plain.1 (record {
       dirs = whole.dirs;
       schemas = rw none at whole.schemas;
@@ -91,7 +91,7 @@ read-settings (set_schema value ∷ rest) from to plain whole =
     })
 read-settings (set_clock value ∷ rest) from to plain whole =
     let none : from.clock ≡ None = no_option from.clock to.clock value (filter_map clock_of rest) whole.clocks in
-    read-valued from Clock (codes "--clock") value (words_of rest) (rw none refl) plain.0
+    read-valued from Clock (codes "--clock") value (arguments_of rest) (rw none refl) plain.0
     ∙ read-settings rest (with_value from Clock value) to plain.1 (record {
       dirs = whole.dirs;
       schemas = whole.schemas;
@@ -103,7 +103,7 @@ read-settings (set_clock value ∷ rest) from to plain whole =
     })
 read-settings (set_step value ∷ rest) from to plain whole =
     let none : from.step ≡ None = no_option from.step to.step value (filter_map step_of rest) whole.steps in
-    read-valued from Step (codes "--step") value (words_of rest) (rw none refl) plain.0
+    read-valued from Step (codes "--step") value (arguments_of rest) (rw none refl) plain.0
     ∙ read-settings rest (with_value from Step value) to plain.1 (record {
       dirs = whole.dirs;
       schemas = whole.schemas;
@@ -115,7 +115,7 @@ read-settings (set_step value ∷ rest) from to plain whole =
     })
 read-settings (set_port value ∷ rest) from to plain whole =
     let none : from.port ≡ None = no_option from.port to.port value (filter_map port_of rest) whole.ports in
-    read-valued from Port (codes "--port") value (words_of rest) (rw none refl) plain.0
+    read-valued from Port (codes "--port") value (arguments_of rest) (rw none refl) plain.0
     ∙ read-settings rest (with_value from Port value) to plain.1 (record {
       dirs = whole.dirs;
       schemas = whole.schemas;
@@ -127,7 +127,7 @@ read-settings (set_port value ∷ rest) from to plain whole =
     })
 read-settings (set_sessions value ∷ rest) from to plain whole =
     let none : from.sessions ≡ None = no_option from.sessions to.sessions value (filter_map sessions_of rest) whole.counts in
-    read-valued from Sessions (codes "--sessions") value (words_of rest) (rw none refl) plain.0
+    read-valued from Sessions (codes "--sessions") value (arguments_of rest) (rw none refl) plain.0
     ∙ read-settings rest (with_value from Sessions value) to plain.1 (record {
       dirs = whole.dirs;
       schemas = whole.schemas;

@@ -10,10 +10,10 @@ use Rattle.q_text.specs.Literal.{literal_at}
 use Rattle.plant_words.specs.declared.command.Command.{Command}
 use Rattle.plant_words.specs.declared.command.Command.TheVariants.{Init, Once, Serve}
 use Rattle.plant_words.specs.declared.command.Ticking.{Ticking}
-use Rattle.plant_words.specs.declared.command.WordsRefusal.{WordsRefusal}
-use Rattle.plant_words.specs.declared.command.WordsRefusal.TheVariants.{NoMemory}
+use Rattle.plant_words.specs.declared.command.ArgumentsRefusal.{ArgumentsRefusal}
+use Rattle.plant_words.specs.declared.command.ArgumentsRefusal.TheVariants.{NoMemory}
 
--- a word, or the value of an option, as its bytes
+-- an argument, or the value of an option, as its bytes
 abbrev pub Text : Type 0
 Text = List ℕ
 
@@ -28,19 +28,19 @@ pub data Setting : Type 0 where
   set_batch : Setting
 
 -- an option is written `--name value`, a flag `--name`
-abbrev pub words_of_setting : Setting → List Text
-words_of_setting (set_dir value) = codes "--dir" ∷ value ∷ []
-words_of_setting (set_schema value) = codes "--schema" ∷ value ∷ []
-words_of_setting (set_clock value) = codes "--clock" ∷ value ∷ []
-words_of_setting (set_step value) = codes "--step" ∷ value ∷ []
-words_of_setting (set_port value) = codes "--port" ∷ value ∷ []
-words_of_setting (set_sessions value) = codes "--sessions" ∷ value ∷ []
-words_of_setting set_batch = codes "--batch" ∷ []
+abbrev pub arguments_of_setting : Setting → List Text
+arguments_of_setting (set_dir value) = codes "--dir" ∷ value ∷ []
+arguments_of_setting (set_schema value) = codes "--schema" ∷ value ∷ []
+arguments_of_setting (set_clock value) = codes "--clock" ∷ value ∷ []
+arguments_of_setting (set_step value) = codes "--step" ∷ value ∷ []
+arguments_of_setting (set_port value) = codes "--port" ∷ value ∷ []
+arguments_of_setting (set_sessions value) = codes "--sessions" ∷ value ∷ []
+arguments_of_setting set_batch = codes "--batch" ∷ []
 
--- the words of settings, in order
-abbrev pub words_of : List Setting → List Text
-words_of [] = []
-words_of (setting ∷ rest) = words_of_setting setting ++ words_of rest
+-- the arguments of settings, in order
+abbrev pub arguments_of : List Setting → List Text
+arguments_of [] = []
+arguments_of (setting ∷ rest) = arguments_of_setting setting ++ arguments_of rest
 
 -- a text begins with `-`
 abbrev pub begins_with_hyphen : Text → Bool
@@ -109,10 +109,10 @@ pub record Gives (settings : List Setting) (given : Given) : Type 0 where
   pub sessions : filter_map sessions_of settings ≡ option_to_list given.sessions
   pub batch : filter_map batch_of settings ≡ flags given.batch
 
--- the words are settings, in any order, that give these values
-pub record AreOptions (words : List Text) (given : Given) : Type 0 where
+-- the arguments are settings, in any order, that give these values
+pub record AreOptions (arguments : List Text) (given : Given) : Type 0 where
   pub settings : List Setting
-  pub written : words ≡ words_of settings
+  pub written : arguments ≡ arguments_of settings
   pub plain : AllByRecursion HasPlainValue settings
   pub values : Gives settings given
 
@@ -188,11 +188,11 @@ Asks given (init folder schema) = given ≡ init_given folder schema
 Asks given (once folder schema ticking is_batch) = AsksOnce given folder schema ticking is_batch
 Asks given (serve port sessions folder schema is_batch) = AsksServe given port sessions folder schema is_batch
 
--- the words are a command's name and then its options, and ask for this
-pub record IsAsked (words : List Text) (asked : Asked) : Type 0 where
+-- the arguments are a command's name and then its options, and ask for this
+pub record IsAsked (arguments : List Text) (asked : Asked) : Type 0 where
   pub given : Given
   pub options : List Text
-  pub written : words ≡ command_name asked ∷ options
+  pub written : arguments ≡ command_name asked ∷ options
   pub are : AreOptions options given
   pub asks : Asks given asked
 
@@ -203,7 +203,7 @@ shown (Once command) = once (option_map (λ s. s.now) command.folder) (option_ma
 shown (Serve command) = serve command.port command.sessions (option_map (λ s. s.now) command.folder) (option_map (λ s. s.now) command.schema) command.batch
 
 -- this command was read, or memory ran out
-abbrev pub IsReadAs : Asked → Result Command WordsRefusal → Type 0
+abbrev pub IsReadAs : Asked → Result Command ArgumentsRefusal → Type 0
 IsReadAs asked (Ok command) = shown command ≡ asked
 IsReadAs asked (Err NoMemory) = Unit {0}
 IsReadAs asked (Err _) = ⊥

@@ -1,4 +1,4 @@
--- How the options are read, word by word.
+-- How the options are read, one argument after the other.
 use Rattle.std.specs.Prelude.{◌≡◌, Bool, true, false, List, [], ◌∷◌, Option, Some, None, Result, Ok, Err, is_some, option_map, if◌then◌else◌, codes}
 use Rattle.std.specs.Str.{bytes_eq}
 use Rattle.plant_words.specs.Asked.{Text, Given, begins_with_hyphen}
@@ -20,13 +20,13 @@ nothing_given = record { dir = None; schema = None; clock = None; step = None; p
 
 -- the option of a name
 abbrev pub valued_named : Text → Option Valued
-valued_named word =
-    if bytes_eq word (codes "--dir") then Some Dir
-    else if bytes_eq word (codes "--schema") then Some Schema
-    else if bytes_eq word (codes "--clock") then Some Clock
-    else if bytes_eq word (codes "--step") then Some Step
-    else if bytes_eq word (codes "--port") then Some Port
-    else if bytes_eq word (codes "--sessions") then Some Sessions
+valued_named argument =
+    if bytes_eq argument (codes "--dir") then Some Dir
+    else if bytes_eq argument (codes "--schema") then Some Schema
+    else if bytes_eq argument (codes "--clock") then Some Clock
+    else if bytes_eq argument (codes "--step") then Some Step
+    else if bytes_eq argument (codes "--port") then Some Port
+    else if bytes_eq argument (codes "--sessions") then Some Sessions
     else None
 
 -- the value of an option
@@ -53,31 +53,31 @@ waiting_for given None = None
 waiting_for given (Some name) =
     if is_some (value_in given name) then None else Some (record { given = given; waiting = Some name })
 
--- a word that is to be a name
+-- an argument that is to be a name
 abbrev pub named : Given → Text → Option State
-named given word =
-    if bytes_eq word (codes "--batch")
+named given argument =
+    if bytes_eq argument (codes "--batch")
     then (if given.batch then None else Some (record { given = record given { batch = true }; waiting = None }))
-    else waiting_for given (valued_named word)
+    else waiting_for given (valued_named argument)
 
--- one more word
+-- one more argument
 abbrev pub taken_by : Given → Option Valued → Text → Option State
-taken_by given None word = named given word
-taken_by given (Some name) word =
-    if begins_with_hyphen word then None else Some (record { given = with_value given name word; waiting = None })
+taken_by given None argument = named given argument
+taken_by given (Some name) argument =
+    if begins_with_hyphen argument then None else Some (record { given = with_value given name argument; waiting = None })
 
 abbrev pub taken : State → Text → Option State
-taken state word = taken_by state.given state.waiting word
+taken state argument = taken_by state.given state.waiting argument
 
--- the end of the words
+-- the end of the arguments
 abbrev pub ended : State → Option Given
 ended state = if is_some state.waiting then None else Some state.given
 
--- the words that remain
+-- the arguments that remain
 abbrev pub read_from : Option State → List Text → Option Given
-read_from None words = None
+read_from None arguments = None
 read_from (Some state) [] = ended state
-read_from (Some state) (word ∷ words) = read_from (taken state word) words
+read_from (Some state) (argument ∷ arguments) = read_from (taken state argument) arguments
 
 -- the texts of the options
 abbrev pub given_of : Options → Given
@@ -94,7 +94,7 @@ given_of options = record {
 abbrev pub state_of : Reading → State
 state_of reading = record { given = given_of reading.options; waiting = reading.waiting }
 
--- a part of the words was read: whatever they ask for is this, unless memory ran out
+-- a part of the arguments was read: whatever they ask for is this, unless memory ran out
 abbrev pub IsReadBy : {A R : Type 0} → (R → A) → A → Result R Unread → Type 0
 IsReadBy view asked (Ok read) = view read ≡ asked
 IsReadBy view asked (Err NoMemory) = Unit {0}

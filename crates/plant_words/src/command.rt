@@ -59,7 +59,7 @@ pub struct Ticking {
 
 /// Why no command is read.
 #[derive(Debug, Drop)]
-pub enum WordsRefusal {
+pub enum ArgumentsRefusal {
     /// Help or the version was asked for. The text is for standard output, and the exit status is 0.
     Shown(String),
     /// The command line is faulty. The text says in one line what is wrong, without a line feed.
@@ -68,10 +68,10 @@ pub enum WordsRefusal {
     NoMemory,
 }
 
-/// Why a part of the words gives nothing.
+/// Why a part of the arguments gives nothing.
 #[derive(Clone, Copy, Debug)]
 pub(crate) enum Unread {
-    /// The words aren't a command line.
+    /// The arguments aren't a command line.
     Faulty,
     /// Out of memory.
     NoMemory,

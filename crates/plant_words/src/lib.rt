@@ -1,7 +1,8 @@
-//! The command line of the program: what its words ask for.
+//! The command line of the program: what its arguments ask for.
 //!
-//! [`read_words`] reads the words after the program's name. It gives the [`Command`] that they ask for, or a
-//! [`WordsRefusal`]: help or the version to show, one line that says what is wrong, or out of memory. It prints nothing.
+//! [`read_arguments`] reads the arguments after the program's name. It gives the [`Command`] that they ask for, or a
+//! [`ArgumentsRefusal`]: help or the version to show, one line that says what is wrong, or out of memory. It prints
+//! nothing.
 //!
 //! ```text
 //! init --dir FOLDER [--schema FILE]
@@ -20,10 +21,10 @@
 //! once --help                                   Shown: the help of once
 //! ```
 //!
-//! What words ask for is defined in `specs/Asked.antt`. `options` reads options word by word, `values` numbers and the
-//! clock; `clap` makes the texts of `usage` and reads nothing else. A command is one function here, a name in
-//! `command_named` and a command of `usage`; an option is a field of `Options`, a variant of `Valued` and a setting in the
-//! definitions.
+//! What arguments ask for is defined in `specs/Asked.antt`. `options` reads options one argument after the other, `values`
+//! numbers and the clock; `clap` makes the texts of `usage` and reads nothing else. A command is one function here, a name
+//! in `command_named` and a command of `usage`; an option is a field of `Options`, a variant of `Valued` and a setting in
+//! the definitions.
 #![tactic(auto)]
 
 mod command;
@@ -36,7 +37,7 @@ ghost use Rattle.plant_words.specs.Asked.{Asked, Asks, IsAsked, IsReadAs, comman
 ghost use Rattle.plant_words.specs.Reading.{IsReadBy, given_of};
 
 use command::Unread;
-pub use command::{Command, Init, Once, Serve, Ticking, WordsRefusal};
+pub use command::{ArgumentsRefusal, Command, Init, Once, Serve, Ticking};
 use options::{Options, options_of};
 use std::alloc::Global;
 use usage::refusal_of;
@@ -137,12 +138,12 @@ fn command_named<'a>(alloc: Global, name: &str, options: Options<'a>) -> Result<
     }
 }
 
-// The command that the words ask for.
-fn command_of<'a>(alloc: Global, words: &'a [String]) -> Result<Command<'a>, Unread>
-    ensures asked { (asked : Asked) → IsAsked (map string_bytes words.now) asked → IsReadBy shown asked result }
-    ensures read { IfOk result (λ c. IsAsked (map string_bytes words.now) (shown c)) }
+// The command that the arguments ask for.
+fn command_of<'a>(alloc: Global, arguments: &'a [String]) -> Result<Command<'a>, Unread>
+    ensures asked { (asked : Asked) → IsAsked (map string_bytes arguments.now) asked → IsReadBy shown asked result }
+    ensures read { IfOk result (λ c. IsAsked (map string_bytes arguments.now) (shown c)) }
 {
-    let Some((name, rest)) = words.split_first() else {
+    let Some((name, rest)) = arguments.split_first() else {
         return Err(Unread::Faulty);
     };
     let Some(options) = options_of(rest) else {
@@ -151,17 +152,20 @@ fn command_of<'a>(alloc: Global, words: &'a [String]) -> Result<Command<'a>, Unr
     command_named(alloc, name.as_str(), options)
 }
 
-/// Reads the words after the program's name.
+/// Reads the arguments after the program's name.
 ///
-/// It gives a command exactly where the words ask for one, unless memory ran out: `Shown` and `Usage` come only for words
-/// that ask for none.
-pub fn read_words<'a>(alloc: Global, words: &'a [String]) -> Result<Command<'a>, WordsRefusal>
-    ensures asked { (asked : Asked) → IsAsked (map string_bytes words.now) asked → IsReadAs asked result }
-    ensures read { IfOk result (λ command. IsAsked (map string_bytes words.now) (shown command)) }
+/// It gives a command exactly where the arguments ask for one, unless memory ran out: `Shown` and `Usage` come only for
+/// arguments that ask for none.
+pub fn read_arguments<'a>(
+    alloc: Global,
+    arguments: &'a [String],
+) -> Result<Command<'a>, ArgumentsRefusal>
+    ensures asked { (asked : Asked) → IsAsked (map string_bytes arguments.now) asked → IsReadAs asked result }
+    ensures read { IfOk result (λ command. IsAsked (map string_bytes arguments.now) (shown command)) }
 {
-    match command_of(alloc, words) {
+    match command_of(alloc, arguments) {
         Ok(command) => Ok(command),
-        Err(Unread::NoMemory) => Err(WordsRefusal::NoMemory),
-        Err(Unread::Faulty) => Err(refusal_of(alloc, words)),
+        Err(Unread::NoMemory) => Err(ArgumentsRefusal::NoMemory),
+        Err(Unread::Faulty) => Err(refusal_of(alloc, arguments)),
     }
 }

@@ -1,9 +1,9 @@
-//! The options of a command, read word by word.
+//! The options of a command, read one argument after the other.
 ghost use Rattle.std.specs.Prelude.{◌≡◌, ◌↔◌, Some, None, map, is_some, option_map, string_bytes};
 ghost use Rattle.plant_words.specs.Asked.{AreOptions, Given, begins_with_hyphen};
 ghost use Rattle.plant_words.specs.Reading.{given_of, named, nothing_given, read_from, state_of, taken, value_in, valued_named, with_value};
 
-/// The options that words give. Their values are as they were written.
+/// The options that arguments give. Their values are as they were written.
 #[derive(Clone, Copy, Debug)]
 pub struct Options<'a> {
     /// `--dir`.
@@ -41,20 +41,20 @@ pub(crate) struct Reading<'a> {
 }
 
 // The option of this name.
-fn valued_named(word: &str) -> Option<Valued>
-    ensures { result ≡ valued_named word.now }
+fn valued_named(argument: &str) -> Option<Valued>
+    ensures { result ≡ valued_named argument.now }
 {
-    if word == "--dir" {
+    if argument == "--dir" {
         Some(Valued::Dir)
-    } else if word == "--schema" {
+    } else if argument == "--schema" {
         Some(Valued::Schema)
-    } else if word == "--clock" {
+    } else if argument == "--clock" {
         Some(Valued::Clock)
-    } else if word == "--step" {
+    } else if argument == "--step" {
         Some(Valued::Step)
-    } else if word == "--port" {
+    } else if argument == "--port" {
         Some(Valued::Port)
-    } else if word == "--sessions" {
+    } else if argument == "--sessions" {
         Some(Valued::Sessions)
     } else {
         None
@@ -124,18 +124,18 @@ impl<'a> Options<'a> {
     }
 }
 
-fn begins_with_hyphen(word: &str) -> bool
-    ensures { result ≡ begins_with_hyphen word.now }
+fn begins_with_hyphen(argument: &str) -> bool
+    ensures { result ≡ begins_with_hyphen argument.now }
 {
-    matches!(word.as_bytes(), [b'-', ..])
+    matches!(argument.as_bytes(), [b'-', ..])
 }
 
 impl<'a> Reading<'a> {
-    // Reads a word that is to be a name.
-    fn named(self, word: &str) -> Option<Reading<'a>>
-        ensures { option_map state_of result ≡ named (given_of self.entry.options) word.now }
+    // Reads an argument that is to be a name.
+    fn named(self, argument: &str) -> Option<Reading<'a>>
+        ensures { option_map state_of result ≡ named (given_of self.entry.options) argument.now }
     {
-        if word == "--batch" {
+        if argument == "--batch" {
             if self.options.batch {
                 return None;
             }
@@ -147,7 +147,7 @@ impl<'a> Reading<'a> {
                 waiting: None,
             });
         }
-        let option = valued_named(word)?;
+        let option = valued_named(argument)?;
         if self.options.has(option) {
             return None;
         }
@@ -157,18 +157,18 @@ impl<'a> Reading<'a> {
         })
     }
 
-    // Reads one more word: the value that an option waits for, or else a name.
-    fn take(self, word: &'a str) -> Option<Reading<'a>>
-        ensures { option_map state_of result ≡ taken (state_of self.entry) word.entry.now }
+    // Reads one more argument: the value that an option waits for, or else a name.
+    fn take(self, argument: &'a str) -> Option<Reading<'a>>
+        ensures { option_map state_of result ≡ taken (state_of self.entry) argument.entry.now }
     {
         match self.waiting {
-            None => self.named(word),
+            None => self.named(argument),
             Some(option) => {
-                if begins_with_hyphen(word) {
+                if begins_with_hyphen(argument) {
                     return None;
                 }
                 Some(Reading {
-                    options: self.options.with(option, word),
+                    options: self.options.with(option, argument),
                     waiting: None,
                 })
             }
@@ -176,23 +176,23 @@ impl<'a> Reading<'a> {
     }
 }
 
-/// The options that the words give, if they give each at most once and no value begins with `-`.
-pub fn options_of<'a>(words: &'a [String]) -> Option<Options<'a>>
-    ensures options { (given : Given) → (option_map given_of result ≡ Some given) ↔ AreOptions (map string_bytes words.now) given }
+/// The options that the arguments give, if they give each at most once and no value begins with `-`.
+pub fn options_of<'a>(arguments: &'a [String]) -> Option<Options<'a>>
+    ensures options { (given : Given) → (option_map given_of result ≡ Some given) ↔ AreOptions (map string_bytes arguments.now) given }
 {
-    read_options(words)
+    read_options(arguments)
 }
 
-// The options, as they are read word by word.
-fn read_options<'a>(words: &'a [String]) -> Option<Options<'a>>
-    ensures { option_map given_of result ≡ read_from (Some (record { given = nothing_given; waiting = None })) (map string_bytes words.now) }
+// The options, as they are read one argument after the other.
+fn read_options<'a>(arguments: &'a [String]) -> Option<Options<'a>>
+    ensures { option_map given_of result ≡ read_from (Some (record { given = nothing_given; waiting = None })) (map string_bytes arguments.now) }
 {
     let mut reading = Reading {
         options: Options::none(),
         waiting: None,
     };
-    for word in words {
-        reading = reading.take(word.as_str())?;
+    for argument in arguments {
+        reading = reading.take(argument.as_str())?;
     }
     match reading.waiting {
         None => Some(reading.options),

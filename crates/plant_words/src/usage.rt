@@ -1,6 +1,6 @@
 //! Help, the version, and what is wrong with a command line that asks for nothing: the texts, which `clap` makes.
 
-use crate::command::WordsRefusal;
+use crate::command::ArgumentsRefusal;
 use crate::values::{clock_of, port_of, sessions_of, step_of};
 use clap::error::ErrorKind;
 use clap::{Arg, ArgAction, ArgMatches, Command, Error};
@@ -38,12 +38,7 @@ fn option<'a>(alloc: Global, name: &'a str, value: &'a str, help: &'a str) -> Ar
 }
 
 fn folder<'a>(alloc: Global) -> Arg<'a> {
-    option(
-        alloc,
-        "dir",
-        "FOLDER",
-        "The folder of the journals and the partitions",
-    )
+    option(alloc, "dir", "FOLDER", "The plant's folder")
 }
 
 fn schema<'a>(alloc: Global) -> Arg<'a> {
@@ -85,7 +80,7 @@ fn batch<'a>(alloc: Global) -> Arg<'a> {
     Arg::new(alloc, "batch")
         .long("batch")
         .action(ArgAction::SetTrue)
-        .help("Joined publications; no session publishes yet")
+        .help("Joined publications: one message for each table, of up to 16 updates")
 }
 
 fn once<'a>(alloc: Global) -> Result<Command<'a>, Error> {
@@ -193,34 +188,37 @@ fn first_line(alloc: Global, text: &str) -> Result<String, NoMemory> {
 }
 
 // The text of an error, and whether it is help or a fault.
-fn text_of(alloc: Global, error: &Error) -> Result<WordsRefusal, NoMemory> {
+fn text_of(alloc: Global, error: &Error) -> Result<ArgumentsRefusal, NoMemory> {
     if error.kind() == ErrorKind::OutOfMemory {
         return Err(NoMemory);
     }
     let text = format!(in alloc; "{error}")?;
     if error.use_stderr() {
-        Ok(WordsRefusal::Usage(first_line(alloc, text.as_str())?))
+        Ok(ArgumentsRefusal::Usage(first_line(alloc, text.as_str())?))
     } else {
-        Ok(WordsRefusal::Shown(text))
+        Ok(ArgumentsRefusal::Shown(text))
     }
 }
 
-fn refusal_in_memory(alloc: Global, words: &[String]) -> Result<WordsRefusal, NoMemory> {
+fn refusal_in_memory(alloc: Global, arguments: &[String]) -> Result<ArgumentsRefusal, NoMemory> {
     let parsed = match program(alloc) {
-        Ok(program) => program.try_get_matches_from(words),
+        Ok(program) => program.try_get_matches_from(arguments),
         Err(error) => Err(error),
     };
     match parsed {
-        Ok(matches) => Ok(WordsRefusal::Usage(String::from_str(alloc, fault_of(alloc, &matches))?)),
+        Ok(matches) => Ok(ArgumentsRefusal::Usage(String::from_str(
+            alloc,
+            fault_of(alloc, &matches),
+        )?)),
         Err(error) => text_of(alloc, &error),
     }
 }
 
-/// What is told of words that ask for nothing: help or the version, where they ask for that, or one line that says what is
-/// wrong.
-pub(crate) fn refusal_of(alloc: Global, words: &[String]) -> WordsRefusal {
-    match refusal_in_memory(alloc, words) {
+/// The answer to arguments that ask for nothing: help or the version, where they ask for that, or one line that says what
+/// is wrong.
+pub(crate) fn refusal_of(alloc: Global, arguments: &[String]) -> ArgumentsRefusal {
+    match refusal_in_memory(alloc, arguments) {
         Ok(refusal) => refusal,
-        Err(NoMemory) => WordsRefusal::NoMemory,
+        Err(NoMemory) => ArgumentsRefusal::NoMemory,
     }
 }

@@ -6,11 +6,11 @@ ghost use Rattle.plant_words.specs.declared.command.Ticking.{Ticking};
 
 use crate::command::{Ticking, Unread};
 use q_text::{LiteralRefusal, read_literal};
-use q_values::{Atom, Value};
+use q_values::{Atom, NANOSECONDS_PER_DAY, Value};
 use std::alloc::Global;
 
 /// The longest step of a clock: a day, in nanoseconds.
-const LONGEST_STEP: u64 = 86_400_000_000_000;
+const LONGEST_STEP: u64 = NANOSECONDS_PER_DAY as u64;
 
 /// The last port.
 const LAST_PORT: u64 = 65_535;

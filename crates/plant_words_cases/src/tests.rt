@@ -1,5 +1,5 @@
 //! Command lines: what they ask for, and what is told of those that ask for nothing.
-use plant_words::{WordsRefusal, read_words};
+use plant_words::{ArgumentsRefusal, read_arguments};
 use std::alloc::Global;
 use std::test::Fail;
 
@@ -17,11 +17,11 @@ fn words_of(alloc: Global, text: &str) -> Result<Vec<String>, Fail> {
 /// What is read of words, as text.
 fn read(alloc: Global, text: &str) -> Result<String, Fail> {
     let words = words_of(alloc, text)?;
-    match read_words(alloc, words.as_slice()) {
+    match read_arguments(alloc, words.as_slice()) {
         Ok(command) => Ok(format!(in alloc; "{command:?}")?),
-        Err(WordsRefusal::Shown(text)) => Ok(format!(in alloc; "shown: {text}")?),
-        Err(WordsRefusal::Usage(line)) => Ok(format!(in alloc; "usage: {line}")?),
-        Err(WordsRefusal::NoMemory) => Ok(format!(in alloc; "out of memory")?),
+        Err(ArgumentsRefusal::Shown(text)) => Ok(format!(in alloc; "shown: {text}")?),
+        Err(ArgumentsRefusal::Usage(line)) => Ok(format!(in alloc; "usage: {line}")?),
+        Err(ArgumentsRefusal::NoMemory) => Ok(format!(in alloc; "out of memory")?),
     }
 }
 

@@ -14,7 +14,7 @@ use Rattle.qsql_request.specs.Views.{form, column_form, query_of}
 use Rattle.qsql_request.specs.declared.request.Col.{Col}
 use Rattle.qsql_request.specs.declared.request.Query.{Query}
 use Rattle.qsql_values.specs.Frames.{Frame, column_in, kind_beside, rows_at}
-use Rattle.qsql_values.proofs.FrameLemmas.{Even}
+use Rattle.qsql_values.proofs.FrameLemmas.{AreOfSize}
 use Rattle.qsql_groups.specs.Groups.{Groups, parts_of, last_row, value_by_group, last_rows}
 use Rattle.qsql_eval.specs.Meaning.{group_columns, other_names, last_grid, column_grid, value_grid, limited_column, dictionary_of}
 use Rattle.qsql_groups.specs.Ready.{IsValue}
@@ -29,7 +29,7 @@ no_again e = absurd cc
 
 -- ---- the columns of a table with `by`
 
-pub group_columns_even : (g : Groups) (columns : List Col) → All (λ (c : Col). IsValue g.rows (form c.expr)) columns → Even (length g.firsts) (group_columns (map column_form columns) g)
+pub group_columns_even : (g : Groups) (columns : List Col) → All (λ (c : Col). IsValue g.rows (form c.expr)) columns → AreOfSize (length g.firsts) (group_columns (map column_form columns) g)
 group_columns_even g [] all = All-nil (λ (d : Contents). length d.atoms ≡ length g.firsts)
 group_columns_even g (c ∷ columns) all =
     All-cons (λ (d : Contents). length d.atoms ≡ length g.firsts) (value_by_group g (form c.expr)) (group_columns (map column_form columns) g)
@@ -39,8 +39,8 @@ group_columns_even g (c ∷ columns) all =
 pub last_rows_size : (g : Groups) → All (λ (p : ℕ). p < length g.rows.rows) (map last_row (parts_of g)) → length (last_rows g).rows ≡ length g.firsts
 last_rows_size g within = length-gathered g.rows.rows (map last_row (parts_of g)) within ∙ length-map (parts_of g) last_row ∙ parts_size g.codes (length g.firsts)
 
-pub last_columns_even : (g : Groups) (names : List (List ℕ)) → All (λ (p : ℕ). p < length g.rows.rows) (map last_row (parts_of g)) → Even (length g.firsts) (map (column_in (last_rows g)) names)
-last_columns_even g names within = subst (λ (n : ℕ). Even n (map (column_in (last_rows g)) names)) (last_rows_size g within) (columns_read_even (last_rows g) names)
+pub last_columns_even : (g : Groups) (names : List (List ℕ)) → All (λ (p : ℕ). p < length g.rows.rows) (map last_row (parts_of g)) → AreOfSize (length g.firsts) (map (column_in (last_rows g)) names)
+last_columns_even g names within = subst (λ (n : ℕ). AreOfSize n (map (column_in (last_rows g)) names)) (last_rows_size g within) (columns_read_even (last_rows g) names)
 
 pub limited_none : (columns : List Contents) → map (limited_column None) columns ≡ columns
 limited_none [] = refl
@@ -51,10 +51,10 @@ pub record IsTableOf (n : ℕ) (names : List (List ℕ)) (columns : List Content
   pub is : IsTable names columns
   pub size : rows_of columns ≡ n
 
-pub table_of : (n : ℕ) (names : List (List ℕ)) (columns : List Contents) → 0 < length columns → length names ≡ length columns → Even n columns → IsTableOf n names columns
+pub table_of : (n : ℕ) (names : List (List ℕ)) (columns : List Contents) → 0 < length columns → length names ≡ length columns → AreOfSize n columns → IsTableOf n names columns
 table_of n names columns some named even = record { is = record { some = some; named = named; even = even_rows n columns even }; size = rows_of_even n columns some even }
 
-pub key_table_of : (g : Groups) (by : List Col) (names : List (List ℕ)) (keys : List Contents) → 0 < length by → length g.keys ≡ length by → names ≡ map column_name (map column_form by) → keys ≡ g.keys → Even (length g.firsts) keys
+pub key_table_of : (g : Groups) (by : List Col) (names : List (List ℕ)) (keys : List Contents) → 0 < length by → length g.keys ≡ length by → names ≡ map column_name (map column_form by) → keys ≡ g.keys → AreOfSize (length g.firsts) keys
     → IsTableOf (length g.firsts) names keys
 key_table_of g by names keys some is_keys is_names is_made even =
     let count : length keys ≡ length by = ap length is_made ∙ is_keys in
@@ -66,7 +66,7 @@ pub column_table_of : (g : Groups) (columns : List Col) (names : List (List ℕ)
 column_table_of g columns names made some values is_names is_made =
     let count : length made ≡ length columns = ap length is_made ∙ length-map (map column_form columns) _ ∙ length-map columns column_form in
     let named : length names ≡ length columns = ap length is_names ∙ length-map (map column_form columns) column_name ∙ length-map columns column_form in
-    table_of (length g.firsts) names made (omega (arith, count, some)) (named ∙ sym count) (subst (Even (length g.firsts)) (sym is_made) (group_columns_even g columns values))
+    table_of (length g.firsts) names made (omega (arith, count, some)) (named ∙ sym count) (subst (AreOfSize (length g.firsts)) (sym is_made) (group_columns_even g columns values))
 
 pub last_columns_are : (g : Groups) (names slice : List (List ℕ)) (places : List ℕ) (scope : Frame) (made : List Contents) → places ≡ map last_row (parts_of g) → scope ≡ rows_at places g.rows → slice ≡ names → made ≡ map (limited_column None) (map (column_in scope) slice)
     → made ≡ map (column_in (last_rows g)) names
@@ -80,7 +80,7 @@ pub last_table_of : (g : Groups) (names : List (List ℕ)) (places : List ℕ) (
 last_table_of g names places made some within is_places is_made =
     let all : All (λ (p : ℕ). p < length g.rows.rows) (map last_row (parts_of g)) = subst (λ (ps : List ℕ). All (λ (p : ℕ). p < length g.rows.rows) ps) is_places within in
     let count : length made ≡ length names = ap length is_made ∙ length-map names _ in
-    table_of (length g.firsts) names made (omega (arith, count, some)) (sym count) (subst (Even (length g.firsts)) (sym is_made) (last_columns_even g names all))
+    table_of (length g.firsts) names made (omega (arith, count, some)) (sym count) (subst (AreOfSize (length g.firsts)) (sym is_made) (last_columns_even g names all))
 
 -- ---- the columns that a `select` shows
 

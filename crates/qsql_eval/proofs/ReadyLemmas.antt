@@ -24,7 +24,7 @@ use Rattle.qsql_values.specs.Operands.{HasShape}
 use Rattle.qsql_values.specs.Ready.{IsReady}
 use Rattle.qsql_eval.specs.Ready.{are_scalars}
 use Rattle.qsql_values.specs.Values.{val, items_in}
-use Rattle.qsql_values.proofs.FrameLemmas.{Even}
+use Rattle.qsql_values.proofs.FrameLemmas.{AreOfSize}
 use Rattle.qsql_values.proofs.ShapeLemmas.{val_shape}
 
 no : {P : Type 0} → false ≡ true → P
@@ -61,22 +61,22 @@ limited_length None xs ys e = e
 limited_length (Some (pos n)) xs ys e = length-take n xs ∙ ap (min n) e ∙ sym (length-take n ys)
 limited_length (Some (negsuc n)) xs ys e = length-drop (length xs - suc n) xs ∙ ap (λ (m : ℕ). m - (m - suc n)) e ∙ sym (length-drop (length ys - suc n) ys)
 
-even_limited : (first : Option ℤ) (n : ℕ) (columns : List Contents) → Even n columns → Even (length (limited first (replicate n absent))) (map (limited_column first) columns)
+even_limited : (first : Option ℤ) (n : ℕ) (columns : List Contents) → AreOfSize n columns → AreOfSize (length (limited first (replicate n absent))) (map (limited_column first) columns)
 even_limited first n [] even = All-nil (λ (d : Contents). length d.atoms ≡ length (limited first (replicate n absent)))
 even_limited first n (c ∷ columns) even =
     All-cons (λ (d : Contents). length d.atoms ≡ length (limited first (replicate n absent))) (limited_column first c) (map (limited_column first) columns)
     (limited_length first c.atoms (replicate n absent) (All-head (λ (d : Contents). length d.atoms ≡ n) c columns even ∙ sym (length-replicate n absent)))
     (even_limited first n columns (All-tail (λ (d : Contents). length d.atoms ≡ n) c columns even))
 
-pub even_rows : (n : ℕ) (columns : List Contents) → Even n columns → Even (rows_of columns) columns
+pub even_rows : (n : ℕ) (columns : List Contents) → AreOfSize n columns → AreOfSize (rows_of columns) columns
 even_rows n [] even = All-nil (λ (d : Contents). length d.atoms ≡ 0)
-even_rows n (c ∷ columns) even = subst (λ (m : ℕ). Even m (c ∷ columns)) (sym (All-head (λ (d : Contents). length d.atoms ≡ n) c columns even)) even
+even_rows n (c ∷ columns) even = subst (λ (m : ℕ). AreOfSize m (c ∷ columns)) (sym (All-head (λ (d : Contents). length d.atoms ≡ n) c columns even)) even
 
-pub limited_even : (first : Option ℤ) (n : ℕ) (columns : List Contents) → Even n columns → Even (rows_of (map (limited_column first) columns)) (map (limited_column first) columns)
+pub limited_even : (first : Option ℤ) (n : ℕ) (columns : List Contents) → AreOfSize n columns → AreOfSize (rows_of (map (limited_column first) columns)) (map (limited_column first) columns)
 limited_even first n columns even = even_rows (length (limited first (replicate n absent))) (map (limited_column first) columns) (even_limited first n columns even)
 
 -- where all are atoms there is one row
-atoms_even : (values : List Tree) → list_all is_atom values ≡ true → Even 1 (map (spread 1) values)
+atoms_even : (values : List Tree) → list_all is_atom values ≡ true → AreOfSize 1 (map (spread 1) values)
 atoms_even [] all = All-nil (λ (d : Contents). length d.atoms ≡ 1)
 atoms_even (atom x ∷ values) all = All-cons (λ (d : Contents). length d.atoms ≡ 1) (spread 1 (atom x)) (map (spread 1) values) refl (atoms_even values all)
 atoms_even (value ∷ values) all = no all
@@ -103,7 +103,7 @@ cell_size n t h = absurd h
 abbrev pub AreFlat : List Col → Type 0
 AreFlat columns = All (λ (c : Col). is_list (shape (form c.expr)) ≡ false) columns
 
-rows_even : (frame : Frame) (columns : List Col) → AreReady frame columns → AreFlat columns → Even (length frame.rows) (map (spread (length frame.rows)) (values_of frame (map column_form columns)))
+rows_even : (frame : Frame) (columns : List Col) → AreReady frame columns → AreFlat columns → AreOfSize (length frame.rows) (map (spread (length frame.rows)) (values_of frame (map column_form columns)))
 rows_even frame [] ready flat = All-nil (λ (d : Contents). length d.atoms ≡ length frame.rows)
 rows_even frame (c ∷ columns) ready flat =
     let n = length frame.rows in
@@ -112,10 +112,10 @@ rows_even frame (c ∷ columns) ready flat =
     All-cons (λ (d : Contents). length d.atoms ≡ n) (spread n (val frame (form c.expr))) (map (spread n) (values_of frame (map column_form columns))) (cell_size n (val frame (form c.expr)) cell)
     (rows_even frame columns (All-tail (λ (d : Col). IsReady frame (form d.expr)) c columns ready) (All-tail (λ (d : Col). is_list (shape (form d.expr)) ≡ false) c columns flat))
 
-pub spread_even : (frame : Frame) (columns : List Col) → AreReady frame columns → AreFlat columns → Even (row_count frame (values_of frame (map column_form columns))) (map (spread (row_count frame (values_of frame (map column_form columns)))) (values_of frame (map column_form columns)))
+pub spread_even : (frame : Frame) (columns : List Col) → AreReady frame columns → AreFlat columns → AreOfSize (row_count frame (values_of frame (map column_form columns))) (map (spread (row_count frame (values_of frame (map column_form columns)))) (values_of frame (map column_form columns)))
 spread_even frame columns ready flat = by_kind (list_all is_atom (values_of frame (map column_form columns))) refl
   where
-    by_kind : (b : Bool) → list_all is_atom (values_of frame (map column_form columns)) ≡ b → Even (cond b 1 (length frame.rows)) (map (spread (cond b 1 (length frame.rows))) (values_of frame (map column_form columns)))
+    by_kind : (b : Bool) → list_all is_atom (values_of frame (map column_form columns)) ≡ b → AreOfSize (cond b 1 (length frame.rows)) (map (spread (cond b 1 (length frame.rows))) (values_of frame (map column_form columns)))
     by_kind true all = atoms_even (values_of frame (map column_form columns)) all
     by_kind false some = rows_even frame columns ready flat
 
@@ -124,7 +124,7 @@ spread_even frame columns ready flat = by_kind (list_all is_atom (values_of fram
 length-twice : {X Y Z : Type 0} (f : X → Y) (g : Y → Z) (xs : List X) → length (map g (map f xs)) ≡ length xs
 length-twice f g xs = length-map (map f xs) g ∙ length-map xs f
 
-pub columns_read_even : (frame : Frame) (names : List (List ℕ)) → Even (length frame.rows) (map (column_in frame) names)
+pub columns_read_even : (frame : Frame) (names : List (List ℕ)) → AreOfSize (length frame.rows) (map (column_in frame) names)
 columns_read_even frame [] = All-nil (λ (d : Contents). length d.atoms ≡ length frame.rows)
 columns_read_even frame (name ∷ names) =
     All-cons (λ (d : Contents). length d.atoms ≡ length frame.rows) (column_in frame name) (map (column_in frame) names) (length-map frame.rows (field_in frame.names name)) (columns_read_even frame names)

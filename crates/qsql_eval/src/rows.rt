@@ -4,7 +4,7 @@ ghost use Rattle.std.specs.List.{list_all};
 ghost use Rattle.q_values.specs.Table.{rows_of};
 ghost use Rattle.qsql_request.specs.Views.{query_of};
 ghost use Rattle.qsql_values.specs.Beside.{beside};
-ghost use Rattle.qsql_values.specs.Frames.{AreColumns, frame_of, kind_beside, are_even};
+ghost use Rattle.qsql_values.specs.Frames.{AreColumns, frame_of, kind_beside, are_of_size};
 ghost use Rattle.qsql_eval.specs.Judgement.{all_columns};
 ghost use Rattle.qsql_eval.specs.Views.{is_kind, has_column, has_columns};
 
@@ -27,7 +27,7 @@ pub struct Rows {
 }
 
 fn are_of_size(columns: &[Vector], size: usize) -> bool
-    ensures { result ≡ are_even size columns.now }
+    ensures { result ≡ are_of_size size columns.now }
 {
     for column in columns {
         if column.len() != size {

@@ -23,7 +23,7 @@ use Rattle.qsql_values.specs.Operands.{HasShape}
 use Rattle.qsql_values.specs.Places.{column_at}
 use Rattle.qsql_values.specs.Ready.{IsReady}
 use Rattle.qsql_values.specs.Values.{items_in, val}
-use Rattle.qsql_values.proofs.FrameLemmas.{Even, length-rows}
+use Rattle.qsql_values.proofs.FrameLemmas.{AreOfSize, length-rows}
 use Rattle.qsql_values.proofs.PlacesLemmas.{Within}
 use Rattle.qsql_values.proofs.ShapeLemmas.{val_shape}
 use Rattle.qsql_groups.specs.Groups.{key_columns, parts, last_row, items_over, AreGroups}
@@ -56,7 +56,7 @@ key_size frame e is = rows_size (length frame.rows) (shape e) (val frame e) is.r
 pub value_size : (frame : Frame) (e : Form) → IsValue frame e → length (items_in (val frame e)).atoms ≡ 1
 value_size frame e is = scalar_size (length frame.rows) (shape e) (val frame e) is.scalar (val_shape frame (kind_beside frame) e is.ready.kind is.ready.built)
 
-pub keys_even_of : (frame : Frame) (by : List Col) → All (λ (c : Col). IsKey frame (form c.expr)) by → Even (length frame.rows) (key_columns (map column_form by) frame)
+pub keys_even_of : (frame : Frame) (by : List Col) → All (λ (c : Col). IsKey frame (form c.expr)) by → AreOfSize (length frame.rows) (key_columns (map column_form by) frame)
 keys_even_of frame [] all = All-nil (λ (d : Contents). length d.atoms ≡ length frame.rows)
 keys_even_of frame (c ∷ by) all =
     All-cons (λ (d : Contents). length d.atoms ≡ length frame.rows) (items_in (val frame (form c.expr))) (key_columns (map column_form by) frame)
@@ -105,7 +105,7 @@ groups_within codes (g ∷ is) = All-cons (λ (part : List ℕ). All (λ (p : �
 
 -- ---- rows grouped by key columns
 
-pub rows_of_even : (n : ℕ) (columns : List Contents) → 0 < length columns → Even n columns → rows_of columns ≡ n
+pub rows_of_even : (n : ℕ) (columns : List Contents) → 0 < length columns → AreOfSize n columns → rows_of columns ≡ n
 rows_of_even n [] none even = absurd (omega arith)
 rows_of_even n (c ∷ columns) some even = All-head (λ (d : Contents). length d.atoms ≡ n) c columns even
 
@@ -124,17 +124,17 @@ key_rows_beside : (n : ℕ) (columns : List Contents) → key_rows n columns ≡
 key_rows_beside n [] = refl
 key_rows_beside n (c ∷ columns) = ap (zip2 (λ (x : Atom) (row : List Atom). x ∷ row) c.atoms) (key_rows_beside n columns)
 
-length-key_rows : (n : ℕ) (columns : List Contents) → Even n columns → length (key_rows n columns) ≡ n
+length-key_rows : (n : ℕ) (columns : List Contents) → AreOfSize n columns → length (key_rows n columns) ≡ n
 length-key_rows n columns even = ap length (key_rows_beside n columns) ∙ length-rows n columns even
 
-pub all_within : (n : ℕ) (places : List ℕ) (columns : List Contents) → Even n columns → All (λ (p : ℕ). p < n) places → Within places columns
+pub all_within : (n : ℕ) (places : List ℕ) (columns : List Contents) → AreOfSize n columns → All (λ (p : ℕ). p < n) places → Within places columns
 all_within n places [] even all = All-nil (λ (c : Contents). All (λ (p : ℕ). p < length c.atoms) places)
 all_within n places (c ∷ columns) even all =
     All-cons (λ (d : Contents). All (λ (p : ℕ). p < length d.atoms) places) c columns
     (subst (λ (m : ℕ). All (λ (p : ℕ). p < m) places) (sym (All-head (λ (d : Contents). length d.atoms ≡ n) c columns even)) all)
     (all_within n places columns (All-tail (λ (d : Contents). length d.atoms ≡ n) c columns even) all)
 
-pub even_at : (n : ℕ) (places : List ℕ) (columns : List Contents) → Even n columns → All (λ (p : ℕ). p < n) places → Even (length places) (map (column_at places) columns)
+pub even_at : (n : ℕ) (places : List ℕ) (columns : List Contents) → AreOfSize n columns → All (λ (p : ℕ). p < n) places → AreOfSize (length places) (map (column_at places) columns)
 even_at n places [] even all = All-nil (λ (d : Contents). length d.atoms ≡ length places)
 even_at n places (c ∷ columns) even all =
     let size = All-head (λ (d : Contents). length d.atoms ≡ n) c columns even in
@@ -144,20 +144,20 @@ even_at n places (c ∷ columns) even all =
 
 -- ---- groups of key columns of the length of other columns
 
-pub codes_size : (n : ℕ) (keys : List Contents) (codes : List ℕ) → 0 < length keys → Even n keys → codes ≡ codes_in (key_rows (rows_of keys) keys) → length codes ≡ n
+pub codes_size : (n : ℕ) (keys : List Contents) (codes : List ℕ) → 0 < length keys → AreOfSize n keys → codes ≡ codes_in (key_rows (rows_of keys) keys) → length codes ≡ n
 codes_size n keys codes some even is =
     let size : rows_of keys ≡ n = rows_of_even n keys some even in
-    ap length is ∙ length-codes (key_rows (rows_of keys) keys) ∙ length-key_rows (rows_of keys) keys (subst (λ (m : ℕ). Even m keys) (sym size) even) ∙ size
+    ap length is ∙ length-codes (key_rows (rows_of keys) keys) ∙ length-key_rows (rows_of keys) keys (subst (λ (m : ℕ). AreOfSize m keys) (sym size) even) ∙ size
 
-pub keys_fit : (n : ℕ) (keys : List Contents) (codes firsts : List ℕ) → 0 < length keys → Even n keys → codes ≡ codes_in (key_rows (rows_of keys) keys) → All (λ (f : ℕ). f < length codes) firsts → All (λ (c : Contents). All (λ (f : ℕ). f < length c.atoms) firsts) keys
+pub keys_fit : (n : ℕ) (keys : List Contents) (codes firsts : List ℕ) → 0 < length keys → AreOfSize n keys → codes ≡ codes_in (key_rows (rows_of keys) keys) → All (λ (f : ℕ). f < length codes) firsts → All (λ (c : Contents). All (λ (f : ℕ). f < length c.atoms) firsts) keys
 keys_fit n keys codes firsts some even is within = all_within n firsts keys even (subst (λ (m : ℕ). All (λ (f : ℕ). f < m) firsts) (codes_size n keys codes some even is) within)
 
-pub are_groups : (names : List (List ℕ)) (columns keys made : List Contents) (codes firsts : List ℕ) → AreColumns names columns → 0 < length keys → Even (rows_of columns) keys → codes ≡ codes_in (key_rows (rows_of keys) keys)
+pub are_groups : (names : List (List ℕ)) (columns keys made : List Contents) (codes firsts : List ℕ) → AreColumns names columns → 0 < length keys → AreOfSize (rows_of columns) keys → codes ≡ codes_in (key_rows (rows_of keys) keys)
     → All (λ (c : ℕ). c < length firsts) codes → All (λ (f : ℕ). f < length codes) firsts → made ≡ map (column_at firsts) keys → AreGroups names columns made codes firsts
 are_groups names columns keys made codes firsts are some even is low within is_made =
     let size = codes_size (rows_of columns) keys codes some even is in
     let rows : All (λ (f : ℕ). f < rows_of columns) firsts = subst (λ (m : ℕ). All (λ (f : ℕ). f < m) firsts) size within in
-    record { even = are; size = size; keyed = subst (Even (length firsts)) (sym is_made) (even_at (rows_of columns) firsts keys even rows); low = low; within = rows }
+    record { even = are; size = size; keyed = subst (AreOfSize (length firsts)) (sym is_made) (even_at (rows_of columns) firsts keys even rows); low = low; within = rows }
 
 pub parts_size : (codes : List ℕ) (n : ℕ) → length (parts codes n) ≡ n
 parts_size codes n = length-map-range_with_len (λ (g : ℕ). rows_of_group g codes) 0 n

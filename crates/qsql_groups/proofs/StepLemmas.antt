@@ -23,7 +23,7 @@ use Rattle.q_verbs.specs.declared.verb.Verb1.{Verb1}
 use Rattle.q_verbs.specs.declared.verb.Verb1.TheVariants as u
 use Rattle.day_rows.specs.Rows.{absent}
 use Rattle.q_keys.specs.Keys.{KeyGrouping, rows_of_group}
-use Rattle.qsql_values.specs.Operands.{is_by_item, AreEven}
+use Rattle.qsql_values.specs.Operands.{is_by_item, HaveEqualLengths}
 use Rattle.qsql_values.specs.Values.{items_in, formed_as, listed, by_item, by_item_of, kind_with, value_of_one, value_of_two}
 use Rattle.qsql_values.proofs.OperandLemmas.{beside_left, beside_right}
 use Rattle.qsql_groups.specs.OnePass.{of_group, HasItems, IsOfOneKind, IsForGroups, lent_to}
@@ -217,7 +217,7 @@ lent_items rows groups false false codes (vector c) size within h p = p
 lent_items rows groups false true codes (vector c) size within h p = no (h refl)
 lent_items rows groups wanted b codes t size within h p = absurd p
 
-pub lent_even : (rows groups : ℕ) (wanted : Bool) (l r : Tree) → HasLent rows groups wanted l → HasLent rows groups wanted r → AreEven l r
+pub lent_even : (rows groups : ℕ) (wanted : Bool) (l r : Tree) → HasLent rows groups wanted l → HasLent rows groups wanted r → HaveEqualLengths l r
 lent_even rows groups true (vector xs) (vector ys) p q = p ∙ sym q
 lent_even rows groups false (vector xs) (vector ys) p q = p ∙ sym q
 lent_even rows groups wanted l r p q = tt
@@ -243,7 +243,7 @@ abbrev Within : KeyGrouping → Type 0
 Within groups = All (λ (c : ℕ). c < length groups.firsts) groups.codes
 
 pub lent_sides : (groups : KeyGrouping) (bl br w : Bool) (l r first second : Tree) → w ≡ (bl || br) → Within groups → HasItems (length groups.codes) (length groups.firsts) bl l → HasItems (length groups.codes) (length groups.firsts) br r
-    → first ≡ lent_to w bl groups.codes l → second ≡ lent_to w br groups.codes r → AreEven first second
+    → first ≡ lent_to w bl groups.codes l → second ≡ lent_to w br groups.codes r → HaveEqualLengths first second
 lent_sides groups bl br w l r first second is within p q left right =
     let rows = length groups.codes in
     let n = length groups.firsts in

@@ -18,7 +18,7 @@ use std::process::Abort;
 const WANTED: u32 = 1000;
 
 // How many texts are made at most: some of them are refused.
-const MOST: u64 = 4000;
+const MOST_SEEDS: u64 = 4000;
 
 // The number as its kind stores it.
 fn stored(kind: Kind, number: i64) -> i64 {
@@ -300,7 +300,7 @@ fn assert_answered(rt: &impl Abort, alloc: Global, has_by: bool) {
     let schema = built_in_schema(alloc).expect(rt, "memory");
     let rows = rows(rt, alloc);
     let mut answered = 0u32;
-    for seed in 0..MOST {
+    for seed in 0..MOST_SEEDS {
         let mut texts = Texts::new(alloc, seed);
         if has_by {
             texts.query_by(rt);

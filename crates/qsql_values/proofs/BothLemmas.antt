@@ -25,7 +25,7 @@ use Rattle.q_verbs.specs.declared.verb.Verb.TheVariants as v
 use Rattle.q_verbs.specs.declared.verb.Verb1.{Verb1}
 use Rattle.q_verbs.specs.declared.verb.Verb1.TheVariants as u
 use Rattle.qsql_values.specs.Both.{is_extreme, adds, is_in_one_loop, aggregate_of_sides}
-use Rattle.qsql_values.specs.Operands.{AreEven, AreSides}
+use Rattle.qsql_values.specs.Operands.{HaveEqualLengths, AreSides}
 use Rattle.qsql_values.specs.Values.{items_in, kind_with, by_item_of, value_of_one, value_of_two}
 use Rattle.qsql_values.proofs.OperandLemmas.{aggregate_kind, beside_left, beside_right}
 
@@ -230,10 +230,10 @@ module _ (outer : Verb1) (inner : Verb) (one : is_in_one_loop outer inner ≡ tr
   both_columns xs ys = sym (value_by_item (vector xs.now) (vector ys.now))
 
   -- columns beside one another have one length
-  pub are_even : (left right : Tree) → AreSides inner left right → AreEven left right
-  are_even left right h = by_verb inner (both_true (is_extreme outer) (adds inner) one).1 h
+  pub lengths_are_equal : (left right : Tree) → AreSides inner left right → HaveEqualLengths left right
+  lengths_are_equal left right h = by_verb inner (both_true (is_extreme outer) (adds inner) one).1 h
     where
-      by_verb : (verb : Verb) → adds verb ≡ true → AreSides verb left right → AreEven left right
+      by_verb : (verb : Verb) → adds verb ≡ true → AreSides verb left right → HaveEqualLengths left right
       by_verb v.Add e h = h
       by_verb v.Sub e h = h
       by_verb v.Mul e h = nothing e

@@ -14,10 +14,10 @@ use Rattle.q_values.specs.declared.kind.Kind.TheVariants as k
 use Rattle.q_values.proofs.ListLemmas.{map-gathered, length-gathered}
 use Rattle.day_rows.specs.Rows.{absent}
 use Rattle.qsql_values.specs.Beside.{beside}
-use Rattle.qsql_values.specs.Frames.{field_in, column_in, rows_beside, frame_of, AreColumns, are_even, kind_beside}
+use Rattle.qsql_values.specs.Frames.{field_in, column_in, rows_beside, frame_of, AreColumns, are_of_size, kind_beside}
 
-abbrev pub Even : ℕ → List Contents → Type 0
-Even n columns = All (λ (c : Contents). length c.atoms ≡ n) columns
+abbrev pub AreOfSize : ℕ → List Contents → Type 0
+AreOfSize n columns = All (λ (c : Contents). length c.atoms ≡ n) columns
 
 abbrev joined : Atom → List Atom → List Atom
 joined x row = x ∷ row
@@ -28,7 +28,7 @@ length-zip2 f n (x ∷ xs) [] p q = absurd (omega (arith, p, q))
 length-zip2 f zero (x ∷ xs) (y ∷ ys) p q = absurd (omega (arith, p))
 length-zip2 f (suc n) (x ∷ xs) (y ∷ ys) p q = ap suc (length-zip2 f n xs ys (omega (arith, p)) (omega (arith, q)))
 
-pub length-rows : (n : ℕ) (columns : List Contents) → Even n columns → length (rows_beside n columns) ≡ n
+pub length-rows : (n : ℕ) (columns : List Contents) → AreOfSize n columns → length (rows_beside n columns) ≡ n
 length-rows n [] even = length-replicate n []
 length-rows n (c ∷ columns) even =
     length-zip2 joined n c.atoms (rows_beside n columns) (All-head (λ (c : Contents). length c.atoms ≡ n) c columns even) (length-rows n columns (All-tail (λ (c : Contents). length c.atoms ≡ n) c columns even))
@@ -58,7 +58,7 @@ some_same x y e = cc
 never_none : {X : Type 0} (x : X) → None ≡ Some x → ⊥
 never_none x e = cc
 
-pub column-read : (name : List ℕ) (names : List (List ℕ)) (n : ℕ) (columns : List Contents) (c : Contents) → Even n columns → beside name names columns ≡ Some c → map (field_in names name) (rows_beside n columns) ≡ c.atoms
+pub column-read : (name : List ℕ) (names : List (List ℕ)) (n : ℕ) (columns : List Contents) (c : Contents) → AreOfSize n columns → beside name names columns ≡ Some c → map (field_in names name) (rows_beside n columns) ≡ c.atoms
 column-read name [] n columns c even found = absurd (never_none c found)
 column-read name (other ∷ names) n [] c even found = absurd (never_none c found)
 column-read name (other ∷ names) n (d ∷ columns) c even found =
@@ -67,7 +67,7 @@ column-read name (other ∷ names) n (d ∷ columns) c even found =
     first : length d.atoms ≡ n
     first = All-head (λ (e : Contents). length e.atoms ≡ n) d columns even
 
-    rest : Even n columns
+    rest : AreOfSize n columns
     rest = All-tail (λ (e : Contents). length e.atoms ≡ n) d columns even
 
     by_name : (beside name names columns ≡ Some c → map (field_in names name) (rows_beside n columns) ≡ c.atoms) → (b : Bool) → bytes_eq name other ≡ b → map (field_in (other ∷ names) name) (rows_beside n (d ∷ columns)) ≡ c.atoms
@@ -149,15 +149,15 @@ both : (a b : Bool) → (a && b) ≡ true → (a ≡ true) × (b ≡ true)
 both true b h = (refl, h)
 both false b h = absurd cc
 
-pub even_columns : (n : ℕ) (columns : List Contents) → are_even n columns ≡ true → Even n columns
+pub even_columns : (n : ℕ) (columns : List Contents) → are_of_size n columns ≡ true → AreOfSize n columns
 even_columns n [] h = All-nil (λ (d : Contents). length d.atoms ≡ n)
 even_columns n (c ∷ columns) h =
-    let b = both (length c.atoms == n) (are_even n columns) h in
+    let b = both (length c.atoms == n) (are_of_size n columns) h in
     let here : length c.atoms ≡ n = grind arith in
     All-cons (λ (d : Contents). length d.atoms ≡ n) c columns here (even_columns n columns b.1)
 
-pub columns_even : (n : ℕ) (columns : List Contents) → Even n columns → are_even n columns ≡ true
+pub columns_even : (n : ℕ) (columns : List Contents) → AreOfSize n columns → are_of_size n columns ≡ true
 columns_even n [] h = refl
 columns_even n (c ∷ columns) h =
     let here : (length c.atoms == n) ≡ true = grind (arith, All-head (λ (d : Contents). length d.atoms ≡ n) c columns h) in
-    ap (λ (b : Bool). b && are_even n columns) here ∙ columns_even n columns (All-tail (λ (d : Contents). length d.atoms ≡ n) c columns h)
+    ap (λ (b : Bool). b && are_of_size n columns) here ∙ columns_even n columns (All-tail (λ (d : Contents). length d.atoms ≡ n) c columns h)

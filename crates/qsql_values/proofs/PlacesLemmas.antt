@@ -14,7 +14,7 @@ use Rattle.qsql_values.specs.Frames.{rows_beside, frame_of, rows_at, AreColumns}
 use Rattle.q_filter.specs.Places.{places_from, places_of, is_true}
 use Rattle.qsql_values.specs.Places.{column_at}
 use Rattle.qsql_values.specs.Values.{selected}
-use Rattle.qsql_values.proofs.FrameLemmas.{Even, length-rows}
+use Rattle.qsql_values.proofs.FrameLemmas.{AreOfSize, length-rows}
 
 -- ---- gathering the places that are true keeps the elements where it is true, and no others
 
@@ -75,7 +75,7 @@ length-selected (b ∷ flags) [] size = absurd (omega (arith, size))
 length-selected (true ∷ flags) (x ∷ xs) size = ap suc (length-selected flags xs (omega (arith, size)))
 length-selected (false ∷ flags) (x ∷ xs) size = length-selected flags xs (omega (arith, size))
 
-pub rows-selected : (flags : List Bool) (n : ℕ) (columns : List Contents) → Even n columns → length flags ≡ n → rows_beside (count flags) (map (column_at (places_from 0 flags)) columns) ≡ selected flags (rows_beside n columns)
+pub rows-selected : (flags : List Bool) (n : ℕ) (columns : List Contents) → AreOfSize n columns → length flags ≡ n → rows_beside (count flags) (map (column_at (places_from 0 flags)) columns) ≡ selected flags (rows_beside n columns)
 rows-selected flags n [] even size = sym (selected-replicate flags n [] size)
 rows-selected flags n (c ∷ columns) even size =
     let first = gathered-selected c.atoms flags (size ∙ sym (All-head (λ (d : Contents). length d.atoms ≡ n) c columns even)) in
@@ -85,7 +85,7 @@ rows-selected flags n (c ∷ columns) even size =
 gathered_size : (flags : List Bool) (c : Contents) → length flags ≡ length c.atoms → length (column_at (places_from 0 flags) c).atoms ≡ count flags
 gathered_size flags c size = ap length (gathered-selected c.atoms flags size) ∙ length-selected flags c.atoms size
 
-pub even-selected : (flags : List Bool) (n : ℕ) (columns : List Contents) → Even n columns → length flags ≡ n → Even (count flags) (map (column_at (places_from 0 flags)) columns)
+pub even-selected : (flags : List Bool) (n : ℕ) (columns : List Contents) → AreOfSize n columns → length flags ≡ n → AreOfSize (count flags) (map (column_at (places_from 0 flags)) columns)
 even-selected flags n [] even size = All-nil (λ (d : Contents). length d.atoms ≡ count flags)
 even-selected flags n (c ∷ columns) even size =
     All-cons (λ (d : Contents). length d.atoms ≡ count flags) (column_at (places_from 0 flags) c) (map (column_at (places_from 0 flags)) columns) (gathered_size flags c (size ∙ sym (All-head (λ (d : Contents). length d.atoms ≡ n) c columns even)))
@@ -114,8 +114,8 @@ columns-selected names columns flags are size = record {
   even = even_again (count_rows flags columns size);
 }
   where
-    even_again : rows_of (map (column_at (places_from 0 flags)) columns) ≡ count flags → Even (rows_of (map (column_at (places_from 0 flags)) columns)) (map (column_at (places_from 0 flags)) columns)
-    even_again e = subst (λ (n : ℕ). Even n (map (column_at (places_from 0 flags)) columns)) (sym e) (even-selected flags (rows_of columns) columns are.even size)
+    even_again : rows_of (map (column_at (places_from 0 flags)) columns) ≡ count flags → AreOfSize (rows_of (map (column_at (places_from 0 flags)) columns)) (map (column_at (places_from 0 flags)) columns)
+    even_again e = subst (λ (n : ℕ). AreOfSize n (map (column_at (places_from 0 flags)) columns)) (sym e) (even-selected flags (rows_of columns) columns are.even size)
 
 -- ---- the places lie within the columns
 
@@ -127,7 +127,7 @@ places_below n j (false ∷ flags) size = places_below n (j + 1) flags (omega (a
 abbrev pub Within : List ℕ → List Contents → Type 0
 Within places columns = All (λ (c : Contents). All (λ (p : ℕ). p < length c.atoms) places) columns
 
-all_fit : (flags : List Bool) (columns : List Contents) → Even (length flags) columns → Within (places_from 0 flags) columns
+all_fit : (flags : List Bool) (columns : List Contents) → AreOfSize (length flags) columns → Within (places_from 0 flags) columns
 all_fit flags [] even = All-nil (λ (c : Contents). All (λ (p : ℕ). p < length c.atoms) (places_from 0 flags))
 all_fit flags (c ∷ columns) even =
     let size = All-head (λ (d : Contents). length d.atoms ≡ length flags) c columns even in
@@ -135,8 +135,8 @@ all_fit flags (c ∷ columns) even =
     (all_fit flags columns (All-tail (λ (d : Contents). length d.atoms ≡ length flags) c columns even))
 
 -- the places at which booleans hold lie within columns of their length
-pub places_fit : (test : List Atom) (columns : List Contents) → Even (length test) columns → Within (places_of test) columns
-places_fit test columns even = all_fit (map is_true test) columns (subst (λ (n : ℕ). Even n columns) (sym (length-map test is_true)) even)
+pub places_fit : (test : List Atom) (columns : List Contents) → AreOfSize (length test) columns → Within (places_of test) columns
+places_fit test columns even = all_fit (map is_true test) columns (subst (λ (n : ℕ). AreOfSize n columns) (sym (length-map test is_true)) even)
 
 -- ---- rows at indices are the rows of the columns at these indices
 
@@ -166,7 +166,7 @@ replicate-gathered n x (p ∷ places) within =
     ∙ ap (λ y. y ∷ gathered (replicate n x) places) (sym (get_or-replicate n p x x first))
     ∙ ap (λ l. l ++ gathered (replicate n x) places) (sym (read (replicate n x) p x here))
 
-rows-gathered : (places : List ℕ) (n : ℕ) (columns : List Contents) → Even n columns → All (λ (p : ℕ). p < n) places → rows_beside (length places) (map (column_at places) columns) ≡ gathered (rows_beside n columns) places
+rows-gathered : (places : List ℕ) (n : ℕ) (columns : List Contents) → AreOfSize n columns → All (λ (p : ℕ). p < n) places → rows_beside (length places) (map (column_at places) columns) ≡ gathered (rows_beside n columns) places
 rows-gathered places n [] even within = replicate-gathered n [] places within
 rows-gathered places n (c ∷ columns) even within =
     let size : length c.atoms ≡ n = All-head (λ (d : Contents). length d.atoms ≡ n) c columns even in
@@ -185,7 +185,7 @@ frame-gathered names (c ∷ columns) places are within =
     let count = count-gathered places c (length c.atoms) refl within in
     ap₂ (λ (ks : List Kind) (rs : List (List Atom)). record { names = names; kinds = ks; rows = rs }) (kinds-selected places all) (ap (λ (n : ℕ). rows_beside n (map (column_at places) all)) count ∙ rows-gathered places (length c.atoms) all are.even within)
 
-even-gathered : (places : List ℕ) (n : ℕ) (columns : List Contents) → Even n columns → All (λ (p : ℕ). p < n) places → Even (length places) (map (column_at places) columns)
+even-gathered : (places : List ℕ) (n : ℕ) (columns : List Contents) → AreOfSize n columns → All (λ (p : ℕ). p < n) places → AreOfSize (length places) (map (column_at places) columns)
 even-gathered places n [] even within = All-nil (λ (d : Contents). length d.atoms ≡ length places)
 even-gathered places n (c ∷ columns) even within =
     All-cons (λ (d : Contents). length d.atoms ≡ length places) (column_at places c) (map (column_at places) columns) (count-gathered places c n (All-head (λ (d : Contents). length d.atoms ≡ n) c columns even) within)
@@ -197,14 +197,14 @@ columns-gathered names (c ∷ columns) places are within =
     let count = count-gathered places c (length c.atoms) refl within in
     record {
       named = are.named ∙ sym (length-map (c ∷ columns) (column_at places));
-      even = subst (λ (n : ℕ). Even n (map (column_at places) (c ∷ columns))) (sym count) (even-gathered places (length c.atoms) (c ∷ columns) are.even within);
+      even = subst (λ (n : ℕ). AreOfSize n (map (column_at places) (c ∷ columns))) (sym count) (even-gathered places (length c.atoms) (c ∷ columns) are.even within);
     }
 
 -- indices of rows are indices of each column
-pub places_inside : (columns : List Contents) (places : List ℕ) → Even (rows_of columns) columns → All (λ (p : ℕ). p < rows_of columns) places → Within places columns
+pub places_inside : (columns : List Contents) (places : List ℕ) → AreOfSize (rows_of columns) columns → All (λ (p : ℕ). p < rows_of columns) places → Within places columns
 places_inside columns places even within = inside columns (rows_of columns) even within
   where
-    inside : (cs : List Contents) (n : ℕ) → Even n cs → All (λ (p : ℕ). p < n) places → Within places cs
+    inside : (cs : List Contents) (n : ℕ) → AreOfSize n cs → All (λ (p : ℕ). p < n) places → Within places cs
     inside [] n even within = All-nil (λ (c : Contents). All (λ (p : ℕ). p < length c.atoms) places)
     inside (c ∷ cs) n even within =
         All-cons (λ (d : Contents). All (λ (p : ℕ). p < length d.atoms) places) c cs (subst (λ (m : ℕ). All (λ (p : ℕ). p < m) places) (sym (All-head (λ (d : Contents). length d.atoms ≡ n) c cs even)) within)

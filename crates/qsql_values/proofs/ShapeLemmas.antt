@@ -19,7 +19,7 @@ use Rattle.qsql_request.specs.declared.shapes.Shape.{Shape}
 use Rattle.qsql_request.specs.declared.shapes.Shape.TheVariants as s
 use Rattle.qsql_values.specs.Frames.{Frame, field_in}
 use Rattle.qsql_values.specs.Kinds.{kind_in, literal_kind, kind_of_both, is_within, are_ends}
-use Rattle.qsql_values.specs.Operands.{HasShape, AreEven, AreSides, has_ends}
+use Rattle.qsql_values.specs.Operands.{HasShape, HaveEqualLengths, AreSides, has_ends}
 use Rattle.qsql_values.specs.Values.{val, value_of_one, value_of_two, formed_as, by_item, items_in, tested}
 
 no : {P : Type 0} → false ≡ true → P
@@ -65,13 +65,13 @@ item_shape n f kind s.Rows rs (vector xs) r p q h j = rows_and_items n f kind xs
 item_shape n f kind ls rs l r p q h j = absurd h
 
 -- sides that aren't lists have one length
-even_rows : (n : ℕ) (xs : Contents) (rs : Shape) (r : Tree) → length xs.atoms ≡ n → is_list rs ≡ false → HasShape n rs r → AreEven (vector xs) r
+even_rows : (n : ℕ) (xs : Contents) (rs : Shape) (r : Tree) → length xs.atoms ≡ n → is_list rs ≡ false → HasShape n rs r → HaveEqualLengths (vector xs) r
 even_rows n xs s.List r h q j = no_again q
 even_rows n xs s.Scalar (atom y) h q j = tt
 even_rows n xs s.Rows (vector ys) h q j = h ∙ sym j
 even_rows n xs rs r h q j = absurd j
 
-even_shapes : (n : ℕ) (ls rs : Shape) (l r : Tree) → is_list ls ≡ false → is_list rs ≡ false → HasShape n ls l → HasShape n rs r → AreEven l r
+even_shapes : (n : ℕ) (ls rs : Shape) (l r : Tree) → is_list ls ≡ false → is_list rs ≡ false → HasShape n ls l → HasShape n rs r → HaveEqualLengths l r
 even_shapes n s.List rs l r p q h j = no_again p
 even_shapes n s.Scalar rs (atom x) r p q h j = tt
 even_shapes n s.Rows rs (vector xs) r p q h j = even_rows n xs rs r h q j

@@ -63,5 +63,5 @@ abbrev pub kind_beside : Frame → List ℕ → Option Kind
 kind_beside frame name = beside name frame.names frame.kinds
 
 -- columns of this length
-abbrev pub are_even : ℕ → List Contents → Bool
-are_even size columns = list_all (λ (c : Contents). length c.atoms == size) columns
+abbrev pub are_of_size : ℕ → List Contents → Bool
+are_of_size size columns = list_all (λ (c : Contents). length c.atoms == size) columns

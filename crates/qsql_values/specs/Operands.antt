@@ -30,9 +30,9 @@ abbrev pub kind_of_tree : Tree → Kind
 kind_of_tree t = (items_in t).kind
 
 -- two sides with an item for each of the other's, where neither is an atom
-abbrev pub AreEven : Tree → Tree → Type 0
-AreEven (vector xs) (vector ys) = length xs.atoms ≡ length ys.atoms
-AreEven left right = Unit {0}
+abbrev pub HaveEqualLengths : Tree → Tree → Type 0
+HaveEqualLengths (vector xs) (vector ys) = length xs.atoms ≡ length ys.atoms
+HaveEqualLengths left right = Unit {0}
 
 -- a value of this shape over n rows
 abbrev pub HasShape : ℕ → Shape → Tree → Type 0
@@ -62,4 +62,4 @@ abbrev pub AreSides : Verb → Tree → Tree → Type 0
 AreSides v.In left right = Unit {0}
 AreSides v.Within left right = has_ends right ≡ true
 AreSides v.Like left right = Unit {0}
-AreSides verb left right = AreEven left right
+AreSides verb left right = HaveEqualLengths left right

@@ -13,7 +13,7 @@ ghost use Rattle.q_verbs.specs.Sides.{side_kind, rows, spread, AreBeside};
 ghost use Rattle.q_verbs.specs.Tests.{is_among};
 ghost use Rattle.q_verbs.specs.declared.verb.Verb.TheVariants as w;
 ghost use Rattle.qsql_values.specs.Values.{items_in, kind_with, by_item_of, lies_between, byte_in, text_in, value_of_two};
-ghost use Rattle.qsql_values.specs.Operands.{operand_tree, kind_of_tree, AreEven, AreSides, has_ends};
+ghost use Rattle.qsql_values.specs.Operands.{operand_tree, kind_of_tree, HaveEqualLengths, AreSides, has_ends};
 
 use crate::operand::{Held, Operand};
 use q_binary::binary;
@@ -119,7 +119,7 @@ pub fn by_item<'b>(
 ) -> Result<Operand<'b>, NoMemory>
     requires verb { IsTrue (is_by_place verb) }
     requires row { IsSome (result_kind_of verb (kind_of_tree (operand_tree left.now)) (kind_of_tree (operand_tree right.now))) }
-    requires even { AreEven (operand_tree left.now) (operand_tree right.now) }
+    requires even { HaveEqualLengths (operand_tree left.now) (operand_tree right.now) }
     ensures value { IfOk result (λ v. operand_tree v
         ≡ by_item_of verb (items_in (operand_tree left.now)).kind (items_in (operand_tree right.now)).kind (operand_tree left.now) (operand_tree right.now)) }
     ensures kind { IfOk result (λ v. result_kind_of verb (kind_of_tree (operand_tree left.now)) (kind_of_tree (operand_tree right.now))

@@ -8,6 +8,7 @@
 //! - `answers` has queries over two dates: phrases, aggregates, groups, an as-of join, the count of updates and the date.
 //! - `refusals` has texts that are answered with errors, and updates and texts that change nothing.
 //! - `sizes` has answers over a hundred thousand rows, and the limit on a response.
+//! - `large` has updates and answers at real sizes, of which none is out of memory.
 //!
 //! ```text
 //! in      u:p 03 00, an update of trade by one row, "exec count i from trade"
@@ -22,6 +23,8 @@
 mod answers;
 #[cfg(test)]
 mod building;
+#[cfg(test)]
+mod large;
 #[cfg(test)]
 mod refusals;
 #[cfg(test)]

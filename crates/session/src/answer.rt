@@ -195,7 +195,7 @@ fn reply_over(
 impl<A: Access, L: Link, C: Clock, G: Gate, N: Recorder> Session<'_, A, L, C, G, N> {
     ghost use Rattle.session.specs.Devices.{OnlyAsks, state_of};
 
-    /// Logs an update, or refuses it, or tells that the disk failed.
+    /// Logs an update, or refuses it, or reports that the disk failed.
     pub fn answer_update<R: Wait>(
         &mut self,
         rt: &R,

@@ -1,4 +1,4 @@
-//! Files that are cut, extended or overwritten.
+//! Files that are truncated, extended or overwritten.
 
 use crate::update::{CHUNK, Found, changed, counts, file_with, found_in};
 

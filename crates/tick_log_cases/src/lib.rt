@@ -1,7 +1,7 @@
 //! Tests of `tick_log`, over journals in a disk in memory.
 //!
 //! `update` has one update and its chunk, byte by byte. `chunks` makes the chunk of the update, and reads chunks in which one
-//! rule is broken; `files` counts and replays files that are cut, extended or overwritten; `sizes` logs and replays 100,000
+//! rule is broken; `files` counts and replays files that are truncated, extended or overwritten; `sizes` logs and replays 100,000
 //! updates of one row, and 100 of 1,000 rows.
 //!
 //! ```text

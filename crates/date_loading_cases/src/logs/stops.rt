@@ -1,4 +1,4 @@
-//! A stop after each call of the disk.
+//! A crash after each call of the disk.
 
 use crate::logs::script::{CALLS, SCRIPT, finds, found, play, started};
 use outside_mem::{Callings, Leaving};

@@ -1,5 +1,5 @@
 use Rattle.std.proofs.Common.{length, sym, ◌∙◌, subst}
-use Rattle.qsql_values.proofs.FrameLemmas.{Even}
+use Rattle.qsql_values.proofs.FrameLemmas.{AreOfSize}
 use Rattle.qsql_eval.proofs.GroupLemmas.{key_table_of}
 use Rattle.qsql_eval.proofs.by_group.key_table.Goals as goal
 
@@ -7,10 +7,10 @@ pub invariant_of-result : goal.invariant_of-result
 invariant_of-result c = record {
   in_shape =
       (key_table_of c.args.grouping.now c.args.by.now c.in_ok-names.names c.from_vec-columns.result c.requires.some c.requires.keys c.in_ok-names.ensures (c.from_vec-columns.ensures ∙ c.in_ok-keys.ensures.keys)
-      (subst (Even (length c.args.grouping.now.firsts)) (sym c.from_vec-columns.ensures) (subst (Even (length c.args.grouping.now.firsts)) (sym c.in_ok-keys.ensures.keys) c.in_ok-keys.ensures.even))).is;
+      (subst (AreOfSize (length c.args.grouping.now.firsts)) (sym c.from_vec-columns.ensures) (subst (AreOfSize (length c.args.grouping.now.firsts)) (sym c.in_ok-keys.ensures.keys) c.in_ok-keys.ensures.even))).is;
 }
 
 pub returns-clause-size : goal.returns-clause-size
 returns-clause-size c =
     (key_table_of c.args.grouping.now c.args.by.now c.in_ok-names.names c.from_vec-columns.result c.requires.some c.requires.keys c.in_ok-names.ensures (c.from_vec-columns.ensures ∙ c.in_ok-keys.ensures.keys)
-    (subst (Even (length c.args.grouping.now.firsts)) (sym c.from_vec-columns.ensures) (subst (Even (length c.args.grouping.now.firsts)) (sym c.in_ok-keys.ensures.keys) c.in_ok-keys.ensures.even))).size
+    (subst (AreOfSize (length c.args.grouping.now.firsts)) (sym c.from_vec-columns.ensures) (subst (AreOfSize (length c.args.grouping.now.firsts)) (sym c.in_ok-keys.ensures.keys) c.in_ok-keys.ensures.even))).size

@@ -5,7 +5,7 @@ use Rattle.q_keys.specs.Keys.{key_rows}
 use Rattle.asof_join.specs.Asof.{column_named}
 use Rattle.asof_join.specs.Heads.{both_atoms}
 use Rattle.asof_join.specs.Views.{grid_in}
-use Rattle.asof_join.proofs.KeyLemmas.{IsEven, columns_even, columns_count, columns_rows, heads_are}
+use Rattle.asof_join.proofs.KeyLemmas.{HasBothSizes, columns_even, columns_count, columns_rows, heads_are}
 use Rattle.asof_join.proofs.heads.Heads.of.Goals as goal
 
 pub of-requires-clause-even : goal.of-requires-clause-even
@@ -13,7 +13,7 @@ of-requires-clause-even c =
     let left = c.args.left.now in
     let right = c.args.right.now in
     let names = c.args.names.now in
-    let even : All (IsEven (grid_in left) (grid_in right) (rows_of left.columns) (rows_of right.columns)) names =
+    let even : All (HasBothSizes (grid_in left) (grid_in right) (rows_of left.columns) (rows_of right.columns)) names =
     λ i d low. record { in_left = (c.requires i d low).left_size; in_right = (c.requires i d low).right_size } in
     let atoms : map (λ (x : Contents). x.atoms) c.deref.result.now ≡ map (both_atoms (grid_in left) (grid_in right)) names =
     ap (map (λ (x : Contents). x.atoms)) c.deref.ensures.value ∙ c.in_ok-columns.ensures in
@@ -25,7 +25,7 @@ returns c =
     let right = c.args.right.now in
     let names = c.args.names.now in
     let columns = c.deref.result.now in
-    let even : All (IsEven (grid_in left) (grid_in right) (rows_of left.columns) (rows_of right.columns)) names =
+    let even : All (HasBothSizes (grid_in left) (grid_in right) (rows_of left.columns) (rows_of right.columns)) names =
     λ i d low. record { in_left = (c.requires i d low).left_size; in_right = (c.requires i d low).right_size } in
     let atoms : map (λ (x : Contents). x.atoms) columns ≡ map (both_atoms (grid_in left) (grid_in right)) names =
     ap (map (λ (x : Contents). x.atoms)) c.deref.ensures.value ∙ c.in_ok-columns.ensures in

@@ -1,5 +1,5 @@
 //! Sessions at real sizes, with ample memory: none of their messages is answered `wsfull`.
-use crate::building::{Rows, answer_of, input_of, update_by, update_of};
+use crate::large::building::{Rows, answer_of, input_of, update_by, update_of};
 use q_values::{Limits, NANOSECONDS_PER_DAY, Turn};
 use session::End;
 use std::alloc::Global;

@@ -1,6 +1,6 @@
 //! Texts over a hundred thousand rows, each answered by one number that is worked out by hand.
-use crate::building::{Rows, answer_of_long, input_before, query_of, update_of};
-use crate::sizes::sends;
+use crate::large::building::{Rows, answer_of_long, input_before, query_of, update_of};
+use crate::large::sizes::sends;
 use q_values::Limits;
 use session::End;
 use std::alloc::Global;

@@ -1,6 +1,6 @@
 //! Each call of the disk failing once, and the entry sent again.
 
-use crate::script::{CALLS, SCRIPT, Sent, found, send, text_of};
+use crate::crashes::script::{CALLS, SCRIPT, Sent, found, send, text_of};
 use outside_mem::{Calling, Leaving, MemDisk};
 use plant_core::{Access, Solo};
 use std::alloc::Global;

@@ -1,5 +1,5 @@
 //! Subscribers at real sizes, with ample memory: each row is sent once, and in order.
-use crate::bytes::{SECOND_TOLD, TO_A, TRADE};
+use crate::subscriptions::bytes::{SECOND_TOLD, TO_A, TRADE};
 use q_values::Limits;
 use session::End;
 use std::alloc::Global;

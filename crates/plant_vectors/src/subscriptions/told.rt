@@ -1,5 +1,5 @@
 //! What subscribers are answered, and what they are sent.
-use crate::bytes::{
+use crate::subscriptions::bytes::{
     ASYNC_TO_TRADE, BOTH, END_TOLD, FIRST_TOLD, SECOND_TOLD, SYMBOLS_TO_B, THIRD_TOLD, TO_A,
     TO_A_AND_C, TO_ALL, TO_B, TO_FOO, TO_NOTHING, TO_ONE, TO_TWO, TRADE,
 };

@@ -1,6 +1,6 @@
-//! A stop after each call of the disk.
+//! A crash after each call of the disk.
 
-use crate::script::{CALLS, SCRIPT, Sent, found, send};
+use crate::crashes::script::{CALLS, SCRIPT, Sent, found, send};
 use outside_mem::{Calling, Callings, Leaving, MemDisk};
 use plant_core::{Plant, Solo};
 use std::alloc::Global;
