@@ -18,6 +18,7 @@ HANDSHAKE = b"u:p\x03\x00"
 OBJECTS = (
     ("int", b"\xfa\x01\x00\x00\x00"),
     ("symbol of four bytes", b"\xf5abcd\x00"),
+    ("symbol of nine bytes", b"\xf5abcdefghi\x00"),
     ("vector of one boolean", b"\x01\x00\x01\x00\x00\x00\x01"),
     ("empty vector", b"\x06\x00\x00\x00\x00\x00"),
     ("dictionary of an int", b"c\xfa\x01\x00\x00\x00\xfa\x02\x00\x00\x00"),
@@ -27,6 +28,7 @@ OBJECTS = (
     ("boolean", b"\xff\x01"),
     ("symbol of one byte", b"\xf5a\x00"),
     ("dictionary of (::)", b"ce\x00e\x00"),
+    ("error of three bytes", b"\x80abc\x00"),
 )
 
 

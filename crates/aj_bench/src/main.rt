@@ -10,6 +10,8 @@
 //! eval aj NANOSECONDS SUM
 //! ```
 //!
+//! `bench/eval.py` asks for 200,000 trades and a million quotes, and for a million trades and ten million quotes.
+//!
 //! It tests nothing: the sums are printed so that the results can be compared. It times neither the reading of a text nor the
 //! evaluation of the sides. Without arguments it does nothing.
 #![tactic(auto)]

@@ -1,6 +1,5 @@
 pub mod AsofLemmas
 pub mod FoundLemmas
-pub mod ItemLemmas
 pub mod JoinLemmas
 pub mod JudgeLemmas
 pub mod KeyLemmas

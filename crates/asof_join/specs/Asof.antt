@@ -14,7 +14,7 @@ use Rattle.q_keys.specs.Keys.{key_rows, same_key}
 use Rattle.q_verbs.specs.Aggregates.{null_of}
 use Rattle.day_rows.specs.Rows.{absent}
 use Rattle.qsql_values.specs.Beside.{beside}
-use Rattle.asof_join.specs.Items.{item_or}
+use Rattle.q_grouped.specs.Steps.{item_or}
 
 -- rows as the join looks at them: each row's items in the key columns but the last, and its last key
 pub record KeyedRows : Type 0 where

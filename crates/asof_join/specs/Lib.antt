@@ -1,6 +1,5 @@
 pub mod Asof
 pub mod Heads
-pub mod Items
 pub mod Judged
 pub mod Lasts
 pub mod Lines

@@ -24,7 +24,6 @@
 //! loaded, if no sync of these files had failed before. Dates that are saved as parts aren't known here.
 #![tactic(auto)]
 
-mod copies;
 mod laws;
 mod loading;
 mod logs;

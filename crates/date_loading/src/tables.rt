@@ -8,7 +8,6 @@ ghost use Rattle.date_loading.specs.Differences.{IsLowerName, table_named, sole}
 ghost use Rattle.date_loading.specs.Manifests.{tables_of};
 ghost use Rattle.date_loading.specs.Refusals.{TablesRefuse};
 
-use crate::copies::copied;
 use crate::refusal::LoadRefusal;
 use day_rows::{Kinds, Schema, Shape};
 use partition_set::ManifestRecord;
@@ -122,7 +121,7 @@ fn named(alloc: Global, shape: Option<&Shape>, name: &Sym) -> Result<Shape, NoMe
 {
     if let Some(shape) = shape {
         if shape.table.bytes() == name.bytes() {
-            return Ok(copied(alloc, shape)?);
+            return Ok(shape.copied(alloc)?);
         }
     }
     Ok(Shape {

@@ -1,4 +1,4 @@
--- What a plant is after a restart from an image of its disk: the entries that the manifest and the dates' logs spell. No date
+-- What a plant is after a restart from an image of its disk: the entries that the manifest and the dates' logs encode. No date
 -- is saved as a part here.
 use Rattle.std.specs.Prelude.{◌≡◌, ◌⊎◌, ℕ, ◌+◌, ◌-◌, ℤ, pos, negsuc, List, [], ◌∷◌, ◌++◌, map, Option, Some, None}
 use Rattle.std.specs.List.{AllByRecursion}

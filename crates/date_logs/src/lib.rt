@@ -2,7 +2,7 @@
 //!
 //! A plant notes updates and rolls. The manifest says which dates were opened, and each date has a log of its updates.
 //! [`DateLogs`] is both: [`DateLogs::append`] adds an update to the open date's log, and [`DateLogs::roll`] ends the
-//! open date and opens the next. Whenever the machine stops, the files that are left restart as the entries so far, or
+//! open date and opens the next. Whenever the machine crashes, the files that are left restart as the entries so far, or
 //! as these and the one that was being added. After an `Ok` the entry is in every image of the disk.
 //!
 //! ```text

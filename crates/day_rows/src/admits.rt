@@ -1,4 +1,4 @@
-//! Whether entries may be added to a day.
+//! Whether columns are those of a table, and whether entries may be added to a day.
 ghost use Rattle.std.specs.Prelude.{◌≡◌, ◌↔◌, ◌^◌, ◌≤◌, length, map, All, IfSome, IfNone, true};
 ghost use Rattle.std.specs.List.{AllByRecursion};
 ghost use Rattle.q_values.specs.Table.{rows_of};
@@ -14,7 +14,8 @@ fn is_of_kind(column: &Vector, kind: &Kind) -> bool
     column.kind() == *kind
 }
 
-fn has_kinds(columns: &[Vector], kinds: &[Kind]) -> bool
+/// Whether the columns have these kinds, in order.
+pub fn have_kinds(columns: &[Vector], kinds: &[Kind]) -> bool
     ensures { (result ≡ true) ↔ (map (λ c. c.kind) columns.now ≡ kinds.now) }
 {
     if columns.len() != kinds.len() {
@@ -28,7 +29,8 @@ fn has_kinds(columns: &[Vector], kinds: &[Kind]) -> bool
     true
 }
 
-fn first_len(columns: &[Vector]) -> usize
+/// The number of rows of columns: the length of the first, and 0 where there is none.
+pub fn row_count(columns: &[Vector]) -> usize
     ensures { result ≡ rows_of columns.now }
 {
     match columns {
@@ -37,10 +39,11 @@ fn first_len(columns: &[Vector]) -> usize
     }
 }
 
-fn have_equal_lengths(columns: &[Vector]) -> bool
+/// Whether all columns are as long as the first.
+pub fn have_equal_lengths(columns: &[Vector]) -> bool
     ensures { (result ≡ true) ↔ All (λ c. length c.atoms ≡ rows_of columns.now) columns.now }
 {
-    let rows = first_len(columns);
+    let rows = row_count(columns);
     for column in columns {
         if column.len() != rows {
             return false;
@@ -55,7 +58,7 @@ fn is_update(tables: &[Kinds], entry: &Entry) -> bool
     match entry {
         Entry::Upd { table, columns, .. } => match tables.get(*table as usize) {
             Some(kinds) => {
-                has_kinds(columns.as_slice(), kinds.as_slice())
+                have_kinds(columns.as_slice(), kinds.as_slice())
                     && have_equal_lengths(columns.as_slice())
             }
             None => false,
@@ -81,7 +84,7 @@ pub fn rows_of_entry(entry: &Entry) -> usize
     ensures { result ≡ entry_rows entry.now }
 {
     match entry {
-        Entry::Upd { columns, .. } => first_len(columns.as_slice()),
+        Entry::Upd { columns, .. } => row_count(columns.as_slice()),
         _ => 0,
     }
 }

@@ -148,7 +148,7 @@ impl ClosedDay {
         ensures { IfOk result (λ entries. entries ≡ drop from self.now.updates) }
     {
         let found = self.updates.entries(alloc, &self.kinds, from)?;
-        Ok(Entries::from_vec(found))
+        Entries::from_vec(alloc, found)
     }
 
     /// The `n` atoms of a table's column from the row `from` on, in the documented order. Reading it
@@ -181,7 +181,8 @@ impl ClosedDay {
         ensures { IfOk result (λ arrivals. arrivals ≡ map (λ row. row.arrival) (settled self.now table)) }
     {
         let order = &self.orders[table as usize];
-        Ok(Places::from_vec(order.part(alloc, 0, order.len())?))
+        let arrivals = Places::from_vec(alloc, order.part(alloc, 0, order.len())?)?;
+        Ok(arrivals)
     }
 }
 

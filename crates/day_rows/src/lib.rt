@@ -41,11 +41,13 @@ mod copies;
 mod entry;
 mod open_day;
 mod schema;
+mod schema_copies;
 mod store;
 mod table;
 mod trace;
 mod updates;
 
+pub use admits::{have_equal_lengths, have_kinds, row_count};
 pub use chronicle::{view_has_each_row_once, view_is_by_dates};
 pub use closed_day::{ClosedDay, DayOrder};
 pub use entry::{Entries, Entry};

@@ -171,7 +171,7 @@ impl OpenDay {
         ensures { IfOk result (λ entries. entries ≡ drop from self.now.day.updates) }
     {
         let found = self.updates.entries(alloc, &self.tables, from)?;
-        Ok(Entries::from_vec(found))
+        Entries::from_vec(alloc, found)
     }
 
     /// The `n` atoms of a table's column from the row `from` on, in the order of arrival. Reading it copies each
@@ -247,7 +247,7 @@ impl OpenDay {
 fn copy_kinds(alloc: Global, kinds: &Kinds) -> Result<Kinds, NoMemory>
     ensures { IfOk result (λ copied. copied ≡ kinds.now) }
 {
-    Ok(Kinds::from_vec(Vec::from_slice(alloc, kinds.as_slice())?))
+    Kinds::from_vec(alloc, Vec::from_slice(alloc, kinds.as_slice())?)
 }
 
 /// A copy of the kinds of each table's columns.

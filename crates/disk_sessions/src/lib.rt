@@ -10,6 +10,8 @@
 //! load    one update
 //! ```
 //!
+//! Which calls of the disk a commit makes, and what each leaves where it fails, is tested in `plant_core_cases`.
+//!
 //! The crate has no code outside its tests. What a session answers over a disk that works is in `plant_vectors`.
 #![tactic(auto)]
 

@@ -31,7 +31,7 @@ pub fn wrong_value(alloc: Global, text: &[u8]) -> Result<Value, NoMemory>
     ensures shaped { IfOk result (λ v. IsShaped (tree v)) }
 {
     let copied = Vec::from_slice(alloc, text)?;
-    Ok(Value::Wrong(Text::from_vec(copied)))
+    Ok(Value::Wrong(Text::from_vec(alloc, copied)?))
 }
 
 // The index in the schema of the table with this name.

@@ -11,6 +11,8 @@
 //! b"select foo from trade"                      b"'foo"
 //! ```
 //!
+//! What a session sends for an answer or an error is tested in `query_vectors`.
+//!
 //! The crate has tests only. They are not in `gateway` itself because a crate with tests in it is proved twice.
 #![tactic(auto)]
 

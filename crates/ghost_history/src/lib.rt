@@ -8,6 +8,11 @@
 //! let mut given: History<i64> = History::new();
 //! given.push(&reading);          // given.new ≡ given.old ++ reading ∷ []
 //! ```
+//!
+//! A list of bytes also takes a slice at once: [`History::extend`] is for what a device read or wrote.
+//!
+//! It has no call that reads, and none that makes it shorter. What a test is to compare has to be kept as data, as the
+//! devices of `outside_mem` keep what they were written.
 #![tactic(auto)]
 
 mod history;

@@ -11,7 +11,7 @@ use Rattle.ipc_codec.specs.declared.order.Order.{Order}
 use Rattle.ipc_codec.specs.declared.reach.Outline.{Outline}
 use Rattle.ipc_codec.specs.declared.reach.Block.{Block}
 use Rattle.q_values.specs.Kind.{kind_at, width}
-use Rattle.ipc_codec.specs.Types.{form_of}
+use Rattle.ipc_codec.specs.Types.{form_of, symbols_byte}
 use Rattle.ipc_codec.specs.Reading.{◌>>=◌, count_at, text_at, part_at, is_symbol, extent}
 
 -- what is kept of a value: whether it is a table, and its number of items as one side of a dictionary
@@ -81,7 +81,7 @@ after_list_of_columns room order bytes = do
 -- the number of names and the bytes after them
 unfoldable pub after_names : ℕ → Order → List ℕ → Result (ℕ × List ℕ) Fault
 after_names room order bytes = do
-  inner ← part_at room 11 11 bytes
+  inner ← part_at room symbols_byte symbols_byte bytes
   n ← count_at order inner
   rest ← after_texts n.0 n.1
   Ok (n.0, rest)

@@ -1,6 +1,11 @@
--- How many values a value holds.
-use Rattle.std.specs.Prelude.{ℕ, ◌+◌}
+-- How many values a value holds, and how much memory it may take.
+use Rattle.std.specs.Prelude.{ℕ, ◌+◌, ◌*◌}
 use Rattle.q_values.specs.Tree.{Tree, Items, atom, vector, list, dict, table, keyed, identity, wrong, no_items, item}
+
+-- the most bytes of memory of a value that is read from n bytes: 20 for each of them, and for each of the 8 before them in
+-- a message
+abbrev pub memory_for : ℕ → ℕ
+memory_for n = 20 * (n + 8)
 
 -- the items of a value's lists and the sides of its dictionaries, and those within them
 abbrev mutual

@@ -20,7 +20,7 @@ use Rattle.ipc_codec.specs.declared.order.Order.{Order}
 use Rattle.ipc_codec.specs.declared.refusal.DecodeRefusal.{DecodeRefusal}
 use Rattle.ipc_codec.specs.declared.refusal.DecodeRefusal.TheVariants as r
 use Rattle.q_values.specs.Kind.{kind_at, width}
-use Rattle.ipc_codec.specs.Types.{form_of}
+use Rattle.ipc_codec.specs.Types.{form_of, symbols_byte}
 use Rattle.ipc_codec.specs.Numbers.{number, element, cells}
 
 infixl 10 ◌>>=◌
@@ -134,7 +134,7 @@ shaped left names columns = if is_grid names columns then Ok (record { names = n
 -- a table's names, after the type byte of its dictionary
 unfoldable pub names_at : ℕ → Order → List ℕ → Result (List (List ℕ) × List ℕ) Fault
 names_at room order bytes = do
-  inner ← part_at room 11 11 bytes
+  inner ← part_at room symbols_byte symbols_byte bytes
   n ← count_at order inner
   texts_at n.0 n.1
 

@@ -13,6 +13,7 @@ use Rattle.ipc_codec.specs.declared.order.Order.{Order}
 use Rattle.q_values.specs.Kind.{type_number, width}
 use Rattle.ipc_codec.specs.Numbers.{number, element}
 use Rattle.ipc_codec.specs.Reading.{extent, number_of_items}
+use Rattle.ipc_codec.specs.Types.{symbols_byte}
 use Rattle.ipc_codec.specs.Written.{depth, AreNotBothTables}
 
 -- the bytes are those of each item, in order
@@ -58,7 +59,7 @@ pub record SpellsNames (order : Order) (bytes : List ℕ) (names : List (List �
   pub attribute : ℕ
   pub count : List ℕ
   pub body : List ℕ
-  pub parts : bytes ≡ 11 ∷ attribute ∷ count ++ body
+  pub parts : bytes ≡ symbols_byte ∷ attribute ∷ count ++ body
   pub counted : SpellsCount order count (length names)
   pub texts : InTurn SpellsText body names
 

@@ -1,9 +1,14 @@
 -- The type bytes of objects (KX, IPC reference).
 use Rattle.std.specs.Prelude.{ℕ, ◌-◌, Option, Some, None, if◌then◌else◌, ◌==◌, ◌||◌, ◌&&◌, nat_le, Bool}
 use Rattle.q_values.specs.declared.kind.Kind.{Kind}
-use Rattle.q_values.specs.Kind.{kind_at}
+use Rattle.q_values.specs.declared.kind.Kind.TheVariants as k
+use Rattle.q_values.specs.Kind.{kind_at, type_number}
 use Rattle.ipc_codec.specs.declared.form.Form.{Form}
 use Rattle.ipc_codec.specs.declared.form.Form.TheVariants as f
+
+-- the type byte of a vector of symbols, as that of a table's names
+abbrev pub symbols_byte : ℕ
+symbols_byte = type_number k.Symbol
 
 -- whether vectors of this type are known to kdb+ and not supported here
 abbrev pub is_unbuilt : ℕ → Bool

@@ -13,6 +13,7 @@ use Rattle.q_values.specs.declared.atom.Atom.{Atom}
 use Rattle.q_values.specs.declared.atom.Atom.TheVariants as a
 use Rattle.q_values.specs.Kind.{type_number}
 use Rattle.ipc_codec.specs.Reading.{extent, number_of_items}
+use Rattle.ipc_codec.specs.Types.{symbols_byte}
 
 -- a text and the 0 that ends it
 abbrev pub text_bytes : List ℕ → List ℕ
@@ -44,7 +45,7 @@ vector_bytes v = head (type_number v.kind) (length v.atoms) ++ flat_map element_
 
 unfoldable pub grid_bytes : Grid → List ℕ
 grid_bytes grid =
-    98 ∷ 0 ∷ 99 ∷ (head 11 (length grid.names) ++ flat_map text_bytes grid.names) ++ (head 0 (length grid.columns) ++ flat_map vector_bytes grid.columns)
+    98 ∷ 0 ∷ 99 ∷ (head symbols_byte (length grid.names) ++ flat_map text_bytes grid.names) ++ (head 0 (length grid.columns) ++ flat_map vector_bytes grid.columns)
 
 -- the bytes of a value
 unfoldable mutual

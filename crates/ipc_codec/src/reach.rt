@@ -160,7 +160,8 @@ fn after_list_of_columns_of(bytes: &[u8], order: Order, room: u32) -> Result<(Bl
 fn after_names_of(bytes: &[u8], order: Order, room: u32) -> Result<(usize, &[u8]), Fault>
     ensures { Finds (λ x. (x.0, x.1.now)) result (after_names room order bytes.now) }
 {
-    let inner = part_of(bytes, room, 11, 11)?;
+    let symbols = Kind::Symbol.type_number();
+    let inner = part_of(bytes, room, symbols, symbols)?;
     let (count, rest) = count_of(inner, order)?;
     let rest = after_texts_of(rest, count)?;
     Ok((count, rest))

@@ -2,7 +2,7 @@
 //! `room` is the number of levels that may still be opened; `left` the number of bytes from the type byte of the
 //! current object on, from which the offset of a fault follows. A list is made with the room that its count asks for, and
 //! with no more than the bytes that are left can fill: an object has two bytes at least, a column six, a text one.
-ghost use Rattle.std.specs.Prelude.{◌≡◌, ◌<◌, ◌^◌, ◌≤◌, ◌-◌, ◌+◌, ◌*◌, ℕ, length, take, map, max, nat_eq, Ok, IfOk, IfErr};
+ghost use Rattle.std.specs.Prelude.{◌≡◌, ◌<◌, ◌^◌, ◌≤◌, ◌-◌, ◌+◌, ◌*◌, ℕ, length, take, map, nat_eq, Ok, IfOk, IfErr};
 ghost use Rattle.q_values.specs.Bytes.{HasNoNul};
 ghost use Rattle.q_values.specs.Column.{contents};
 ghost use Rattle.q_values.specs.Table.{rows_of};
@@ -11,7 +11,7 @@ ghost use Rattle.ipc_codec.specs.Reading.{Gives, Finds, RefusesObject, texts_at,
 ghost use Rattle.ipc_codec.specs.Reading.{have_equal_lengths, names_at, list_of_columns_at, grid_at, shaped, extent, checked, joined, identity_at};
 ghost use Rattle.ipc_codec.specs.Reading.{items_at, list_at, dictionary_at, object_by, object_at, object_of};
 ghost use Rattle.ipc_codec.specs.Front.{with_front};
-ghost use Rattle.ipc_codec.specs.Memory.{values_within, values_among};
+ghost use Rattle.ipc_codec.specs.Memory.{values_within, values_among, memory_for};
 ghost use Rattle.ipc_codec.specs.Spells.{Spells};
 ghost use Rattle.ipc_codec.specs.Decoded.{Reads};
 ghost use Rattle.ipc_codec.specs.Written.{IsPlain, AtomsFit};
@@ -40,7 +40,7 @@ fn boxed<T: Drop>(alloc: Global, item: T) -> Result<Box<T>, NoMemory>
 fn text_copied(alloc: Global, text: &[u8]) -> Result<Text, NoMemory>
     ensures { IfOk result (λ t. t ≡ text.now) }
 {
-    Ok(Text::from_vec(Vec::from_slice(alloc, text)?))
+    Text::from_vec(alloc, Vec::from_slice(alloc, text)?)
 }
 
 // The texts of at most eight bytes that come first, and the bytes after them.
@@ -72,7 +72,7 @@ fn symbols_of(alloc: Global, bytes: &[u8], count: usize) -> Result<(Symbols, &[u
 {
     let (short, after) = short_symbols_of(alloc, bytes, count)?;
     let left = count - short.len();
-    let mut symbols = Symbols::from_short(alloc, short);
+    let mut symbols = Symbols::from_short(alloc, short)?;
     let mut rest = after;
     for _ in 0..left {
         let (text, after) = text_of(rest)?;
@@ -200,7 +200,8 @@ fn names_of(
 ) -> Result<(Sequence<Sym>, &[u8]), Stop>
     ensures { Gives (λ x. (x.0, x.1.now)) result (names_at room order bytes.now) }
 {
-    let inner = part_of(bytes, room, 11, 11)?;
+    let symbols = Kind::Symbol.type_number();
+    let inner = part_of(bytes, room, symbols, symbols)?;
     let (count, rest) = count_of(inner, order)?;
     syms_of(alloc, rest, count)
 }
@@ -349,7 +350,7 @@ fn items_in<'a>(
 ) -> Result<(Values, &'a [u8]), Stop>
     requires { count < 2 ^ 31 }
     ensures found { Gives (λ x. (items_of (trees x.0), x.1.now)) result (items_at (object_at room order) count bytes.now) }
-    ensures few { IfOk result (λ x. budget.new.left + 56 * values_among (items_of (trees x.0)) ≤ budget.old.left) }
+    ensures few { IfOk result (λ x. budget.new.left + 40 * values_among (items_of (trees x.0)) ≤ budget.old.left) }
 {
     let places = count.min(bytes.len() / 2);
     budget.take(places * VALUE + HEADER)?;
@@ -377,7 +378,7 @@ fn list_in<'a>(
     budget: &mut Budget,
 ) -> Result<(Value, &'a [u8]), Stop>
     ensures found { Gives (λ x. (tree x.0, x.1.now)) result (list_at (object_at room order) order bytes.now) }
-    ensures few { IfOk result (λ x. budget.new.left + 56 * values_within (tree x.0) ≤ budget.old.left) }
+    ensures few { IfOk result (λ x. budget.new.left + 40 * values_within (tree x.0) ≤ budget.old.left) }
 {
     let (count, rest) = count_of(bytes, order)?;
     let (items, rest) = items_in(alloc, rest, order, room, count, budget)?;
@@ -395,7 +396,7 @@ fn dictionary_in<'a>(
     budget: &mut Budget,
 ) -> Result<(Value, &'a [u8]), Stop>
     ensures found { Gives (λ x. (tree x.0, x.1.now)) result (dictionary_at (object_at room order) left bytes.now) }
-    ensures few { IfOk result (λ x. budget.new.left + 56 * values_within (tree x.0) ≤ budget.old.left) }
+    ensures few { IfOk result (λ x. budget.new.left + 40 * values_within (tree x.0) ≤ budget.old.left) }
 {
     budget.take(SIDES)?;
     let (keys, rest) = object_in(alloc, bytes, order, room, budget)?;
@@ -417,7 +418,7 @@ fn form_in<'a>(
 ) -> Result<(Value, &'a [u8]), Stop>
     ensures found { Gives (λ x. (tree x.0, x.1.now)) result
         (object_by (object_at room order) room order form left bytes.now) }
-    ensures few { IfOk result (λ x. budget.new.left + 56 * values_within (tree x.0) ≤ budget.old.left) }
+    ensures few { IfOk result (λ x. budget.new.left + 40 * values_within (tree x.0) ≤ budget.old.left) }
 {
     match form {
         Form::Atom(kind) => {
@@ -454,7 +455,7 @@ fn object_in<'a>(
     budget: &mut Budget,
 ) -> Result<(Value, &'a [u8]), Stop>
     ensures found { Gives (λ x. (tree x.0, x.1.now)) result (object_at room order bytes.now) }
-    ensures few { IfOk result (λ x. budget.new.left + 56 * values_within (tree x.0) ≤ budget.old.left) }
+    ensures few { IfOk result (λ x. budget.new.left + 40 * values_within (tree x.0) ≤ budget.old.left) }
 {
     match bytes {
         [] => Err(Stop::At(Fault::Truncated)),
@@ -479,8 +480,8 @@ fn object_in<'a>(
 
 /// Reads the object at the front of the bytes; returns its value and its length in bytes (KX, IPC reference). Bytes after
 /// the object aren't read. Where the bytes don't begin with an object, the refusal is the first one from left to right.
-/// A value that would take more than 20 bytes of memory for each of the bytes, and more than 65,536, is refused as one that
-/// there is no memory for.
+/// A value that would take more than 20 bytes of memory for each of the bytes, and for each of the eight of a message's
+/// header, is refused as one that there is no memory for.
 pub fn decode(alloc: Global, bytes: &[u8], order: Order) -> Result<(Value, usize), DecodeRefusal>
     ensures found { IfOk result (λ x. object_of order bytes.now ≡ Ok (tree x.0, x.1)) }
     ensures refused { IfErr result (RefusesObject (object_of order bytes.now)) }
@@ -489,8 +490,8 @@ pub fn decode(alloc: Global, bytes: &[u8], order: Order) -> Result<(Value, usize
     // A value that was read can be written.
     ensures plain { IfOk result (λ x. IsPlain (tree x.0)) }
     ensures fit { IfOk result (λ x. AtomsFit (tree x.0)) }
-    // The values within it, of 56 bytes each, take at most 20 bytes for each byte, or 65,536.
-    ensures few { IfOk result (λ x. 56 * values_within (tree x.0) ≤ max 65536 (20 * length bytes.now)) }
+    // The values within it have 40 bytes each.
+    ensures few { IfOk result (λ x. 40 * values_within (tree x.0) ≤ memory_for (length bytes.now)) }
     // Each encoding of a value at the front of the bytes is read as that value, unless memory runs out.
     ensures only { (t : Tree) (n : ℕ) → n ≤ length bytes.now → Spells order (take n bytes.now) t
         → Reads t n result }

@@ -13,15 +13,15 @@ ghost use Rattle.ipc_codec.specs.Written.{head, text_bytes, element_bytes, vecto
 use crate::lengths::encoded_length;
 use byteorder::{ByteOrder, LittleEndian};
 use q_values::{
-    Arena, Atom, Column, Element, Form, NoMemory, ShortSymbol, Sym, Symbols, TableValue, Value,
-    Values, Vector,
+    Arena, Atom, Column, Element, Form, Kind, NoMemory, ShortSymbol, Sym, Symbols, TableValue,
+    Value, Values, Vector,
 };
 
 // How many short symbols are written at a time.
-const BLOCK: usize = 64;
+const SYMBOLS_AT_ONCE: usize = 64;
 
 // The most bytes that they take: eight and a 0 for each.
-const BLOCK_BYTES: usize = 576;
+const BYTES_AT_ONCE: usize = 576;
 
 /// A type byte, the attribute byte 0 and a count.
 pub fn put_head(out: &mut Vec<u8>, code: u8, count: usize) -> Result<(), NoMemory>
@@ -102,7 +102,7 @@ pub fn put_text(out: &mut Vec<u8>, text: &[u8]) -> Result<(), NoMemory>
 
 // Writes short symbols, each with the 0 that ends it, at the front of the block; returns how many bytes they take. Each
 // is written as eight bytes, of which the next one overwrites those that aren't its own.
-fn fill_block(block: &mut [u8; BLOCK_BYTES], symbols: &[ShortSymbol]) -> usize
+fn fill_block(block: &mut [u8; BYTES_AT_ONCE], symbols: &[ShortSymbol]) -> usize
     requires { length symbols.now ≤ 64 }
     ensures within { result ≤ 576 }
     ensures value { take result block.new ≡ flat_map text_bytes symbols.now }
@@ -122,10 +122,10 @@ fn put_short_symbols(out: &mut Vec<u8>, symbols: &[ShortSymbol]) -> Result<(), N
     ensures ok { OnOk result (out.new.items ≡ out.old.items ++ flat_map text_bytes symbols.now) }
     ensures err { OnErr result (Begins out.old.items out.new.items) }
 {
-    let mut block = [0u8; BLOCK_BYTES];
+    let mut block = [0u8; BYTES_AT_ONCE];
     let mut at = 0;
     while at < symbols.len() {
-        let count = (symbols.len() - at).min(BLOCK);
+        let count = (symbols.len() - at).min(SYMBOLS_AT_ONCE);
         let end = fill_block(&mut block, &symbols[at..at + count]);
         out.extend_from_slice(&block[..end])?;
         at += count;
@@ -213,7 +213,7 @@ fn put_table(out: &mut Vec<u8>, table: &TableValue) -> Result<(), NoMemory>
     ensures err { OnErr result (Begins out.old.items out.new.items) }
 {
     out.extend_from_slice(&[98, 0, 99])?;
-    put_head(out, 11, table.names.len())?;
+    put_head(out, Kind::Symbol.type_number(), table.names.len())?;
     put_names(out, table.names.as_slice())?;
     put_head(out, 0, table.columns.len())?;
     put_columns(out, table.columns.as_slice())

@@ -1,4 +1,4 @@
-//! How much memory a value may take that is read: at most 20 bytes for each byte of its message, or 65,536.
+//! How much memory a value may take that is read: at most 20 bytes for each byte of its message.
 
 use ipc_codec::{DecodeRefusal, Order, decode, measure};
 use q_values::Value;
@@ -8,9 +8,12 @@ use std::process::Abort;
 // A name, an object, how many of it a general list has, and whether the list is read.
 type Row = (&'static str, &'static [u8], u32, bool);
 
-const ROWS: [Row; 14] = [
+const ROWS: [Row; 19] = [
     ("ints", b"\xfa\x01\0\0\0", 200_000, true),
-    ("symbols of four bytes", b"\xf5abcd\0", 100_000, true),
+    ("empty symbols", b"\xf5\0", 100_000, true),
+    ("symbols of one byte", b"\xf5a\0", 100_000, true),
+    ("symbols of nine bytes", b"\xf5abcdefghi\0", 100_000, true),
+    ("errors of four bytes", b"\x80abcd\0", 100_000, true),
     (
         "vectors of one boolean",
         b"\x01\0\x01\0\0\0\x01",
@@ -18,6 +21,12 @@ const ROWS: [Row; 14] = [
         true,
     ),
     ("empty vectors", b"\x06\0\0\0\0\0", 100_000, true),
+    (
+        "vectors of one empty symbol",
+        b"\x0b\0\x01\0\0\0\0",
+        100_000,
+        true,
+    ),
     (
         "vectors of two symbols",
         b"\x0b\0\x02\0\0\0a\0abcdefghi\0",
@@ -31,8 +40,14 @@ const ROWS: [Row; 14] = [
         true,
     ),
     (
-        "dictionaries of an int",
-        b"c\xfa\x01\0\0\0\xfa\x02\0\0\0",
+        "dictionaries of a short",
+        b"c\xfb\x01\0\xfb\x02\0",
+        100_000,
+        true,
+    ),
+    (
+        "dictionaries of a symbol of one byte",
+        b"c\xf5a\0\xf5b\0",
         100_000,
         true,
     ),
@@ -43,21 +58,26 @@ const ROWS: [Row; 14] = [
         true,
     ),
     (
-        "as many identities as 65,536 bytes hold",
-        b"e\0",
-        1_170,
-        true,
-    ),
-    ("one identity more", b"e\0", 1_171, false),
-    ("a million identities", b"e\0", 1_000_000, false),
-    ("symbols of one byte", b"\xf5a\0", 100_000, false),
-    ("dictionaries of identities", b"ce\0e\0", 100_000, false),
-    (
         "lists of four identities",
         b"\0\0\x04\0\0\0e\0e\0e\0e\0",
         100_000,
+        true,
+    ),
+    ("a million identities", b"e\0", 1_000_000, true),
+    (
+        "as many dictionaries of identities as the headers pay for",
+        b"ce\0e\0",
+        7,
+        true,
+    ),
+    ("one dictionary more", b"ce\0e\0", 8, false),
+    (
+        "dictionaries of a boolean",
+        b"c\xff\x01\xff\0",
+        100_000,
         false,
     ),
+    ("errors of three bytes", b"\x80abc\0", 100_000, false),
 ];
 
 // A general list of this many copies of an object.

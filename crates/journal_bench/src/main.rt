@@ -8,6 +8,9 @@
 //! load 1000000: 98000 us
 //! ```
 //!
+//! Each append is synced as one of a plant is. `done` says whether all were made. `log_bench` times the log above it, which
+//! also judges each update.
+//!
 //! The disk in memory keeps what its file holds, so memory is that of the file and of what the load reads. The program
 //! proves nothing about time, and nothing stands on it.
 #![tactic(auto)]

@@ -8,6 +8,9 @@
 //! lock 4 1080180000
 //! ```
 //!
+//! The first line is of one thread, the second of four. `bench/lock.py` sets them beside a ticket lock and a mutex in Rust.
+//! That a take waits its turn is a contract of `plant_lock`; how long it waits is what is measured here.
+//!
 //! The state under the lock is a counter, so what is timed is the lock itself. The program checks at its end that each
 //! take was counted. It proves nothing about time, and nothing stands on it. Without an argument it prints nothing.
 #![tactic(auto)]

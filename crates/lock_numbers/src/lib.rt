@@ -11,7 +11,8 @@
 //! ```
 //!
 //! It shows that the conditions of the lock's calls can be met, and what its promises come to for a program with threads.
-//! Which of two threads adds first isn't said.
+//! Which of two threads adds first isn't said. Times are in `lock_bench`, and the plant that is shared so in `plant_shared`.
+//! Nothing that runs in the program stands on this crate.
 #![tactic(auto)]
 
 mod numbers;

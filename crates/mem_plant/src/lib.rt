@@ -8,6 +8,9 @@
 //! let mut solo = Solo::new(plant);
 //! ```
 //!
+//! [`new_plant`] formats the disk and gives the plant that is open on the date, in days since 2000.01.01. It fails only
+//! where it is out of memory.
+//!
 //! The disk has no call that is to fail, and starts empty. A plant over another disk is made by `Plant::format` and
 //! `Plant::load`.
 #![tactic(auto)]

@@ -1,5 +1,4 @@
 pub mod Clock
-pub mod History
 pub mod Link
 pub mod MemDisk
 pub mod MemFile

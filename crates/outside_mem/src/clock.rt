@@ -1,8 +1,8 @@
 //! A clock in memory, with a list of readings.
 ghost use Rattle.std.specs.Prelude.{◌≡◌, ◌<◌, ◌-◌, [], length, slice_get, Some, ◌∷◌};
 
-use crate::history::History;
 use crate::tape::Tape;
+use ghost_history::History;
 use outside_api::Clock;
 use q_values::Sequence;
 use std::marker::Model;

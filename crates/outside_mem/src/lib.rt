@@ -23,7 +23,6 @@ mod clock;
 mod copying;
 mod files;
 mod gate;
-mod history;
 mod input;
 mod link;
 mod mem_disk;

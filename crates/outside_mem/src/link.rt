@@ -1,10 +1,10 @@
 //! A link in memory.
 ghost use Rattle.std.specs.Prelude.{◌≡◌, [], ◌∷◌, IsTrue, ◌↔◌, IfOk};
 
-use crate::history::History;
 use crate::input::{Input, Piece};
 use crate::taking::Taking;
 use crate::tape::Tape;
+use ghost_history::History;
 use outside_api::{Got, Link, LinkFault};
 use q_values::{NoMemory, Sequence, Text};
 use std::alloc::Global;
@@ -81,7 +81,8 @@ impl MemLink {
         ensures input { IfOk result (λ l. l.input ≡ input.now) }
     {
         let mut pieces = Sequence::new(alloc);
-        pieces.push(Piece::Bytes(Text::from_vec(Vec::from_slice(alloc, input)?)))?;
+        let bytes = Text::from_vec(alloc, Vec::from_slice(alloc, input)?)?;
+        pieces.push(Piece::Bytes(bytes))?;
         Ok(MemLink::script(alloc, pieces, Sequence::new(alloc)))
     }
 

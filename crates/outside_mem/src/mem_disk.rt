@@ -6,8 +6,8 @@ ghost use Rattle.outside_mem.specs.MemDisk.{new_disk, shown_by, next_calling, pa
 
 use crate::calling::{Calling, Leaving};
 use crate::files::Files;
-use crate::history::History;
 use crate::tape::Tape;
+use ghost_history::History;
 use outside_api::{Disk, DiskFault};
 use q_values::{NoMemory, Sequence};
 use std::alloc::Global;

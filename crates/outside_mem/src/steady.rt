@@ -1,7 +1,7 @@
 //! A clock that always reads one time.
 ghost use Rattle.std.specs.Prelude.{◌≡◌, [], ◌∷◌, All};
 
-use crate::history::History;
+use ghost_history::History;
 use outside_api::Clock;
 use std::marker::Model;
 

@@ -9,7 +9,8 @@ use std::alloc::Global;
 use std::process::Abort;
 
 fn piece(rt: &impl Abort, alloc: Global, bytes: &[u8]) -> Piece {
-    Piece::Bytes(Text::from_vec(Vec::from_slice(alloc, bytes).expect(rt, "memory")))
+    let bytes = Vec::from_slice(alloc, bytes).expect(rt, "memory");
+    Piece::Bytes(Text::from_vec(alloc, bytes).expect(rt, "memory"))
 }
 
 fn read_two<L: Link>(link: &mut L) -> (Got, [u8; 2]) {

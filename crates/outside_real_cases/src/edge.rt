@@ -68,7 +68,7 @@ fn idle_and_link_faults(rt: HostRuntime) {
         (Got::End, 0),
     ];
     for (got, byte) in wanted {
-        assert!(rt; read_one(&mut link) == (got, byte));
+        assert_eq!(rt; read_one(&mut link), (got, byte));
     }
     assert!(rt; write_one(&mut link).is_err());
 }
@@ -149,10 +149,10 @@ fn counting_clock() -> CountingClock {
 fn a_read_that_would_block_waits_and_times_out(rt: HostRuntime) {
     let clock = counting_clock();
     let mut link = StandardLink::new(&clock, LateReader { blocked: 55 }, FullWriter);
-    assert!(rt; read_one(&mut link) == (Got::Idle, 0));
-    assert!(rt; clock.sleeps.load(SeqCst) == 50);
-    assert!(rt; read_one(&mut link) == (Got::Bytes(1), 7));
-    assert!(rt; clock.sleeps.load(SeqCst) == 55);
+    assert_eq!(rt; read_one(&mut link), (Got::Idle, 0));
+    assert_eq!(rt; clock.sleeps.load(SeqCst), 50);
+    assert_eq!(rt; read_one(&mut link), (Got::Bytes(1), 7));
+    assert_eq!(rt; clock.sleeps.load(SeqCst), 55);
 }
 
 // Fails with a body that gives up at the first write that would block, and with one that tries again without a pause.
@@ -163,7 +163,7 @@ fn a_write_that_would_block_waits(rt: HostRuntime) {
     for _ in 0..5u32 {
         assert!(rt; write_one(&mut link).is_ok());
     }
-    assert!(rt; clock.sleeps.load(SeqCst) == 5);
+    assert_eq!(rt; clock.sleeps.load(SeqCst), 5);
 }
 
 fn use_once<O: Outside>(outside: &mut O) -> bool {
@@ -206,7 +206,10 @@ fn warnings_are_lines(rt: HostRuntime) {
     let mut outside = StandardOutside::new(&rt, &wakers, errors);
     outside.warn(b"plant: idle");
     outside.warn(b"plant: usage");
-    assert!(rt; outside.errors().bytes.as_slice() == b"plant: idle\nplant: usage\n".as_slice());
+    assert_eq!(rt;
+        outside.errors().bytes.as_slice(),
+        b"plant: idle\nplant: usage\n".as_slice()
+    );
 }
 
 #[test]
@@ -241,20 +244,29 @@ fn folders_are_made_opened_and_locked(rt: HostRuntime) {
     let alloc = rt.alloc();
     let wakers = Wakers::new(rt.alloc());
     let mut outside = StandardOutside::new(&rt, &wakers, FullWriter);
-    assert!(rt; cause_at(&mut outside, alloc, path.as_str()) == Some(Cause::Missing));
+    assert_eq!(rt;
+        cause_at(&mut outside, alloc, path.as_str()),
+        Some(Cause::Missing)
+    );
     let mut disk = outside
         .make_folder(alloc, path.as_str())
         .expect(&rt, "a folder");
     disk.write_at(0, 0, b"abc").expect(&rt, "a disk");
-    assert!(rt; cause_at(&mut outside, alloc, path.as_str()) == Some(Cause::InUse));
+    assert_eq!(rt;
+        cause_at(&mut outside, alloc, path.as_str()),
+        Some(Cause::InUse)
+    );
     outside.keep(disk);
-    assert!(rt; cause_at(&mut outside, alloc, path.as_str()) == None);
+    assert_eq!(rt; cause_at(&mut outside, alloc, path.as_str()), None);
     let file = format!(in alloc; "{path}/f0").expect(&rt, "memory");
-    assert!(rt; cause_at(&mut outside, alloc, file.as_str()) == Some(Cause::NotAFolder));
+    assert_eq!(rt;
+        cause_at(&mut outside, alloc, file.as_str()),
+        Some(Cause::NotAFolder)
+    );
     let bytes = outside
         .read_file(alloc, file.as_str())
         .expect(&rt, "a file");
-    assert!(rt; bytes.as_slice() == b"abc".as_slice());
+    assert_eq!(rt; bytes.as_slice(), b"abc".as_slice());
     let absent = format!(in alloc; "{path}/f1").expect(&rt, "memory");
     let refused = outside.read_file(alloc, absent.as_str());
     assert!(rt; matches!(&refused, Err(FileRefusal::MakeFault(Cause::Missing))));
@@ -278,7 +290,7 @@ fn a_port_is_listened_on_once(rt: HostRuntime) {
     let refused = MakeFault {
         cause: Cause::PortInUse,
     };
-    assert!(rt; other.listen(port) == Err(refused));
+    assert_eq!(rt; other.listen(port), Err(refused));
     assert!(rt;
         outside.accept().expect(&rt, "a connection").is_none(),
         "no connection came"
@@ -295,14 +307,14 @@ fn a_connection_is_a_link(rt: HostRuntime) {
     let Some(mut link) = outside.accept().expect(&rt, "a connection") else {
         panic!(rt; "no connection");
     };
-    assert!(rt; read_one(&mut link) == (Got::Idle, 0));
+    assert_eq!(rt; read_one(&mut link), (Got::Idle, 0));
     client.write_all(&[7]).expect(&rt, "a connection");
-    assert!(rt; read_one(&mut link) == (Got::Bytes(1), 7));
+    assert_eq!(rt; read_one(&mut link), (Got::Bytes(1), 7));
     assert!(rt; write_one(&mut link).is_ok());
     let clock = outside.clock();
     let recorder = outside.recorder();
     outside.back(Some(link), Some(clock), Some(recorder));
     let mut all = Vec::new(rt.alloc());
     client.read_to_end(&mut all).expect(&rt, "a connection");
-    assert!(rt; all.as_slice() == [3].as_slice());
+    assert_eq!(rt; all.as_slice(), [3].as_slice());
 }

@@ -57,7 +57,7 @@ fn thousand_records_are_found_again(rt: HostRuntime) {
     assert!(rt; fill(&rt, rt.alloc(), &mut disk, 1_000));
     drop(disk);
     let mut disk = opened(&rt, path.as_str()).expect(&rt, "no disk");
-    assert!(rt; found(rt.alloc(), &mut disk) == Some((1_000, true)));
-    assert!(rt; disk.faults() == 0);
+    assert_eq!(rt; found(rt.alloc(), &mut disk), Some((1_000, true)));
+    assert_eq!(rt; disk.faults(), 0);
     fs::remove_dir_all(&rt, path.as_str()).expect(&rt, "a file");
 }

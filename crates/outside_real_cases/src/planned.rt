@@ -139,13 +139,13 @@ fn short_and_interrupted_calls_go_on(rt: HostRuntime) {
     let mut buf = [0; 3];
     assert!(rt; disk.write_at(1, 0, b"abc").is_ok());
     assert!(rt; disk.read(1, 0, &mut buf).is_ok());
-    assert!(rt; &buf == b"abc");
-    assert!(rt; disk.faults() == 0);
+    assert_eq!(rt; &buf, b"abc");
+    assert_eq!(rt; disk.faults(), 0);
     assert!(rt; disk.write_at(1, 2, b"def").is_err());
     assert!(rt; disk.read(1, 2, &mut buf).is_err());
     assert!(rt; disk.size(1).is_err());
     assert!(rt; disk.write_at(9, 0, b"a").is_err());
-    assert!(rt; disk.faults() == 4);
+    assert_eq!(rt; disk.faults(), 4);
 }
 
 // Fails with a body that syncs the folder at no sync, at each sync, or before the file.
@@ -155,12 +155,12 @@ fn first_sync_of_a_file_syncs_the_folder(rt: HostRuntime) {
     let mut disk = FolderDisk::new(rt.alloc(), PlannedFolder { notes: &notes });
     let written = disk.write_at(0, 0, b"a").is_ok() && disk.sync(0).is_ok() && disk.sync(0).is_ok();
     assert!(rt; written);
-    assert!(rt; notes.look() == 1232);
+    assert_eq!(rt; notes.look(), 1232);
     assert!(rt; disk.cut(0, 0).is_ok() && disk.sync(0).is_ok());
-    assert!(rt; notes.look() == 42);
+    assert_eq!(rt; notes.look(), 42);
     assert!(rt; disk.sync(1).is_ok() && disk.sync(1).is_ok());
-    assert!(rt; notes.look() == 1232);
-    assert!(rt; disk.faults() == 0);
+    assert_eq!(rt; notes.look(), 1232);
+    assert_eq!(rt; disk.faults(), 0);
 }
 
 // Fails with a body that trusts a sync of the folder that succeeds after one that failed.
@@ -175,7 +175,7 @@ fn failed_sync_of_the_folder_isnt_forgotten(rt: HostRuntime) {
     assert!(rt; disk.sync(2).is_err());
     assert!(rt; disk.write_at(3, 0, b"a").is_ok() && disk.sync(3).is_err());
     assert!(rt; disk.sync(1).is_ok());
-    assert!(rt; disk.faults() == 3);
+    assert_eq!(rt; disk.faults(), 3);
 }
 
 /// Whether each file of these numbers can be written, and synced if `syncs` says so.
@@ -196,12 +196,12 @@ fn synced_files_are_closed_where_many_are_open(rt: HostRuntime) {
     assert!(rt; fill(&mut disk, 100, 200, true));
     let _filled = notes.look();
     assert!(rt; disk.sync(100).is_ok());
-    assert!(rt; notes.look() == 123);
+    assert_eq!(rt; notes.look(), 123);
     assert!(rt; disk.sync(199).is_ok());
-    assert!(rt; notes.look() == 2);
+    assert_eq!(rt; notes.look(), 2);
     assert!(rt; fill(&mut disk, 200, 400, false));
     let _filled = notes.look();
     assert!(rt; disk.sync(200).is_ok());
-    assert!(rt; notes.look() == 23);
-    assert!(rt; disk.faults() == 0);
+    assert_eq!(rt; notes.look(), 23);
+    assert_eq!(rt; disk.faults(), 0);
 }

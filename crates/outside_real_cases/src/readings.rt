@@ -41,9 +41,9 @@ fn known_times(rt: HostRuntime) {
     ];
     for (seconds, moment) in cases {
         standing.seconds.set(seconds);
-        assert!(rt; clock.now() == moment);
+        assert_eq!(rt; clock.now(), moment);
     }
-    assert!(rt; clock.faults() == 2);
+    assert_eq!(rt; clock.faults(), 2);
 }
 
 // It was 2026 when this was written.
@@ -51,7 +51,7 @@ fn known_times(rt: HostRuntime) {
 fn machine_time(rt: HostRuntime) {
     let mut clock = RealClock::new(rt.clone().expect(&rt, "memory"));
     assert!(rt; clock.now() > 820_000_000_000_000_000);
-    assert!(rt; clock.faults() == 0);
+    assert_eq!(rt; clock.faults(), 0);
 }
 
 /// Gives three bytes, one at a time, and then ends or fails.
@@ -88,8 +88,8 @@ fn whole_or_refused(rt: HostRuntime) {
     for (fails, limit, refusal) in cases {
         let read = read_whole(rt.alloc(), Three { left: 3, fails }, limit);
         match read {
-            Ok(bytes) => assert!(rt; (bytes.as_slice(), refusal) == (b"aaa".as_slice(), None)),
-            Err(why) => assert!(rt; Some(why) == refusal),
+            Ok(bytes) => assert_eq!(rt; (bytes.as_slice(), refusal), (b"aaa".as_slice(), None)),
+            Err(why) => assert_eq!(rt; Some(why), refusal),
         }
     }
 }

@@ -63,14 +63,20 @@ fn written_bytes_are_found_again(rt: HostRuntime) {
     let path = fresh_path(&rt, "found").expect(&rt, "a folder");
     let mut disk = sent(made(&rt, path.as_str()).expect(&rt, "no disk"));
     write_two(&mut disk).expect(&rt, "a disk");
-    assert!(rt; look_at(&mut disk).expect(&rt, "a disk") == ([5, 1, 0], *b"bXY"));
-    assert!(rt; disk.faults() == 0);
+    assert_eq!(rt;
+        look_at(&mut disk).expect(&rt, "a disk"),
+        ([5, 1, 0], *b"bXY")
+    );
+    assert_eq!(rt; disk.faults(), 0);
     drop(disk);
     let mut disk = opened(&rt, path.as_str()).expect(&rt, "no disk");
-    assert!(rt; look_at(&mut disk).expect(&rt, "a disk") == ([5, 1, 0], *b"bXY"));
+    assert_eq!(rt;
+        look_at(&mut disk).expect(&rt, "a disk"),
+        ([5, 1, 0], *b"bXY")
+    );
     let whole = format!(in rt.alloc(); "{path}/f0").expect(&rt, "memory");
     let bytes = read_file(&rt, rt.alloc(), whole.as_str(), 5).expect(&rt, "a file");
-    assert!(rt; bytes.as_slice() == b"abXYe".as_slice());
+    assert_eq!(rt; bytes.as_slice(), b"abXYe".as_slice());
     let last = format!(in rt.alloc(); "{path}/f18446744073709551615").expect(&rt, "memory");
     assert!(rt; fs::exists(&rt, last.as_str()).expect(&rt, "a file"));
     let absent = format!(in rt.alloc(); "{path}/f7").expect(&rt, "memory");
@@ -107,8 +113,8 @@ fn faults_are_counted(rt: HostRuntime) {
     );
     assert!(rt; disk.size(1).is_err(), "a folder in the place of a file");
     assert!(rt; disk.write_at(2, 0, b"a").is_err(), "a full disk");
-    assert!(rt; disk.faults() == 7);
-    assert!(rt; disk.size(0) == Ok(1));
+    assert_eq!(rt; disk.faults(), 7);
+    assert_eq!(rt; disk.size(0), Ok(1));
     fs::remove_dir_all(&rt, path.as_str()).expect(&rt, "a file");
 }
 
@@ -124,8 +130,8 @@ fn read_only_folder(rt: HostRuntime) {
     fs::set_permissions(&rt, path.as_str(), permissions).expect(&rt, "a file");
     let other = format!(in rt.alloc(); "{path}/other").expect(&rt, "memory");
     let is_superuser = fs::write(&rt, other.as_str(), b"").is_ok();
-    assert!(rt; disk.write_at(0, 0, b"a").is_ok() == is_superuser);
-    assert!(rt; (disk.faults() == 0) == is_superuser);
+    assert_eq!(rt; disk.write_at(0, 0, b"a").is_ok(), is_superuser);
+    assert_eq!(rt; disk.faults() == 0, is_superuser);
     let mut permissions = fs::metadata(&rt, path.as_str())
         .expect(&rt, "a file")
         .permissions();
@@ -141,16 +147,25 @@ fn refusal_of(rt: &HostRuntime, path: &str) -> Option<FolderRefusal> {
 #[test]
 fn folder_is_opened_once(rt: HostRuntime) {
     let path = fresh_path(&rt, "lock").expect(&rt, "a folder");
-    assert!(rt; refusal_of(&rt, path.as_str()) == Some(FolderRefusal::Missing));
+    assert_eq!(rt;
+        refusal_of(&rt, path.as_str()),
+        Some(FolderRefusal::Missing)
+    );
     let mut disk = made(&rt, path.as_str()).expect(&rt, "no disk");
-    assert!(rt; refusal_of(&rt, path.as_str()) == Some(FolderRefusal::InUse));
+    assert_eq!(rt; refusal_of(&rt, path.as_str()), Some(FolderRefusal::InUse));
     disk.write_at(0, 0, b"a").expect(&rt, "a disk");
     let file = format!(in rt.alloc(); "{path}/f0").expect(&rt, "memory");
-    assert!(rt; refusal_of(&rt, file.as_str()) == Some(FolderRefusal::NotAFolder));
+    assert_eq!(rt;
+        refusal_of(&rt, file.as_str()),
+        Some(FolderRefusal::NotAFolder)
+    );
     let within = format!(in rt.alloc(); "{path}/f0/x").expect(&rt, "memory");
-    assert!(rt; refusal_of(&rt, within.as_str()) == Some(FolderRefusal::NotAFolder));
+    assert_eq!(rt;
+        refusal_of(&rt, within.as_str()),
+        Some(FolderRefusal::NotAFolder)
+    );
     drop(disk);
-    assert!(rt; refusal_of(&rt, path.as_str()) == None);
+    assert_eq!(rt; refusal_of(&rt, path.as_str()), None);
     let again = made(&rt, path.as_str()).expect(&rt, "no disk");
     drop(again);
     fs::remove_dir_all(&rt, path.as_str()).expect(&rt, "a file");
@@ -160,11 +175,11 @@ fn folder_is_opened_once(rt: HostRuntime) {
 fn file_read_whole(rt: HostRuntime) {
     let path = fresh_path(&rt, "whole").expect(&rt, "a folder");
     let missing = read_file(&rt, rt.alloc(), path.as_str(), 100);
-    assert!(rt; missing.err() == Some(ReadRefusal::Missing));
+    assert_eq!(rt; missing.err(), Some(ReadRefusal::Missing));
     fs::write(&rt, path.as_str(), b"abc").expect(&rt, "a file");
     let bytes = read_file(&rt, rt.alloc(), path.as_str(), 3).expect(&rt, "a file");
-    assert!(rt; bytes.as_slice() == b"abc".as_slice());
+    assert_eq!(rt; bytes.as_slice(), b"abc".as_slice());
     let too_long = read_file(&rt, rt.alloc(), path.as_str(), 2);
-    assert!(rt; too_long.err() == Some(ReadRefusal::TooLong));
+    assert_eq!(rt; too_long.err(), Some(ReadRefusal::TooLong));
     fs::remove_file(&rt, path.as_str()).expect(&rt, "a file");
 }

@@ -37,20 +37,20 @@ fn bytes_pass_and_a_read_times_out(rt: HostRuntime) {
     let (mut client, stream) = connected(&rt).expect(&rt, "no port");
     let mut link = sent(SocketLink::new(&rt, &wakers, stream));
     let start = Instant::now(&rt).expect(&rt, "a reading");
-    assert!(rt; read_two(&mut link) == (Got::Idle, [0, 0]));
+    assert_eq!(rt; read_two(&mut link), (Got::Idle, [0, 0]));
     let waited = start.elapsed(&rt).expect(&rt, "a reading");
     assert!(rt; waited >= Duration::from_millis(45) && waited < Duration::from_millis(2_000));
     client.write_all(b"abc").expect(&rt, "a connection");
-    assert!(rt; read_two(&mut link) == (Got::Bytes(2), *b"ab"));
-    assert!(rt; read_two(&mut link) == (Got::Bytes(1), *b"c\x00"));
+    assert_eq!(rt; read_two(&mut link), (Got::Bytes(2), *b"ab"));
+    assert_eq!(rt; read_two(&mut link), (Got::Bytes(1), *b"c\x00"));
     client.shutdown(Shutdown::Write).expect(&rt, "a connection");
-    assert!(rt; read_two(&mut link) == (Got::End, [0, 0]));
-    assert!(rt; read_two(&mut link) == (Got::End, [0, 0]));
+    assert_eq!(rt; read_two(&mut link), (Got::End, [0, 0]));
+    assert_eq!(rt; read_two(&mut link), (Got::End, [0, 0]));
     assert!(rt; link.write(b"xyz").is_ok(), "the client may still read");
     drop(link);
     let mut all = Vec::new(rt.alloc());
     client.read_to_end(&mut all).expect(&rt, "a connection");
-    assert!(rt; all.as_slice() == b"xyz".as_slice());
+    assert_eq!(rt; all.as_slice(), b"xyz".as_slice());
 }
 
 /// Reads to the end, and gives how many bytes came.
@@ -79,7 +79,7 @@ fn ten_million_bytes_in_one_write(rt: HostRuntime) {
     };
     assert!(rt; link.write(&bytes).is_ok());
     drop(link);
-    assert!(rt; reader.join(&rt).expect(&rt, "a result") == 10_000_000);
+    assert_eq!(rt; reader.join(&rt).expect(&rt, "a result"), 10_000_000);
 }
 
 // A client that closes without having read what it was sent resets the connection.
@@ -92,7 +92,7 @@ fn a_client_that_vanishes_is_a_fault(rt: HostRuntime) {
     thread::sleep(&rt, Duration::from_millis(20));
     drop(client);
     thread::sleep(&rt, Duration::from_millis(20));
-    assert!(rt; read_two(&mut link) == (Got::Failed, [0, 0]));
+    assert_eq!(rt; read_two(&mut link), (Got::Failed, [0, 0]));
     assert!(rt; link.write(b"more").is_err());
 }
 
@@ -112,11 +112,11 @@ fn clients_that_are_gone_before_they_are_accepted(rt: HostRuntime) {
     for _ in 0..5u32 {
         if let Some(stream) = open.accept(&rt).expect(&rt, "a connection") {
             let mut link = SocketLink::new(&rt, &wakers, stream);
-            assert!(rt; read_two(&mut link) == (Got::End, [0, 0]));
+            assert_eq!(rt; read_two(&mut link), (Got::End, [0, 0]));
             accepted = accepted.wrapping_add(1);
         }
     }
-    assert!(rt; accepted == 5);
+    assert_eq!(rt; accepted, 5);
 }
 
 // A client that was told something without asking is looked after soon: 20 reads that time out take less than 20 times 50
@@ -129,7 +129,7 @@ fn reads_time_out_soon_after_a_publication(rt: HostRuntime) {
     assert!(rt; link.write(b"told").is_ok());
     let start = Instant::now(&rt).expect(&rt, "a reading");
     for _ in 0..20u32 {
-        assert!(rt; read_two(&mut link) == (Got::Idle, [0, 0]));
+        assert_eq!(rt; read_two(&mut link), (Got::Idle, [0, 0]));
     }
     let waited = start.elapsed(&rt).expect(&rt, "a reading");
     assert!(rt; waited < Duration::from_millis(900));
@@ -140,8 +140,8 @@ fn reads_time_out_soon_after_a_publication(rt: HostRuntime) {
 fn a_port_is_listened_on_once(rt: HostRuntime) {
     let port = free_port(&rt).expect(&rt, "no port");
     let open = OpenPort::listen(&rt, port).expect(&rt, "a port");
-    assert!(rt; open.port() == port);
-    assert!(rt; OpenPort::listen(&rt, port).err() == Some(PortRefusal::InUse));
+    assert_eq!(rt; open.port(), port);
+    assert_eq!(rt; OpenPort::listen(&rt, port).err(), Some(PortRefusal::InUse));
     let start = Instant::now(&rt).expect(&rt, "a reading");
     assert!(rt;
         open.accept(&rt).expect(&rt, "a connection").is_none(),
@@ -222,7 +222,7 @@ fn a_stream_that_fails_as_planned(rt: HostRuntime) {
         (Got::End, [0, 0]),
     ];
     for wanted in wanted {
-        assert!(rt; read_two(&mut link) == wanted);
+        assert_eq!(rt; read_two(&mut link), wanted);
     }
     assert!(rt; link.write(b"ab").is_ok());
     assert!(rt; link.write(b"c").is_err());

@@ -12,7 +12,7 @@ use std::time::{Clock, Duration, Instant};
 fn calm_down<R: Clock + Abort, L: Link>(rt: &R, link: &mut L) {
     let start = Instant::now(rt).expect(rt, "a reading");
     for _ in 0..u64::MAX {
-        assert!(rt; read_two(link) == (Got::Idle, [0, 0]));
+        assert_eq!(rt; read_two(link), (Got::Idle, [0, 0]));
         if start.elapsed(rt).expect(rt, "a reading") > Duration::from_millis(1_100) {
             return;
         }
@@ -23,7 +23,7 @@ fn calm_down<R: Clock + Abort, L: Link>(rt: &R, link: &mut L) {
 fn time_of<R: Clock + Abort, L: Link>(rt: &R, link: &mut L, reads: u32) -> Duration {
     let start = Instant::now(rt).expect(rt, "a reading");
     for _ in 0..reads {
-        assert!(rt; read_two(link) == (Got::Idle, [0, 0]));
+        assert_eq!(rt; read_two(link), (Got::Idle, [0, 0]));
     }
     start.elapsed(rt).expect(rt, "a reading")
 }
@@ -32,7 +32,7 @@ fn time_of<R: Clock + Abort, L: Link>(rt: &R, link: &mut L, reads: u32) -> Durat
 fn act<R: Clock + Abort, L: Link + Drop>(rt: &R, mut client: TcpStream, mut link: L, bytes: u32) {
     for _ in 0..bytes {
         client.write_all(b"x").expect(rt, "a connection");
-        assert!(rt; read_two(&mut link) == (Got::Bytes(1), *b"x\x00"));
+        assert_eq!(rt; read_two(&mut link), (Got::Bytes(1), *b"x\x00"));
         thread::sleep(rt, Duration::from_millis(2));
     }
 }
@@ -69,17 +69,17 @@ fn bytes_and_the_end_of_a_joined_connection(rt: HostRuntime) {
     client.write_all(b"abcde").expect(&rt, "a connection");
     thread::sleep(&rt, Duration::from_millis(20));
     assert!(rt; link.write(b"told").is_ok());
-    assert!(rt; read_two(&mut link) == (Got::Bytes(2), *b"ab"));
-    assert!(rt; read_two(&mut link) == (Got::Bytes(2), *b"cd"));
-    assert!(rt; read_two(&mut link) == (Got::Bytes(1), *b"e\x00"));
-    assert!(rt; read_two(&mut link) == (Got::Idle, [0, 0]));
+    assert_eq!(rt; read_two(&mut link), (Got::Bytes(2), *b"ab"));
+    assert_eq!(rt; read_two(&mut link), (Got::Bytes(2), *b"cd"));
+    assert_eq!(rt; read_two(&mut link), (Got::Bytes(1), *b"e\x00"));
+    assert_eq!(rt; read_two(&mut link), (Got::Idle, [0, 0]));
     client.write_all(b"fg").expect(&rt, "a connection");
     thread::sleep(&rt, Duration::from_millis(20));
-    assert!(rt; read_two(&mut link) == (Got::Bytes(2), *b"fg"));
-    assert!(rt; read_two(&mut link) == (Got::Idle, [0, 0]));
+    assert_eq!(rt; read_two(&mut link), (Got::Bytes(2), *b"fg"));
+    assert_eq!(rt; read_two(&mut link), (Got::Idle, [0, 0]));
     client.shutdown(Shutdown::Write).expect(&rt, "a connection");
     thread::sleep(&rt, Duration::from_millis(20));
-    assert!(rt; read_two(&mut link) == (Got::End, [0, 0]));
+    assert_eq!(rt; read_two(&mut link), (Got::End, [0, 0]));
     link.leave();
 }
 

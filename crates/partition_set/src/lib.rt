@@ -2,7 +2,7 @@
 //!
 //! A [`Manifest`] is seen as a list of records, which stand in a journal of their own, file 0 of the disk: a
 //! [`ManifestRecord::Shape`] for each table of the schema, ascending by name, and then a [`ManifestRecord::Opened`] for each
-//! date, ascending. A record is in the file whole or not at all, whenever the machine stops.
+//! date, ascending. A record is in the file whole or not at all, whenever the machine crashes.
 //!
 //! - [`Manifest::make`] begins a manifest with a schema's tables, and [`Manifest::load`] reads one, or says at which offset
 //!   it is damaged ([`ManifestRefusal`]).
@@ -24,7 +24,6 @@
 //! [`manifest_is_not_damaged`] says that no file is both a manifest and damaged. The crate knows nothing of logs or of dates that are saved.
 #![tactic(auto)]
 
-mod copies;
 mod encoding;
 mod laws;
 mod manifest;

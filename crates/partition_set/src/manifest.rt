@@ -11,7 +11,6 @@ ghost use Rattle.partition_set.specs.Manifest.{Keeps, IfBad, IsDamaged, Counts};
 ghost use Rattle.partition_set.specs.declared.record.ManifestRecord.TheVariants as m;
 ghost use Rattle.gated_journal.specs.declared.state.State.TheVariants as s;
 
-use crate::copies::copied;
 use crate::encoding::{OPENED_BYTES, is_opening, payload_of_opened, payload_of_shape};
 use crate::order::may_come;
 use crate::reading::read_records;
@@ -251,7 +250,7 @@ impl Manifest {
         let bytes = payload_of_shape(alloc, shape)?;
         let mut payload = Payload::with_room(alloc, bytes.len() as u32)?;
         payload.fill(&bytes);
-        let record = ManifestRecord::Shape(copied(alloc, shape)?);
+        let record = ManifestRecord::Shape(shape.copied(alloc)?);
         self.reserve()?;
         self.journal.append(disk, &payload)?;
         self.records.push_reserved(record);

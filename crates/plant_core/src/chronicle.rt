@@ -2,7 +2,6 @@
 ghost use Rattle.std.specs.Prelude.{◌≡◌, ◌<◌, ◌≤◌, ◌+◌, ◌^◌, All, IfOk, IfSome, IfNone};
 ghost use Rattle.plant_memory.specs.Chronicle.{by_of, top_by};
 
-use crate::copies::copied_schema;
 use crate::plant::Plant;
 use day_rows::{Entry, Schema};
 use outside_api::Disk;
@@ -67,7 +66,7 @@ impl<D: Disk> Plant<D> {
     pub fn shared_schema(&self, alloc: Global) -> Result<Arc<Schema>, NoMemory>
         ensures { IfOk result (λ schema. schema.value ≡ self.now.memory.frame.schema) }
     {
-        let schema = copied_schema(alloc, self.memory.schema())?;
+        let schema = self.memory.schema().copied(alloc)?;
         Ok(Arc::new(alloc, schema)?)
     }
 }

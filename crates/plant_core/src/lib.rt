@@ -31,7 +31,6 @@
 mod access;
 mod chronicle;
 mod commits;
-mod copies;
 mod load;
 mod plant;
 mod solo;

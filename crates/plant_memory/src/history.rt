@@ -502,7 +502,8 @@ impl History {
             skip = 0;
         }
         self.add_today(alloc, skip, &mut entries)?;
-        Ok(Entries::from_vec(entries))
+        let found = Entries::from_vec(alloc, entries)?;
+        Ok(found)
     }
 
     /// The date that was open before the entry with the index `from`, in days since 2000.01.01.

@@ -262,5 +262,5 @@ pub fn spread_all(
     for item in others {
         columns.push(spread(alloc, item, n)?)?;
     }
-    Ok(Columns::from_vec(columns))
+    Columns::from_vec(alloc, columns)
 }

@@ -39,7 +39,7 @@ fn two_rows(rt: &impl Abort, alloc: Global) -> Columns {
     columns
         .push(longs(rt, alloc, LongKind::Long, &[1, 2]))
         .expect(rt, "memory");
-    Columns::from_vec(columns)
+    Columns::from_vec(alloc, columns).expect(rt, "memory")
 }
 
 fn rows_of(columns: &Columns) -> u64

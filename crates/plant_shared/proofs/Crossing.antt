@@ -84,10 +84,10 @@ Store-sync : IsSync Store.the_row
 Store-sync = let a = Blocks-sync in let b = Block-sync in search (sendable, crosses) depth 60 fits 20000
 
 Updates-send : IsSend Updates.the_row
-Updates-send = let a = Store-send in search (sendable, crosses) depth 60 fits 20000
+Updates-send = let a = Store-send in search (sendable, crosses) depth 120 fits 20000
 
 Updates-sync : IsSync Updates.the_row
-Updates-sync = let a = Store-sync in search (sendable, crosses) depth 60 fits 20000
+Updates-sync = let a = Store-sync in search (sendable, crosses) depth 120 fits 20000
 
 OpenDay-send : IsSend OpenDay.the_row
 OpenDay-send = let a = Updates-send in search (sendable, crosses) depth 60 fits 20000

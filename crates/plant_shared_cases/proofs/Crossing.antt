@@ -6,7 +6,7 @@ use Rattle.std.proofs.MapsCrossing.{BTreeMap-send}
 use Rattle.outside_mem.specs.contracts.calling.Calling as Calling
 use Rattle.outside_mem.specs.contracts.files.Files as Files
 use Rattle.outside_mem.specs.contracts.files.Numbered as Numbered
-use Rattle.outside_mem.specs.contracts.history.History as History
+use Rattle.ghost_history.specs.contracts.history.History as History
 use Rattle.outside_mem.specs.contracts.mem_disk.MemDisk as MemDisk
 use Rattle.outside_mem.specs.contracts.mem_file.MemFile as MemFile
 use Rattle.outside_mem.specs.contracts.tape.Tape as Tape

@@ -9,6 +9,9 @@
 //! read        snapshots until the feeds have ended, each of which has to hold what the one before it held
 //! ```
 //!
+//! No order between the threads is assumed: a test says what holds in each. Sessions on threads, whose bytes are compared, are in
+//! `shared_sessions_cases`.
+//!
 //! The tests are in a crate of their own since a crate with tests is proved twice, with and without them. Nothing else is in
 //! this crate.
 #![tactic(auto)]

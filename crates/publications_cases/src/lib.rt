@@ -9,6 +9,9 @@
 //! 01 00 00 00 1b 00 00 00 00 00 02 00 00 00 f5 2e 75 2e 65 6e 64 00 f2 3f 22 00 00    .u.end of 2024.01.02
 //! ```
 //!
+//! No session runs here. Which rows a subscription is told is tested in `pubsub_cases`.
+//!
+//!
 //! They are a crate of their own, since a crate with tests in it is proved twice.
 #![tactic(auto)]
 

@@ -37,7 +37,7 @@ pub fn messages_of(
     } else {
         tell_each(alloc, schema, subscription, date, entries)?
     };
-    Ok(TapMessages::from_vec(found))
+    TapMessages::from_vec(alloc, found)
 }
 
 /// The messages that a subscription is owed for the entries of a tail, in order: of each update the rows that the filter of

@@ -11,6 +11,8 @@
 //!
 //! `sizes` has spans of 100,000 rows, of which it reads the numbers of rows and some prices.
 //!
+//! The bytes of these messages are tested in `publications_cases`.
+//!
 //! The crate has tests only. They are not in `pubsub` itself because a crate with tests in it is proved twice.
 #![tactic(auto)]
 

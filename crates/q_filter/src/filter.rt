@@ -1,4 +1,4 @@
-//! The places at which booleans hold, and how many they are.
+//! The indices at which booleans hold, and how many they are.
 ghost use Rattle.std.specs.Prelude.{◌≡◌, ◌<◌, ◌≤◌, List, if◌then◌else◌, length, All, IfOk};
 ghost use Rattle.q_values.specs.Lists.{gathered};
 ghost use Rattle.q_values.specs.declared.atom.Atom.{Atom};

@@ -10,6 +10,8 @@
 //! aggregate_of(alloc, Verb1::Max, Verb::Sub, &left, &right)        // max 9 4 0N 7 - 4  is  5
 //! ```
 //!
+//! Nulls and sums that don't fit go as in the two verbs, since the result is theirs.
+//!
 //! The loop reads each item once, as the verb and the aggregate alone would, and writes nothing, so over millions of rows it
 //! takes the time of `max` of the column alone. This crate knows no other combination of verbs, and nothing of queries.
 #![tactic(auto)]

@@ -31,4 +31,5 @@ mod steps;
 mod totals;
 
 pub use aggregation::{aggregate_by, aggregate_side_by};
+pub use rows::column_at;
 pub use totals::count_by;

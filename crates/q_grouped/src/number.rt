@@ -1,8 +1,8 @@
 //! Numbers of each width, and the null of the width.
 ghost use Rattle.std.specs.Prelude.{◌≡◌, ℤ, Bool, IsTrue, Option, Some, is_some};
-ghost use Rattle.std.specs.Int.{w16, w32, w64};
-ghost use Rattle.q_verbs.specs.Numbers.{number_in, numeric, worth_cmp};
+ghost use Rattle.q_verbs.specs.Numbers.{numeric, worth_cmp};
 
+use q_lanes::Ordered;
 use std::cmp::Ordering;
 
 /// A number of some width, or the null of that width.
@@ -87,7 +87,7 @@ impl Number for i16 {
     }
 
     fn order(&self, other: &i16) -> Ordering {
-        order_in_16(self, other)
+        Ordered::order(self, other)
     }
 }
 
@@ -111,7 +111,7 @@ impl Number for i32 {
     }
 
     fn order(&self, other: &i32) -> Ordering {
-        order_in_32(self, other)
+        Ordered::order(self, other)
     }
 }
 
@@ -135,30 +135,6 @@ impl Number for i64 {
     }
 
     fn order(&self, other: &i64) -> Ordering {
-        order_in_64(self, other)
+        Ordered::order(self, other)
     }
-}
-
-fn order_in_16(x: &i16, y: &i16) -> Ordering
-    ensures { result ≡ worth_cmp (numeric (number_in w16 x.now)) (numeric (number_in w16 y.now)) }
-{
-    let left = *x;
-    let right = *y;
-    left.cmp(&right)
-}
-
-fn order_in_32(x: &i32, y: &i32) -> Ordering
-    ensures { result ≡ worth_cmp (numeric (number_in w32 x.now)) (numeric (number_in w32 y.now)) }
-{
-    let first = *x;
-    let second = *y;
-    first.cmp(&second)
-}
-
-fn order_in_64(x: &i64, y: &i64) -> Ordering
-    ensures { result ≡ worth_cmp (numeric (number_in w64 x.now)) (numeric (number_in w64 y.now)) }
-{
-    let some = *x;
-    let other = *y;
-    some.cmp(&other)
 }

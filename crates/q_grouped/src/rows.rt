@@ -90,8 +90,8 @@ fn null_byte(kind: ByteKind) -> u8
     }
 }
 
-// The atoms at these rows; the null for no row.
-fn column_at(alloc: Global, column: &Column, rows: &[Option<usize>]) -> Result<Column, NoMemory>
+/// The atoms of a column at these rows, and the null of its kind for no row.
+pub fn column_at(alloc: Global, column: &Column, rows: &[Option<usize>]) -> Result<Column, NoMemory>
     ensures kind { IfOk result (λ c. (contents c).kind ≡ (contents column.now).kind) }
     ensures atoms { IfOk result (λ c. (contents c).atoms
         ≡ map (item_or (null_of (contents column.now).kind) (contents column.now).atoms) rows.now) }

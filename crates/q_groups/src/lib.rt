@@ -28,4 +28,6 @@ mod number;
 mod sorted;
 mod word;
 
+pub use counting::add_up;
 pub use groups::Groups;
+pub use sorted::ranks_of;

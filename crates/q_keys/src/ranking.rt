@@ -1,10 +1,9 @@
 //! The items of a column ranked: the numbers of their groups in ascending order.
-ghost use Rattle.std.specs.Prelude.{◌≡◌, ℕ, ◌<◌, ◌≤◌, length, map, All, IfOk, IsPermutation, slice_index};
-ghost use Rattle.std.specs.List.{range_with_len};
+ghost use Rattle.std.specs.Prelude.{◌≡◌, ◌<◌, length, map, All, IfOk, slice_index};
 ghost use Rattle.q_values.specs.Order.{atom_cmp};
 ghost use Rattle.q_keys.specs.Ranking.{IsRanking};
 
-use q_groups::Groups;
+use q_groups::{Groups, ranks_of};
 use q_values::{NoMemory, Vector};
 use std::alloc::Global;
 
@@ -13,21 +12,6 @@ use std::alloc::Global;
 pub(crate) struct Ranking {
     pub ranks: Vec<u32>,
     pub firsts: Vec<u32>,
-}
-
-// Each index's place among the sorted ones.
-fn places_in(alloc: Global, sorted: &[u32]) -> Result<Vec<u32>, NoMemory>
-    requires few { length sorted.now ≤ 4294967295 }
-    requires permutation { IsPermutation (range_with_len 0 (length sorted.now)) sorted.now }
-    ensures len { IfOk result (λ places. length places.items ≡ length sorted.now) }
-    ensures within { IfOk result (λ places. All (λ r. r < length sorted.now) places.items) }
-    ensures places { IfOk result (λ places. (k : ℕ) → k < length sorted.now → slice_index places.items (slice_index sorted.now k) ≡ k) }
-{
-    let mut places = vec![in alloc; 0u32; sorted.len()]?;
-    for (place, index) in sorted.iter().enumerate() {
-        places[*index as usize] = place as u32;
-    }
-    Ok(places)
 }
 
 /// The items at these indices.
@@ -60,7 +44,7 @@ pub(crate) fn ranked(alloc: Global, column: &Vector) -> Result<Ranking, NoMemory
     ensures { IfOk result (λ r. IsRanking atom_cmp column.now.atoms r.ranks.items r.firsts.items) }
 {
     let groups = Groups::of(alloc, column)?;
-    let places = places_in(alloc, groups.sorted())?;
+    let places = ranks_of(alloc, groups.sorted())?;
     let firsts = picked(alloc, groups.firsts(), groups.sorted())?;
     let ranks = replaced(&places, groups.into_codes());
     Ok(Ranking { ranks, firsts })

@@ -6,7 +6,7 @@ ghost use Rattle.q_values.specs.Lists.{gathered};
 ghost use Rattle.q_verbs.specs.Lists.{distinct, same_atom};
 
 use q_lanes::texts_of;
-use q_values::{Arena, Column, Form, NoMemory, Symbols, Vector};
+use q_values::{Column, Form, NoMemory, Symbols, Vector};
 use std::alloc::{AllocError, Global};
 use std::collections::HashSet;
 use std::hash::Hash;
@@ -33,8 +33,7 @@ fn first_places_of_symbols(alloc: Global, symbols: &Symbols) -> Result<Vec<usize
     match symbols.form() {
         Form::Short(items) => first_places(alloc, items),
         Form::Long(arena) => {
-            let symbols: &Arena = arena;
-            let texts = texts_of(alloc, symbols)?;
+            let texts = texts_of(alloc, arena)?;
             first_places(alloc, &texts)
         }
     }

@@ -10,6 +10,7 @@ use crate::sequence::Sequence;
 use crate::sym::Sym;
 use crate::vector::Vector;
 use std::alloc::Global;
+use std::mem::size_of;
 use std::slice::Iter;
 
 /// The bytes of a text.
@@ -82,6 +83,9 @@ pub enum Value {
     /// An error, with its text.
     Wrong(Text),
 }
+
+// What a list takes for each item, beside what the item keeps elsewhere.
+const _: () = prove!(size_of::<Value>() == 40);
 
 impl Values {
     ghost use Rattle.q_values.specs.Tree.{tree, trees};

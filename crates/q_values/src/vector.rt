@@ -184,7 +184,7 @@ impl Vector {
     pub fn order(&self, alloc: Global) -> Result<Places, NoMemory>
         ensures { IfOk result (λ places. IsOrder atom_cmp self.now.atoms places) }
     {
-        Ok(Places::from_vec(self.column.order(alloc)?))
+        Places::from_vec(alloc, self.column.order(alloc)?)
     }
 
     /// A vector over this storage, which is not copied.

@@ -76,6 +76,36 @@ fn parts_between_forms(rt: HostRuntime) {
     assert_texts(&rt, &some, false, &texts);
 }
 
+#[test]
+fn parts_after_none(rt: HostRuntime) {
+    let alloc = rt.alloc();
+    let mut some = Symbols::new(alloc);
+    assert_texts(&rt, &some, true, &[]);
+    append_two(&rt, &mut some, &symbols(&rt, alloc, &SHORT));
+    assert_texts(&rt, &some, true, &[b"", b"\xff\x80"]);
+    let mut other = Symbols::new(alloc);
+    append_two(&rt, &mut other, &symbols(&rt, alloc, &LONG));
+    assert_texts(&rt, &other, false, &[b"ninebytes", b"\xffinebytes"]);
+    let mut room = Symbols::new(alloc);
+    room.reserve(2).expect(&rt, "memory");
+    push(&rt, &mut room, alloc, b"a");
+    assert_texts(&rt, &room, true, &[b"a"]);
+}
+
+#[test]
+fn symbols_of_short_ones(rt: HostRuntime) {
+    let alloc = rt.alloc();
+    let short = [
+        ShortSymbol::before_nul(b"eightbyt"),
+        ShortSymbol::before_nul(b"a\0\0\0\0\0\0\0"),
+    ];
+    let items = Vec::from_slice(alloc, &short).expect(&rt, "memory");
+    let some = Symbols::from_short(alloc, items).expect(&rt, "memory");
+    assert_texts(&rt, &some, true, &[b"eightbyt", b"a"]);
+    let none = Symbols::from_short(alloc, Vec::new(alloc)).expect(&rt, "memory");
+    assert_texts(&rt, &none, true, &[]);
+}
+
 /// The bytes before a 0 are a symbol, and eight bytes without one.
 #[test]
 fn eight_bytes_are_read(rt: HostRuntime) {

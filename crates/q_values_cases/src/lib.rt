@@ -12,9 +12,12 @@
 //! type_numbers                each kind's type number, and none of the numbers between
 //! lists_of_values             lists of values
 //! lists_of_numbers            lists of numbers
+//! lists_of_a_vector           lists made of a vector, and back
 //! atoms_of_a_vector           the atom at an index, and after the last
 //! eight_bytes_are_short       symbols of up to eight bytes, and the push of a longer one
 //! parts_between_forms         append_part and gather of symbols of at most eight bytes and of longer ones
+//! parts_after_none            append_part and reserve where there are no symbols yet
+//! symbols_of_short_ones       symbols made of a vector of short ones
 //! eight_bytes_are_read        symbols read from eight bytes
 //! many_long_symbols           100,000 symbols of 5 to 20 bytes: push, order and gather
 //! ```

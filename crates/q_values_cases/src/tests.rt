@@ -270,6 +270,18 @@ fn lists_of_numbers(rt: HostRuntime) {
 }
 
 #[test]
+fn lists_of_a_vector(rt: HostRuntime) {
+    let alloc = rt.alloc();
+    let items = Vec::from_slice(alloc, &[4u32, 7]).expect(&rt, "memory");
+    let mut numbers = Sequence::from_vec(alloc, items).expect(&rt, "memory");
+    numbers.push(1).expect(&rt, "memory");
+    assert_eq!(&rt; numbers.into_vec().as_slice(), [4, 7, 1].as_slice());
+    let none: Sequence<u32> = Sequence::from_vec(alloc, Vec::new(alloc)).expect(&rt, "memory");
+    assert!(&rt; none.is_empty());
+    assert_eq!(&rt; none.into_vec().len(), 0);
+}
+
+#[test]
 fn atoms_of_a_vector(rt: HostRuntime) {
     let alloc = rt.alloc();
     let sizes = longs(&rt, alloc, LongKind::Long, &[3]);

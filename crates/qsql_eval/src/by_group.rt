@@ -61,7 +61,7 @@ fn key_table(alloc: Global, by: &[Col], grouping: &Grouping) -> Result<TableValu
 {
     let names = names_of(alloc, by)?;
     let keys = grouping.keys(alloc)?;
-    let columns = Columns::from_vec(keys);
+    let columns = Columns::from_vec(alloc, keys)?;
     Ok(TableValue { names, columns })
 }
 

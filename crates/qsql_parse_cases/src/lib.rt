@@ -9,6 +9,8 @@
 //! b"select size -1 from trade"                       b"parse 12"
 //! ```
 //!
+//! What a request gives over rows is tested in `qsql_eval_cases` and `gateway_cases`.
+//!
 //! The crate has tests only. They are not in `qsql_parse` itself because a crate with tests in it is proved twice. The laws
 //! of the grammar need no tests: they are contracts, in `qsql_parse::laws`.
 #![tactic(auto)]

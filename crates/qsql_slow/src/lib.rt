@@ -10,6 +10,8 @@
 //!           j:-70;j[0 0 5]    by both
 //! ```
 //!
+//! Where the two differ the test names the seed, from which the text can be made again.
+//!
 //! The crate has tests only. It generates no text that is refused for its type or its form, and no `aj`.
 #![tactic(auto)]
 

@@ -114,7 +114,7 @@ pub content_performs : {A L C G N : Type 0} (access : A → AccessView) (link : 
     → Does Done (clock s.clock.now) (clock m.clock.now) (access s.access.now) (access m.access.now) answer
     → Tells (notes m.recorder.now) (notes z.recorder.now) (turns_by answer.roll answer.turn)
     → Finishes (link m.link.now) (link z.link.now) (sent_by answer.reply) end
-    → ((deed : Deed) → Done deed → Serves (access s.access.now).frame (access s.access.now).by (access m.access.now).seen (state_of access s) z.subscriber.now message deed)
+    → ((deed : Deed) → Done deed → Serves (access s.access.now).frame (access s.access.now).by (access m.access.now).seen (state_of access s) z.client.now.subscriber message deed)
     → heard_of (message ∷ []) ≡ message ∷ []
     → IsDue (state_of access s) (served_of access z) message
     → ServesHeard message (world_of access link clock notes s) (world_of access link clock notes z) (state_of access s) (served_of access z) end
@@ -125,7 +125,7 @@ content_performs access link clock notes s m z message Done answer end asks keep
     (ap clock still ∙ does.clock)
     (subst (λ r. Tells (notes r) (notes z.recorder.now) (turns_by answer.roll answer.turn)) asks.recorder noted)
     (subst (λ v. Advances (access s.access.now) (access v) (turns_by answer.roll answer.turn) does.made does.asked does.ticked) (sym same) does.access)
-    (subst (λ v. Serves (access s.access.now).frame (access s.access.now).by (access v).seen (state_of access s) z.subscriber.now message deed) (sym same) (serves deed does.done))
+    (subst (λ v. Serves (access s.access.now).frame (access s.access.now).by (access v).seen (state_of access s) z.client.now.subscriber message deed) (sym same) (serves deed does.done))
     due
     (subst (λ r. Finishes (link r) (link z.link.now) (sent_by answer.reply) end) asks.link sent)
     is)
@@ -142,5 +142,5 @@ pub value_performs : {A L C G N : Type 0} (access : A → AccessView) (link : L 
 value_performs access link clock notes s m z sync value request answer end is asks keeps same still does noted sent =
     content_performs access link clock notes s m z (asked (record { sync = sync; content = built value }))
     (ServesValue (access s.access.now).frame (access s.access.now).by (access m.access.now).seen sync request) answer end asks keeps same still does noted sent
-    (λ deed done. value_serves (access s.access.now).frame (access s.access.now).by (access m.access.now).seen s.subscriber.now z.subscriber.now sync value request deed is (keeps.subscriber ∙ asks.unheard.subscriber) done)
+    (λ deed done. value_serves (access s.access.now).frame (access s.access.now).by (access m.access.now).seen s.client.now.subscriber z.client.now.subscriber sync value request deed is (keeps.subscriber ∙ asks.unheard.subscriber) done)
     refl (refl, refl)

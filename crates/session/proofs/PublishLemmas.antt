@@ -48,7 +48,7 @@ none_more xs (y ∷ ys) le = absurd (omega (arith, le, length-append xs (y ∷ y
 
 -- nothing is owed where there is no subscriber
 pub publishes_none : {A L C G N : Type 0} (access : A → AccessView) (link : L → LinkView) (clock : C → Option (List ℤ)) (notes : N → Option (List Turn)) (s : Session A L C G N)
-    → s.subscriber.now ≡ None
+    → s.client.now.subscriber ≡ None
     → Performs [] (world_of access link clock notes s) (world_of access link clock notes s) (served_of access s) (state_of access s) None
 publishes_none access link clock notes s none = record {
   after = served_of access s;
@@ -56,14 +56,14 @@ publishes_none access link clock notes s none = record {
   works = works-none _ _ _ _ (access s.access.now) (served_of access s);
   link = sym (ap (λ k. record (link s.link.now) { taken = k }) (told-nil (link s.link.now).taken));
   events = refl;
-  goes_on = λ _. ap (λ d. record { known = length (access s.access.now).seen; subscriber = s.subscriber.now; due = d }) (ap (λ x. is_owed x (length (access s.access.now).seen)) none);
+  goes_on = λ _. ap (λ d. record { known = length (access s.access.now).seen; subscriber = s.client.now.subscriber; due = d }) (ap (λ x. is_owed x (length (access s.access.now).seen)) none);
 }
 
 -- nothing is owed where all was told
 pub publishes_nothing : {A L C G N : Type 0} (access : A → AccessView) (link : L → LinkView) (clock : C → Option (List ℤ)) (notes : N → Option (List Turn)) (s m : Session A L C G N) (of : Subscriber) (to : ℕ)
     → OnlyAsks s m → m.clock.now ≡ s.clock.now → Sees (access s.access.now) (access m.access.now)
-    → s.subscriber.now ≡ Some of → FitsPlant (access s.access.now).frame (length (access s.access.now).seen) s.subscriber.now
-    → to ≡ length (access m.access.now).seen → IsPaid s.subscriber.now to
+    → s.client.now.subscriber ≡ Some of → FitsPlant (access s.access.now).frame (length (access s.access.now).seen) s.client.now.subscriber
+    → to ≡ length (access m.access.now).seen → IsPaid s.client.now.subscriber to
     → Performs [] (world_of access link clock notes s) (world_of access link clock notes m) (served_of access s) (state_of access m) None
 publishes_nothing access link clock notes s m of to asks still l some fits is paid =
     let a = access s.access.now in
@@ -74,7 +74,7 @@ publishes_nothing access link clock notes s m of to asks still l some fits is pa
     let nothing : l.others ≡ [] = none_more a.seen l.others (omega (arith, told, within, is, ap length seen)) in
     let same : b ≡ a = l.after ∙ ap (λ o. record a { seen = o }) (ap (λ o. a.seen ++ o) nothing ∙ append-nil a.seen) in
     let full : of.cursor ≡ length a.seen = told ∙ is ∙ ap (λ (v : AccessView). length v.seen) same in
-    let due : is_owed s.subscriber.now (length a.seen) ≡ false = ap (λ x. is_owed x (length a.seen)) some ∙ ap (λ n. nat_lt n (length a.seen)) full ∙ no_less (length a.seen) in
+    let due : is_owed s.client.now.subscriber (length a.seen) ≡ false = ap (λ x. is_owed x (length a.seen)) some ∙ ap (λ n. nat_lt n (length a.seen)) full ∙ no_less (length a.seen) in
     record {
       after = served_of access s;
       steps = [];
@@ -87,11 +87,11 @@ publishes_nothing access link clock notes s m of to asks still l some fits is pa
 -- what is owed was told, from whichever state
 pub publishes_told : {A L C G N : Type 0} (access : A → AccessView) (link : L → LinkView) (clock : C → Option (List ℤ)) (notes : N → Option (List Turn)) (s m z : Session A L C G N) (x : State) (from to : ℕ) (bytes : List ℕ) (end : Option End)
     → OnlyAsks s m → m.clock.now ≡ s.clock.now → Sees (access s.access.now) (access m.access.now)
-    → OwesMessages (access s.access.now).frame s.subscriber.now (access m.access.now).seen from to bytes
-    → z.access.now ≡ m.access.now → z.clock.now ≡ m.clock.now → z.subscriber.now ≡ sent_up_to to end m.subscriber.now
+    → OwesMessages (access s.access.now).frame s.client.now.subscriber (access m.access.now).seen from to bytes
+    → z.access.now ≡ m.access.now → z.clock.now ≡ m.clock.now → z.client.now.subscriber ≡ sent_up_to to end m.client.now.subscriber
     → Tells (notes m.recorder.now) (notes z.recorder.now) (t.Told from to ∷ [])
     → Finishes (link m.link.now) (link z.link.now) bytes end
-    → x.known ≡ length (access s.access.now).seen → x.subscriber ≡ s.subscriber.now
+    → x.known ≡ length (access s.access.now).seen → x.subscriber ≡ s.client.now.subscriber
     → Performs [] (world_of access link clock notes s) (world_of access link clock notes z) x (state_of access z) end
 publishes_told access link clock notes s m z x from to bytes end asks still l owes same after moved noted sent known of_x =
     let a = access s.access.now in
@@ -99,8 +99,8 @@ publishes_told access link clock notes s m z x from to bytes end asks still l ow
     let of = owes.of in
     let size = reports_all a b l to owes.to_is in
     let moves : Option Subscriber = Some (record of { cursor = to }) in
-    let cursor : end ≡ None → moves ≡ z.subscriber.now =
-    λ none. sym (moved ∙ ap (λ e. sent_up_to to e m.subscriber.now) none ∙ ap (told_up_to to) (asks.unheard.subscriber ∙ owes.is)) in
+    let cursor : end ≡ None → moves ≡ z.client.now.subscriber =
+    λ none. sym (moved ∙ ap (λ e. sent_up_to to e m.client.now.subscriber) none ∙ ap (told_up_to to) (asks.unheard.subscriber ∙ owes.is)) in
     let y : State = record { known = length (access z.access.now).seen; subscriber = moves; due = false } in
     let deed : Deed = record { turns = t.Told from to ∷ []; sent = bytes; readings = []; made = []; snapshots = 0; ticks = 0 } in
     let serves : Publishes a.frame b.seen (Some of) moves deed = inl (record {
@@ -129,8 +129,8 @@ publishes_told access link clock notes s m z x from to bytes end asks still l ow
 -- what is owed wasn't told: the turn was noted, and nothing sent
 noted_alone : {A L C G N : Type 0} (access : A → AccessView) (link : L → LinkView) (clock : C → Option (List ℤ)) (notes : N → Option (List Turn)) (s m z : Session A L C G N) (of : Subscriber) (turn : Turn)
     → OnlyAsks s m → m.clock.now ≡ s.clock.now → (l : Sees (access s.access.now) (access m.access.now))
-    → s.subscriber.now ≡ Some of
-    → z.access.now ≡ m.access.now → z.clock.now ≡ m.clock.now → z.subscriber.now ≡ m.subscriber.now → z.link.now ≡ m.link.now
+    → s.client.now.subscriber ≡ Some of
+    → z.access.now ≡ m.access.now → z.clock.now ≡ m.clock.now → z.client.now.subscriber ≡ m.client.now.subscriber → z.link.now ≡ m.link.now
     → Tells (notes m.recorder.now) (notes z.recorder.now) (turn ∷ [])
     → Idles (length ((access s.access.now).seen ++ l.others)) (turn ∷ [])
     → Publishes (access s.access.now).frame (access m.access.now).seen (Some of) (Some of) (record { turns = turn ∷ []; sent = []; readings = []; made = []; snapshots = 0; ticks = 0 })
@@ -139,21 +139,21 @@ noted_alone access link clock notes s m z of turn asks still l some same after k
     let a = access s.access.now in
     let b = access m.access.now in
     let deed : Deed = record { turns = turn ∷ []; sent = []; readings = []; made = []; snapshots = 0; ticks = 0 } in
-    let own : z.subscriber.now ≡ Some of = kept ∙ asks.unheard.subscriber ∙ some in
+    let own : z.client.now.subscriber ≡ Some of = kept ∙ asks.unheard.subscriber ∙ some in
     performs-one (world_of access link clock notes s) (world_of access link clock notes z) (served_of access s) (state_of access z) published [] deed None
     refl refl
     (ap clock (after ∙ still) ∙ sym (told-nil (clock s.clock.now)))
     (subst (λ r. Tells (notes r) (notes z.recorder.now) (turn ∷ [])) asks.recorder noted)
     (subst (λ v. Advances a (access v) (turn ∷ []) [] 0 0) (sym same) (advances_idle a b l.others (turn ∷ []) 0 0 l.saw (sees_after a b l) idles))
-    (subst (λ v. Publishes a.frame (access v).seen s.subscriber.now z.subscriber.now deed) (sym same) (rw (some, own) serves))
+    (subst (λ v. Publishes a.frame (access v).seen s.client.now.subscriber z.client.now.subscriber deed) (sym same) (rw (some, own) serves))
     refl
     (ap link (unsent ∙ asks.link) ∙ sym (ap (λ k. record (link s.link.now) { taken = k }) (told-nil (link s.link.now).taken)))
     refl
 
 pub publishes_too_long : {A L C G N : Type 0} (access : A → AccessView) (link : L → LinkView) (clock : C → Option (List ℤ)) (notes : N → Option (List Turn)) (s m z : Session A L C G N) (from to : ℕ)
     → OnlyAsks s m → m.clock.now ≡ s.clock.now → Sees (access s.access.now) (access m.access.now)
-    → OwesTooMuch (access s.access.now).frame s.subscriber.now (access m.access.now).seen from to
-    → z.access.now ≡ m.access.now → z.clock.now ≡ m.clock.now → z.subscriber.now ≡ m.subscriber.now → z.link.now ≡ m.link.now
+    → OwesTooMuch (access s.access.now).frame s.client.now.subscriber (access m.access.now).seen from to
+    → z.access.now ≡ m.access.now → z.clock.now ≡ m.clock.now → z.client.now.subscriber ≡ m.client.now.subscriber → z.link.now ≡ m.link.now
     → Tells (notes m.recorder.now) (notes z.recorder.now) (t.TooLong from to ∷ [])
     → Performs [] (world_of access link clock notes s) (world_of access link clock notes z) (served_of access s) (state_of access z) None
 publishes_too_long access link clock notes s m z from to asks still l owes same after kept unsent noted =
@@ -176,8 +176,8 @@ publishes_too_long access link clock notes s m z from to asks still l owes same 
 
 pub publishes_short : {A L C G N : Type 0} (access : A → AccessView) (link : L → LinkView) (clock : C → Option (List ℤ)) (notes : N → Option (List Turn)) (s m z : Session A L C G N) (of : Subscriber)
     → OnlyAsks s m → m.clock.now ≡ s.clock.now → Sees (access s.access.now) (access m.access.now)
-    → s.subscriber.now ≡ Some of
-    → z.access.now ≡ m.access.now → z.clock.now ≡ m.clock.now → z.subscriber.now ≡ m.subscriber.now → z.link.now ≡ m.link.now
+    → s.client.now.subscriber ≡ Some of
+    → z.access.now ≡ m.access.now → z.clock.now ≡ m.clock.now → z.client.now.subscriber ≡ m.client.now.subscriber → z.link.now ≡ m.link.now
     → Tells (notes m.recorder.now) (notes z.recorder.now) (t.Short ∷ [])
     → Performs [] (world_of access link clock notes s) (world_of access link clock notes z) (served_of access s) (state_of access z) None
 publishes_short access link clock notes s m z of asks still l some same after kept unsent noted =

@@ -88,7 +88,7 @@ formless_performs access link clock notes s z limits sync value form answer end 
     let a = access s.access.now in
     content_performs access link clock notes s s z (asked (record { sync = sync; content = built value })) (IsDeclined a.frame sync (codes "type")) answer end none keeps own still
     (does_nothing a (clock s.clock.now) (IsDeclined a.frame sync (codes "type")) answer t.Declined roll turn (tells_declined _) (declined_deed a.frame limits sync answer same roll turn answered))
-    noted sent (λ deed done. formless_serves a.frame a.by a.seen s.subscriber.now z.subscriber.now sync value form deed is unnamed keeps.subscriber done) refl (refl, refl)
+    noted sent (λ deed done. formless_serves a.frame a.by a.seen s.client.now.subscriber z.client.now.subscriber sync value form deed is unnamed keeps.subscriber done) refl (refl, refl)
 
 -- a read timeout was served
 pub idle_performs : {A L C G N : Type 0} (access : A → AccessView) (link : L → LinkView) (clock : C → Option (List ℤ)) (notes : N → Option (List Turn)) (s m : Session A L C G N)

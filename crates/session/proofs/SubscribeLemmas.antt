@@ -76,28 +76,28 @@ kept_performs : {A L C G N : Type 0} (access : A → AccessView) (link : L → L
     (sync : Bool) (value : Tree) (request : SubRequest) (answer : Answer) (end : Option End)
     → IsSubscriptionTo (request_of value) request
     → OnlyAsks s m → KeepsSubscriber m z → z.access.now ≡ m.access.now → z.clock.now ≡ m.clock.now
-    → Does (λ deed. ServesSubscription (access s.access.now).frame (access m.access.now).seen s.subscriber.now s.subscriber.now sync request deed ⊎ IsShort sync deed) (clock s.clock.now) (clock m.clock.now) (access s.access.now) (access m.access.now) answer
+    → Does (λ deed. ServesSubscription (access s.access.now).frame (access m.access.now).seen s.client.now.subscriber s.client.now.subscriber sync request deed ⊎ IsShort sync deed) (clock s.clock.now) (clock m.clock.now) (access s.access.now) (access m.access.now) answer
     → Tells (notes m.recorder.now) (notes z.recorder.now) (turns_by answer.roll answer.turn)
     → Finishes (link m.link.now) (link z.link.now) (sent_by answer.reply) end
     → ServesHeard (asked (record { sync = sync; content = built value })) (world_of access link clock notes s) (world_of access link clock notes z) (state_of access s) (served_of access z) end
 kept_performs access link clock notes s m z sync value request answer end is asks keeps same still does noted sent =
     content_performs access link clock notes s m z (asked (record { sync = sync; content = built value }))
-    (λ deed. ServesSubscription (access s.access.now).frame (access m.access.now).seen s.subscriber.now s.subscriber.now sync request deed ⊎ IsShort sync deed) answer end asks keeps same still does noted sent
+    (λ deed. ServesSubscription (access s.access.now).frame (access m.access.now).seen s.client.now.subscriber s.client.now.subscriber sync request deed ⊎ IsShort sync deed) answer end asks keeps same still does noted sent
     (λ deed done. by_case deed done) refl (refl, refl)
   where
-    kept : z.subscriber.now ≡ s.subscriber.now
+    kept : z.client.now.subscriber ≡ s.client.now.subscriber
     kept = keeps.subscriber ∙ asks.unheard.subscriber
 
-    by_case : (deed : Deed) → ServesSubscription (access s.access.now).frame (access m.access.now).seen s.subscriber.now s.subscriber.now sync request deed ⊎ IsShort sync deed → ServesContent (access s.access.now).frame (access s.access.now).by (access m.access.now).seen s.subscriber.now z.subscriber.now sync (built value) deed
-    by_case deed (inl h) = rw kept (subscription_content (access s.access.now).frame (access s.access.now).by (access m.access.now).seen s.subscriber.now s.subscriber.now sync value request deed is h)
+    by_case : (deed : Deed) → ServesSubscription (access s.access.now).frame (access m.access.now).seen s.client.now.subscriber s.client.now.subscriber sync request deed ⊎ IsShort sync deed → ServesContent (access s.access.now).frame (access s.access.now).by (access m.access.now).seen s.client.now.subscriber z.client.now.subscriber sync (built value) deed
+    by_case deed (inl h) = rw kept (subscription_content (access s.access.now).frame (access s.access.now).by (access m.access.now).seen s.client.now.subscriber s.client.now.subscriber sync value request deed is h)
     by_case deed (inr h) = inr (kept, h)
 
 -- a subscription to a table that isn't there
 pub unknown_performs : {A L C G N : Type 0} (access : A → AccessView) (link : L → LinkView) (clock : C → Option (List ℤ)) (notes : N → Option (List Turn)) (s z : Session A L C G N)
     (limits : Limits) (sync : Bool) (value : Tree) (request : SubRequest) (why : SubRefusal) (answer : Answer) (end : Option End)
     → OnlyAsks s s → IsSubscriptionTo (request_of value) request → (access s.access.now).frame.limits ≡ limits
-    → FitsPlant (access s.access.now).frame (length (access s.access.now).seen) s.subscriber.now
-    → Refuses request (chosen_by (access s.access.now).frame s.subscriber.now).schema why → AnswersUnknown limits sync why answer
+    → FitsPlant (access s.access.now).frame (length (access s.access.now).seen) s.client.now.subscriber
+    → Refuses request (chosen_by (access s.access.now).frame s.client.now.subscriber).schema why → AnswersUnknown limits sync why answer
     → KeepsSubscriber s z → z.access.now ≡ s.access.now → z.clock.now ≡ s.clock.now
     → Tells (notes s.recorder.now) (notes z.recorder.now) (turns_by answer.roll answer.turn)
     → Finishes (link s.link.now) (link z.link.now) (sent_by answer.reply) end
@@ -105,7 +105,7 @@ pub unknown_performs : {A L C G N : Type 0} (access : A → AccessView) (link : 
 unknown_performs access link clock notes s z limits sync value request why answer end none is same fits refuses answers keeps own still noted sent =
     let a = access s.access.now in
     kept_performs access link clock notes s s z sync value request answer end is none keeps own still
-    (does_unknown a (clock s.clock.now) s.subscriber.now limits sync request why answer same (subst (λ schema. Refuses request schema why) (chosen-schema a.frame (length a.seen) s.subscriber.now fits) refuses) answers)
+    (does_unknown a (clock s.clock.now) s.client.now.subscriber limits sync request why answer same (subst (λ schema. Refuses request schema why) (chosen-schema a.frame (length a.seen) s.client.now.subscriber fits) refuses) answers)
     noted sent
 
 -- what is owed before a subscription is too long to be sent
@@ -113,7 +113,7 @@ pub too_much_performs : {A L C G N : Type 0} (access : A → AccessView) (link :
     (limits : Limits) (sync : Bool) (value : Tree) (request : SubRequest) (from to : ℕ) (answer : Answer) (end : Option End)
     → IsSubscriptionTo (request_of value) request → (access s.access.now).frame.limits ≡ limits
     → OnlyAsks s m → m.clock.now ≡ s.clock.now → Sees (access s.access.now) (access m.access.now)
-    → OwesTooMuch (access s.access.now).frame s.subscriber.now (access m.access.now).seen from to
+    → OwesTooMuch (access s.access.now).frame s.client.now.subscriber (access m.access.now).seen from to
     → answer.roll ≡ None → answer.turn ≡ t.TooLong from to → sent_by answer.reply ≡ replied sync (reply limits (wrong (codes "limit")))
     → KeepsSubscriber m z → z.access.now ≡ m.access.now → z.clock.now ≡ m.clock.now
     → Tells (notes m.recorder.now) (notes z.recorder.now) (turns_by answer.roll answer.turn)
@@ -165,13 +165,13 @@ does_short_look a b k k' sync request answer unread l roll turn answered =
 pub subscribed_performs : {A L C G N : Type 0} (access : A → AccessView) (link : L → LinkView) (clock : C → Option (List ℤ)) (notes : N → Option (List Turn)) (s m z : Session A L C G N)
     (limits : Limits) (sync : Bool) (value : Tree) (request : SubRequest) (subscription : Subscribed) (bytes : List ℕ) (to : ℕ) (end : Option End)
     → IsSubscriptionTo (request_of value) request → (access s.access.now).frame.limits ≡ limits
-    → FitsPlant (access s.access.now).frame (length (access s.access.now).seen) s.subscriber.now
+    → FitsPlant (access s.access.now).frame (length (access s.access.now).seen) s.client.now.subscriber
     → m.recorder.now ≡ s.recorder.now → m.link.now ≡ s.link.now → m.clock.now ≡ s.clock.now → Sees (access s.access.now) (access m.access.now)
-    → to ≡ length (access m.access.now).seen → IsPaid s.subscriber.now to
+    → to ≡ length (access m.access.now).seen → IsPaid s.client.now.subscriber to
     → is_known request.tables (table_names (access s.access.now).frame.schema) ≡ true
-    → subscription ≡ after_request request (chosen_by (access s.access.now).frame s.subscriber.now)
+    → subscription ≡ after_request request (chosen_by (access s.access.now).frame s.client.now.subscriber)
     → bytes ≡ replied sync (reply limits (subscription_tree (access s.access.now).frame.schema request.tables))
-    → z.access.now ≡ m.access.now → z.clock.now ≡ m.clock.now → z.subscriber.now ≡ Some (record { subscription = subscription; cursor = to })
+    → z.access.now ≡ m.access.now → z.clock.now ≡ m.clock.now → z.client.now.subscriber ≡ Some (record { subscription = subscription; cursor = to })
     → Tells (notes m.recorder.now) (notes z.recorder.now) (t.Subscribed to ∷ [])
     → Finishes (link m.link.now) (link z.link.now) bytes end
     → Performs (asked (record { sync = sync; content = built value }) ∷ []) (world_of access link clock notes s) (world_of access link clock notes z) (state_of access s) (served_of access z) end
@@ -180,7 +180,7 @@ subscribed_performs access link clock notes s m z limits sync value request subs
     let b = access m.access.now in
     let size = reports_all a b l to to_is in
     let deed : Deed = record { turns = t.Subscribed to ∷ []; sent = bytes; readings = []; made = []; snapshots = 0; ticks = 0 } in
-    let serves : ServesSubscription a.frame b.seen s.subscriber.now z.subscriber.now sync request deed = inl (record {
+    let serves : ServesSubscription a.frame b.seen s.client.now.subscriber z.client.now.subscriber sync request deed = inl (record {
       count = to;
       front = b.seen;
       is_front = record { count = to_is; more = []; whole = sym (append-nil b.seen) };
@@ -196,7 +196,7 @@ subscribed_performs access link clock notes s m z limits sync value request subs
     (ap clock (still ∙ unread) ∙ sym (told-nil (clock s.clock.now)))
     (subst (λ r. Tells (notes r) (notes z.recorder.now) (t.Subscribed to ∷ [])) recorder noted)
     (subst (λ v. Advances a (access v) (t.Subscribed to ∷ []) [] 0 0) (sym own) (whole_turn a b l (t.Subscribed to) to to_is (record { each = (size, tt); last = sym size })))
-    (subst (λ v. ServesContent a.frame a.by (access v).seen s.subscriber.now z.subscriber.now sync (built value) deed) (sym own) (subscription_content a.frame a.by b.seen s.subscriber.now z.subscriber.now sync value request deed is serves))
+    (subst (λ v. ServesContent a.frame a.by (access v).seen s.client.now.subscriber z.client.now.subscriber sync (built value) deed) (sym own) (subscription_content a.frame a.by b.seen s.client.now.subscriber z.client.now.subscriber sync value request deed is serves))
     (refl, refl)
     (subst (λ r. Finishes (link r) (link z.link.now) bytes end) unsent sent)
     refl
@@ -208,16 +208,16 @@ sees-none a = record { others = []; saw = record { alone = λ _. refl }; after =
 pub told_subscribed : {A L C G N : Type 0} (access : A → AccessView) (link : L → LinkView) (clock : C → Option (List ℤ)) (notes : N → Option (List Turn)) (s m w z : Session A L C G N)
     (limits : Limits) (sync : Bool) (value : Tree) (request : SubRequest) (subscription : Subscribed) (bytes messages : List ℕ) (from to : ℕ) (end : Option End)
     → IsSubscriptionTo (request_of value) request → (access s.access.now).frame.limits ≡ limits
-    → FitsPlant (access s.access.now).frame (length (access s.access.now).seen) s.subscriber.now
+    → FitsPlant (access s.access.now).frame (length (access s.access.now).seen) s.client.now.subscriber
     → OnlyAsks s m → m.clock.now ≡ s.clock.now → Sees (access s.access.now) (access m.access.now)
-    → OwesMessages (access s.access.now).frame s.subscriber.now (access m.access.now).seen from to messages
-    → w.access.now ≡ m.access.now → w.clock.now ≡ m.clock.now → w.subscriber.now ≡ told_up_to to m.subscriber.now
+    → OwesMessages (access s.access.now).frame s.client.now.subscriber (access m.access.now).seen from to messages
+    → w.access.now ≡ m.access.now → w.clock.now ≡ m.clock.now → w.client.now.subscriber ≡ told_up_to to m.client.now.subscriber
     → Tells (notes m.recorder.now) (notes w.recorder.now) (t.Told from to ∷ [])
     → Finishes (link m.link.now) (link w.link.now) messages None
     → is_known request.tables (table_names (access s.access.now).frame.schema) ≡ true
-    → subscription ≡ after_request request (chosen_by (access s.access.now).frame s.subscriber.now)
+    → subscription ≡ after_request request (chosen_by (access s.access.now).frame s.client.now.subscriber)
     → bytes ≡ replied sync (reply limits (subscription_tree (access s.access.now).frame.schema request.tables))
-    → z.access.now ≡ w.access.now → z.clock.now ≡ w.clock.now → z.subscriber.now ≡ Some (record { subscription = subscription; cursor = to })
+    → z.access.now ≡ w.access.now → z.clock.now ≡ w.clock.now → z.client.now.subscriber ≡ Some (record { subscription = subscription; cursor = to })
     → Tells (notes w.recorder.now) (notes z.recorder.now) (t.Subscribed to ∷ [])
     → Finishes (link w.link.now) (link z.link.now) bytes end
     → ServesHeard (asked (record { sync = sync; content = built value })) (world_of access link clock notes s) (world_of access link clock notes z) (state_of access s) (served_of access z) end
@@ -226,9 +226,9 @@ told_subscribed access link clock notes s m w z limits sync value request subscr
     let p : Performs [] (world_of access link clock notes s) (world_of access link clock notes w) (state_of access s) (state_of access w) None =
     publishes_told access link clock notes s m w (state_of access s) from to messages None asks unread l owes reached unheard moved told sent refl refl in
     let frame_is : (access w.access.now).frame ≡ a.frame = performed-frame [] _ _ _ _ None p in
-    let holder : w.subscriber.now ≡ Some (record owes.of { cursor = to }) = moved ∙ ap (told_up_to to) (asks.unheard.subscriber ∙ owes.is) in
-    let one : chosen_by (access w.access.now).frame w.subscriber.now ≡ chosen_by a.frame s.subscriber.now = rw (holder, owes.is) refl in
-    let paid : IsPaid w.subscriber.now to = rw holder refl in
+    let holder : w.client.now.subscriber ≡ Some (record owes.of { cursor = to }) = moved ∙ ap (told_up_to to) (asks.unheard.subscriber ∙ owes.is) in
+    let one : chosen_by (access w.access.now).frame w.client.now.subscriber ≡ chosen_by a.frame s.client.now.subscriber = rw (holder, owes.is) refl in
+    let paid : IsPaid w.client.now.subscriber to = rw holder refl in
     let to_is : to ≡ length (access w.access.now).seen = owes.to_is ∙ ap (λ v. length (access v).seen) (sym reached) in
     inl (performs-append _ (world_of access link clock notes w) _ _ (state_of access w) _ [] (asked (record { sync = sync; content = built value }) ∷ []) end p
     (subscribed_performs access link clock notes w w z limits sync value request subscription bytes to end is (ap (λ (f : Frame). f.limits) frame_is ∙ same) (performed-fits [] _ _ _ _ p fits) refl refl refl (sees-none (access w.access.now)) to_is paid

@@ -19,14 +19,14 @@ world_of access link clock notes s = world (link s.link.now) (clock s.clock.now)
 
 -- what a session knows between two events, by what its access shows
 abbrev pub state_of : {A L C G N : Type 0} → (A → AccessView) → Session A L C G N → State
-state_of access s = record { known = length (access s.access.now).seen; subscriber = s.subscriber.now; due = false }
+state_of access s = record { known = length (access s.access.now).seen; subscriber = s.client.now.subscriber; due = false }
 
 -- the same when an event was served, and publications haven't been looked for
 abbrev pub served_of : {A L C G N : Type 0} → (A → AccessView) → Session A L C G N → State
 served_of access s = record {
   known = length (access s.access.now).seen;
-  subscriber = s.subscriber.now;
-  due = is_owed s.subscriber.now (length (access s.access.now).seen);
+  subscriber = s.client.now.subscriber;
+  due = is_owed s.client.now.subscriber (length (access s.access.now).seen);
 }
 
 -- the session still has its devices and its limits
@@ -40,13 +40,13 @@ pub record HasSameDevices {A L C G N : Type 0} (old new : Session A L C G N) : T
 -- nothing was read from the link, and no read timed out
 pub record HearsNothing {A L C G N : Type 0} (old new : Session A L C G N) : Type 0 where
   pub devices : HasSameDevices old new
-  pub reader : new.reader.now ≡ old.reader.now
+  pub reader : new.client.now.reader ≡ old.client.now.reader
   pub idles_left : new.idles_left ≡ old.idles_left
 
 -- nothing was read, and the subscriber is as it was
 pub record KeepsSubscriber {A L C G N : Type 0} (old new : Session A L C G N) : Type 0 where
   pub unheard : HearsNothing old new
-  pub subscriber : new.subscriber.now ≡ old.subscriber.now
+  pub subscriber : new.client.now.subscriber ≡ old.client.now.subscriber
 
 -- nothing was read, written or noted
 pub record OnlyAsks {A L C G N : Type 0} (old new : Session A L C G N) : Type 0 where

@@ -4,8 +4,8 @@
 //! its bytes, and answers each sync message with one response. It reaches the plant through `Access` alone. Its contract,
 //! `IsSession`, says which bytes were read and written, what was noted, and why the session ended.
 //!
-//! - `Session` is the state of a session: its devices, its limits, its reader, the number of read timeouts left, and its
-//!   subscriber.
+//! - `Session` is the state of a session: its devices, its limits, its `Client`, and the number of read timeouts left.
+//! - `Client` is what is kept between two events: what was read and isn't served yet, and the subscriber.
 //! - `link_reader::Reader` reads the link in large pieces and gives one `Arrival` after the other.
 //! - `Answer` is what a message or a read timeout comes to: the turns to be noted and the response.
 //! - `Subscriber` is what the client is subscribed to, and up to which length of the chronicle it was told.

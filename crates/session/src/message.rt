@@ -36,7 +36,7 @@ impl<A: Access, L: Link, C: Clock, G: Gate, N: Recorder> Session<'_, A, L, C, G,
     ) -> Option<End>
         requires limits { AreLimits self.old.limits.now }
         requires same { (A.shown self.old.access.now).frame.limits ≡ self.old.limits.now }
-        requires fits { FitsPlant (A.shown self.old.access.now).frame (length (A.shown self.old.access.now).seen) self.old.subscriber.now }
+        requires fits { FitsPlant (A.shown self.old.access.now).frame (length (A.shown self.old.access.now).seen) self.old.client.now.subscriber }
         ensures same { HearsNothing self.old self.new }
         ensures performs { (value : Tree) → IsTextOf (request_of value) (sub_of form.now)
             → ServesHeard (asked (record { sync = sync; content = built value }))
@@ -61,7 +61,7 @@ impl<A: Access, L: Link, C: Clock, G: Gate, N: Recorder> Session<'_, A, L, C, G,
     ) -> Option<End>
         requires limits { AreLimits self.old.limits.now }
         requires same { (A.shown self.old.access.now).frame.limits ≡ self.old.limits.now }
-        requires fits { FitsPlant (A.shown self.old.access.now).frame (length (A.shown self.old.access.now).seen) self.old.subscriber.now }
+        requires fits { FitsPlant (A.shown self.old.access.now).frame (length (A.shown self.old.access.now).seen) self.old.client.now.subscriber }
         ensures same { HearsNothing self.old self.new }
         ensures performs { (value : Tree) → request_of value ≡ text bytes.now
             → ServesHeard (asked (record { sync = sync; content = built value }))
@@ -91,7 +91,7 @@ impl<A: Access, L: Link, C: Clock, G: Gate, N: Recorder> Session<'_, A, L, C, G,
     ) -> Option<End>
         requires limits { AreLimits self.old.limits.now }
         requires same { (A.shown self.old.access.now).frame.limits ≡ self.old.limits.now }
-        requires fits { FitsPlant (A.shown self.old.access.now).frame (length (A.shown self.old.access.now).seen) self.old.subscriber.now }
+        requires fits { FitsPlant (A.shown self.old.access.now).frame (length (A.shown self.old.access.now).seen) self.old.client.now.subscriber }
         ensures same { HearsNothing self.old self.new }
         ensures performs { (value : Tree) → Asks (request_of value) request.now
             → ServesHeard (asked (record { sync = sync; content = built value }))
@@ -121,7 +121,7 @@ impl<A: Access, L: Link, C: Clock, G: Gate, N: Recorder> Session<'_, A, L, C, G,
     ) -> Option<End>
         requires limits { AreLimits self.old.limits.now }
         requires same { (A.shown self.old.access.now).frame.limits ≡ self.old.limits.now }
-        requires fits { FitsPlant (A.shown self.old.access.now).frame (length (A.shown self.old.access.now).seen) self.old.subscriber.now }
+        requires fits { FitsPlant (A.shown self.old.access.now).frame (length (A.shown self.old.access.now).seen) self.old.client.now.subscriber }
         ensures same { HearsNothing self.old self.new }
         ensures performs { ServesHeard (asked (record { sync = sync; content = built (tree value) }))
             (world_of A.shown L.shown C.readings N.noted self.old)

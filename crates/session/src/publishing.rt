@@ -25,8 +25,8 @@ impl<A: Access, L: Link, C: Clock, G: Gate, N: Recorder> Session<'_, A, L, C, G,
         ensures same { HearsNothing self.old self.new }
         ensures access { self.new.access.now ≡ self.old.access.now }
         ensures clock { self.new.clock.now ≡ self.old.clock.now }
-        ensures subscriber { self.new.subscriber.now ≡ sent_up_to to result self.old.subscriber.now }
-        ensures paid { IfNone result (IsPaid self.new.subscriber.now to) }
+        ensures subscriber { self.new.client.now.subscriber ≡ sent_up_to to result self.old.client.now.subscriber }
+        ensures paid { IfNone result (IsPaid self.new.client.now.subscriber to) }
         ensures noted { Tells (N.noted self.old.recorder.now) (N.noted self.new.recorder.now) (Turn.Told from to ∷ []) }
         ensures sent { Finishes (L.shown self.old.link.now) (L.shown self.new.link.now) messages.now result }
     {
@@ -34,7 +34,7 @@ impl<A: Access, L: Link, C: Clock, G: Gate, N: Recorder> Session<'_, A, L, C, G,
         if let Some(end) = send(self.link, messages) {
             return Some(end);
         }
-        if let Some(subscriber) = &mut *self.subscriber {
+        if let Some(subscriber) = &mut self.client.subscriber {
             subscriber.cursor = to;
         }
         None
@@ -43,14 +43,14 @@ impl<A: Access, L: Link, C: Clock, G: Gate, N: Recorder> Session<'_, A, L, C, G,
     /// Publishes what the subscriber is owed, if there is a subscriber. What can't be sent it is owed still.
     pub fn publish<R: Wait>(&mut self, rt: &R, alloc: Global) -> Option<End>
         requires same { (A.shown self.old.access.now).frame.limits ≡ self.old.limits.now }
-        requires fits { FitsPlant (A.shown self.old.access.now).frame (length (A.shown self.old.access.now).seen) self.old.subscriber.now }
+        requires fits { FitsPlant (A.shown self.old.access.now).frame (length (A.shown self.old.access.now).seen) self.old.client.now.subscriber }
         ensures same { HearsNothing self.old self.new }
         ensures performs { Performs []
             (world_of A.shown L.shown C.readings N.noted self.old)
             (world_of A.shown L.shown C.readings N.noted self.new)
             (served_of A.shown self.old) (state_of A.shown self.new) result }
     {
-        match &*self.subscriber {
+        match &self.client.subscriber {
             Some(_) => self.publish_owed(rt, alloc),
             None => None,
         }
@@ -59,8 +59,8 @@ impl<A: Access, L: Link, C: Clock, G: Gate, N: Recorder> Session<'_, A, L, C, G,
     /// Publishes what the subscriber is owed. There is one.
     fn publish_owed<R: Wait>(&mut self, rt: &R, alloc: Global) -> Option<End>
         requires same { (A.shown self.old.access.now).frame.limits ≡ self.old.limits.now }
-        requires some { (of : Subscriber) × (self.old.subscriber.now ≡ Some of) }
-        requires fits { FitsPlant (A.shown self.old.access.now).frame (length (A.shown self.old.access.now).seen) self.old.subscriber.now }
+        requires some { (of : Subscriber) × (self.old.client.now.subscriber ≡ Some of) }
+        requires fits { FitsPlant (A.shown self.old.access.now).frame (length (A.shown self.old.access.now).seen) self.old.client.now.subscriber }
         ensures same { HearsNothing self.old self.new }
         ensures performs { Performs []
             (world_of A.shown L.shown C.readings N.noted self.old)

@@ -40,7 +40,7 @@ impl<A: Access, L: Link, C: Clock, G: Gate, N: Recorder> Session<'_, A, L, C, G,
     ) -> Option<End>
         requires limits { AreLimits self.old.limits.now }
         requires same { (A.shown self.old.access.now).frame.limits ≡ self.old.limits.now }
-        requires fits { FitsPlant (A.shown self.old.access.now).frame (length (A.shown self.old.access.now).seen) self.old.subscriber.now }
+        requires fits { FitsPlant (A.shown self.old.access.now).frame (length (A.shown self.old.access.now).seen) self.old.client.now.subscriber }
         ensures same { HearsNothing self.old self.new }
         ensures performs { ServesHeard (asked (record { sync = sync; content = built (tree value) }))
             (world_of A.shown L.shown C.readings N.noted self.old)
@@ -56,7 +56,7 @@ impl<A: Access, L: Link, C: Clock, G: Gate, N: Recorder> Session<'_, A, L, C, G,
     /// Serves a message whose object is outside the profile, and then publishes.
     fn serve_unbuilt<R: Wait>(&mut self, rt: &R, alloc: Global, sync: bool) -> Option<End>
         requires same { (A.shown self.old.access.now).frame.limits ≡ self.old.limits.now }
-        requires fits { FitsPlant (A.shown self.old.access.now).frame (length (A.shown self.old.access.now).seen) self.old.subscriber.now }
+        requires fits { FitsPlant (A.shown self.old.access.now).frame (length (A.shown self.old.access.now).seen) self.old.client.now.subscriber }
         ensures same { HearsNothing self.old self.new }
         ensures performs { (at : ℕ) → ServesHeard (asked (record { sync = sync; content = unbuilt at }))
             (world_of A.shown L.shown C.readings N.noted self.old)
@@ -72,7 +72,7 @@ impl<A: Access, L: Link, C: Clock, G: Gate, N: Recorder> Session<'_, A, L, C, G,
     /// Serves a message whose value could not be built, out of memory, and then publishes.
     fn serve_skipped<R: Wait>(&mut self, rt: &R, alloc: Global, sync: bool) -> Option<End>
         requires same { (A.shown self.old.access.now).frame.limits ≡ self.old.limits.now }
-        requires fits { FitsPlant (A.shown self.old.access.now).frame (length (A.shown self.old.access.now).seen) self.old.subscriber.now }
+        requires fits { FitsPlant (A.shown self.old.access.now).frame (length (A.shown self.old.access.now).seen) self.old.client.now.subscriber }
         ensures same { HearsNothing self.old self.new }
         ensures performs { (value : Tree) → ServesHeard (asked (record { sync = sync; content = built value }))
             (world_of A.shown L.shown C.readings N.noted self.old)
@@ -88,10 +88,10 @@ impl<A: Access, L: Link, C: Clock, G: Gate, N: Recorder> Session<'_, A, L, C, G,
     /// Serves a read timeout of the link, publishes, and ends the session where it was the last one that the limits allow.
     fn time_out<R: Wait>(&mut self, rt: &R, alloc: Global) -> Option<End>
         requires same { (A.shown self.old.access.now).frame.limits ≡ self.old.limits.now }
-        requires fits { FitsPlant (A.shown self.old.access.now).frame (length (A.shown self.old.access.now).seen) self.old.subscriber.now }
+        requires fits { FitsPlant (A.shown self.old.access.now).frame (length (A.shown self.old.access.now).seen) self.old.client.now.subscriber }
         requires some { 0 < self.old.idles_left }
         ensures same { HasSameDevices self.old self.new }
-        ensures reader { self.new.reader.now ≡ self.old.reader.now }
+        ensures reader { self.new.client.now.reader ≡ self.old.client.now.reader }
         ensures left { self.old.idles_left ≡ self.new.idles_left + 1 }
         ensures times_out { TimesOut
             (world_of A.shown L.shown C.readings N.noted self.old)
@@ -111,17 +111,17 @@ impl<A: Access, L: Link, C: Clock, G: Gate, N: Recorder> Session<'_, A, L, C, G,
     fn serve_next<R: Wait>(&mut self, rt: &R, alloc: Global) -> Option<End>
         requires limits { AreLimits self.old.limits.now }
         requires same { (A.shown self.old.access.now).frame.limits ≡ self.old.limits.now }
-        requires fits { FitsPlant (A.shown self.old.access.now).frame (length (A.shown self.old.access.now).seen) self.old.subscriber.now }
-        requires known { self.old.reader.now.framer.limits ≡ self.old.limits.now }
+        requires fits { FitsPlant (A.shown self.old.access.now).frame (length (A.shown self.old.access.now).seen) self.old.client.now.subscriber }
+        requires known { self.old.client.now.reader.framer.limits ≡ self.old.limits.now }
         requires some { 0 < self.old.idles_left }
         ensures same { HasSameDevices self.old self.new }
-        ensures goes { (place : ℕ) → self.old.reader.now.framer.place ≡ told_place place → Goes self.old.limits.now place
+        ensures goes { (place : ℕ) → self.old.client.now.reader.framer.place ≡ told_place place → Goes self.old.limits.now place
             (world_of A.shown L.shown C.readings N.noted self.old)
             (world_of A.shown L.shown C.readings N.noted self.new)
             (state_of A.shown self.old) (state_of A.shown self.new)
-            self.old.reader.now self.new.reader.now self.old.idles_left self.new.idles_left result }
+            self.old.client.now.reader self.new.client.now.reader self.old.idles_left self.new.idles_left result }
     {
-        match self.reader.arrive(self.link) {
+        match self.client.reader.arrive(self.link) {
             Arrival::More => None,
             Arrival::Greeting { capability } => greet(self.link, self.recorder, capability),
             Arrival::Message(message) => self.serve_message(rt, alloc, message.sync, message.value),
@@ -138,15 +138,15 @@ impl<A: Access, L: Link, C: Clock, G: Gate, N: Recorder> Session<'_, A, L, C, G,
     pub fn serve_all<R: Wait>(&mut self, rt: &R, alloc: Global) -> End
         requires limits { AreLimits self.old.limits.now }
         requires same { (A.shown self.old.access.now).frame.limits ≡ self.old.limits.now }
-        requires fits { FitsPlant (A.shown self.old.access.now).frame (length (A.shown self.old.access.now).seen) self.old.subscriber.now }
-        requires known { self.old.reader.now.framer.limits ≡ self.old.limits.now }
-        requires first { self.old.reader.now.framer.place ≡ 0 }
+        requires fits { FitsPlant (A.shown self.old.access.now).frame (length (A.shown self.old.access.now).seen) self.old.client.now.subscriber }
+        requires known { self.old.client.now.reader.framer.limits ≡ self.old.limits.now }
+        requires first { self.old.client.now.reader.framer.place ≡ 0 }
         requires some { 0 < self.old.idles_left }
         ensures same { HasSameDevices self.old self.new }
         ensures converses { Converses self.old.limits.now 0
             (world_of A.shown L.shown C.readings N.noted self.old)
             (world_of A.shown L.shown C.readings N.noted self.new)
-            (state_of A.shown self.old) self.old.reader.now self.old.idles_left result }
+            (state_of A.shown self.old) self.old.client.now.reader self.old.idles_left result }
     {
         for _ in rt.forever() {
             match self.serve_next(rt, alloc) {

@@ -1,5 +1,5 @@
 //! The state of a session, and serving one from its handshake to its end.
-ghost use Rattle.std.specs.Prelude.{◌≡◌, None};
+ghost use Rattle.std.specs.Prelude.{◌≡◌};
 ghost use Rattle.q_values.specs.Limits.{AreLimits};
 ghost use Rattle.session.specs.Devices.{IsLent};
 ghost use Rattle.session.specs.Run.{world};
@@ -14,8 +14,16 @@ use q_values::Limits;
 use std::alloc::Global;
 use std::sync::Wait;
 
-/// The state of one session: the devices that it uses, its limits, what it has read, how long it still waits, and what its
-/// client is subscribed to.
+/// What a session keeps of its client from one event to the next.
+#[derive(Drop)]
+pub struct Client {
+    /// Reads the link and finds the messages in its bytes.
+    pub reader: Reader,
+    /// What the client is subscribed to; none before its first subscription.
+    pub subscriber: Option<Subscriber>,
+}
+
+/// The state of one session: the devices that it uses, its limits, what it keeps of its client, and how long it still waits.
 #[derive(Drop)]
 pub struct Session<'a, A, L, C, G, N> {
     /// The session's access to the plant.
@@ -30,12 +38,10 @@ pub struct Session<'a, A, L, C, G, N> {
     pub recorder: &'a mut N,
     /// The limits of the session, which are those of the plant.
     pub limits: &'a Limits,
-    /// Reads the link and finds the messages in its bytes.
-    pub reader: &'a mut Reader,
+    /// What was read of the client, and what it is subscribed to.
+    pub client: &'a mut Client,
     /// How many more reads may time out. The session ends where it gets to 0.
     pub idles_left: u64,
-    /// What the client is subscribed to; none before its first subscription.
-    pub subscriber: &'a mut Option<Subscriber>,
 }
 
 impl<'a, A: Access, L: Link, C: Clock, G: Gate, N: Recorder> Session<'a, A, L, C, G, N> {
@@ -47,17 +53,15 @@ impl<'a, A: Access, L: Link, C: Clock, G: Gate, N: Recorder> Session<'a, A, L, C
         gate: &'a mut G,
         recorder: &'a mut N,
         limits: &'a Limits,
-        reader: &'a mut Reader,
-        subscriber: &'a mut Option<Subscriber>,
+        client: &'a mut Client,
     ) -> Session<'a, A, L, C, G, N>
         ensures access { IsLent access.entry result.access }
         ensures link { IsLent link.entry result.link }
         ensures clock { IsLent clock.entry result.clock }
         ensures recorder { IsLent recorder.entry result.recorder }
         ensures limits { result.limits.now ≡ limits.now }
-        ensures reader { result.reader.now ≡ reader.old }
+        ensures client { result.client.now ≡ client.old }
         ensures idles_left { result.idles_left ≡ limits.now.idle }
-        ensures subscriber { result.subscriber.now ≡ subscriber.old }
     {
         Session {
             access,
@@ -66,9 +70,8 @@ impl<'a, A: Access, L: Link, C: Clock, G: Gate, N: Recorder> Session<'a, A, L, C
             gate,
             recorder,
             limits,
-            reader,
+            client,
             idles_left: limits.idle,
-            subscriber,
         }
     }
 }
@@ -100,18 +103,12 @@ pub fn serve_session<A: Access, L: Link, C: Clock, G: Gate, N: Recorder, R: Wait
         result.end }
 {
     let end = match Reader::new(alloc, limits) {
-        Ok(mut reader) => {
-            let mut subscriber = None;
-            let mut session = Session::new(
-                access,
-                link,
-                clock,
-                gate,
-                turns,
-                limits,
-                &mut reader,
-                &mut subscriber,
-            );
+        Ok(reader) => {
+            let mut client = Client {
+                reader,
+                subscriber: None,
+            };
+            let mut session = Session::new(access, link, clock, gate, turns, limits, &mut client);
             session.serve_all(rt, alloc)
         }
         Err(_) => End::NoMemory,

@@ -71,15 +71,15 @@ impl<A: Access, L: Link, C: Clock, G: Gate, N: Recorder> Session<'_, A, L, C, G,
     /// What the subscriber is owed now. The access is asked for the chronicle from its cursor on.
     pub fn owed<R: Wait>(&mut self, rt: &R, alloc: Global) -> Result<Owed, NoMemory>
         requires same { (A.shown self.old.access.now).frame.limits ≡ self.old.limits.now }
-        requires fits { FitsPlant (A.shown self.old.access.now).frame (length (A.shown self.old.access.now).seen) self.old.subscriber.now }
+        requires fits { FitsPlant (A.shown self.old.access.now).frame (length (A.shown self.old.access.now).seen) self.old.client.now.subscriber }
         ensures same { OnlyAsks self.old self.new }
         ensures clock { self.new.clock.now ≡ self.old.clock.now }
         ensures sees { Sees (A.shown self.old.access.now) (A.shown self.new.access.now) }
-        ensures owes { IfOk result (Owes (A.shown self.old.access.now).frame self.old.subscriber.now (A.shown self.new.access.now).seen) }
+        ensures owes { IfOk result (Owes (A.shown self.old.access.now).frame self.old.client.now.subscriber (A.shown self.new.access.now).seen) }
     {
-        let from = cursor_of(self.subscriber);
+        let from = cursor_of(&self.client.subscriber);
         let tail = self.access.tail(rt, alloc, from)?;
-        match &*self.subscriber {
+        match &self.client.subscriber {
             Some(subscriber) => owed_of(alloc, &tail, &subscriber.subscription, self.limits.batch),
             None => {
                 let (_, to) = tail.span();

@@ -69,12 +69,12 @@ impl<A: Access, L: Link, C: Clock, G: Gate, N: Recorder> Session<'_, A, L, C, G,
         alloc: Global,
         request: &SubRequest,
     ) -> Result<Subscription, SubRefusal>
-        ensures ok { IfOk result (λ s. s ≡ after_request request.now (chosen_by (A.shown self.now.access.now).frame self.now.subscriber.now)) }
+        ensures ok { IfOk result (λ s. s ≡ after_request request.now (chosen_by (A.shown self.now.access.now).frame self.now.client.now.subscriber)) }
         ensures known { OnOk result (is_known request.now.tables
-            (table_names (chosen_by (A.shown self.now.access.now).frame self.now.subscriber.now).schema) ≡ true) }
-        ensures refused { IfErr result (Refuses request.now (chosen_by (A.shown self.now.access.now).frame self.now.subscriber.now).schema) }
+            (table_names (chosen_by (A.shown self.now.access.now).frame self.now.client.now.subscriber).schema) ≡ true) }
+        ensures refused { IfErr result (Refuses request.now (chosen_by (A.shown self.now.access.now).frame self.now.client.now.subscriber).schema) }
     {
-        match &*self.subscriber {
+        match &self.client.subscriber {
             Some(subscriber) => subscriber.subscription.after(request),
             None => {
                 let none = Subscription::none(alloc, self.access.schema())?;
@@ -106,15 +106,15 @@ impl<A: Access, L: Link, C: Clock, G: Gate, N: Recorder> Session<'_, A, L, C, G,
     /// Notes that a subscription holds from the length `to` on, up to which the client was told all that the former one chose,
     /// and sends the response. A write that fails ends the session.
     fn take_up(&mut self, subscription: Subscription, reply: Option<Reply>, to: u64) -> Option<End>
-        requires paid { IsPaid self.old.subscriber.now to }
+        requires paid { IsPaid self.old.client.now.subscriber to }
         ensures same { HearsNothing self.old self.new }
         ensures access { self.new.access.now ≡ self.old.access.now }
         ensures clock { self.new.clock.now ≡ self.old.clock.now }
-        ensures subscriber { self.new.subscriber.now ≡ Some (record { subscription = subscription; cursor = to }) }
+        ensures subscriber { self.new.client.now.subscriber ≡ Some (record { subscription = subscription; cursor = to }) }
         ensures noted { Tells (N.noted self.old.recorder.now) (N.noted self.new.recorder.now) (Turn.Subscribed to ∷ []) }
         ensures sent { Finishes (L.shown self.old.link.now) (L.shown self.new.link.now) (sent_by reply) result }
     {
-        *self.subscriber = Some(Subscriber {
+        self.client.subscriber = Some(Subscriber {
             subscription,
             cursor: to,
         });
@@ -136,7 +136,7 @@ impl<A: Access, L: Link, C: Clock, G: Gate, N: Recorder> Session<'_, A, L, C, G,
     ) -> Option<End>
         requires limits { AreLimits self.old.limits.now }
         requires same { (A.shown self.old.access.now).frame.limits ≡ self.old.limits.now }
-        requires fits { FitsPlant (A.shown self.old.access.now).frame (length (A.shown self.old.access.now).seen) self.old.subscriber.now }
+        requires fits { FitsPlant (A.shown self.old.access.now).frame (length (A.shown self.old.access.now).seen) self.old.client.now.subscriber }
         ensures same { HearsNothing self.old self.new }
         ensures performs { (value : Tree) → IsSubscriptionTo (request_of value) request.now
             → ServesHeard (asked (record { sync = sync; content = built value }))

@@ -9,6 +9,9 @@
 //! calls   note, write, update, note, write
 //! ```
 //!
+//! A disk that fails, and what a session answers then, is in `disk_sessions`. A contract says what each device got and keeps
+//! no list over all of them, so the order of the calls of two devices is tested here.
+//!
 //! The crate has no code outside its tests. What is sent is compared in `plant_vectors`.
 #![tactic(auto)]
 

@@ -178,6 +178,6 @@ pub fn respond_wrong(alloc: Global, text: &[u8], limits: &Limits) -> Result<Repl
     requires limits { AreLimits limits.now }
     ensures { IfOk result (λ r. reply_bytes r ≡ reply limits.now (wrong text.now)) }
 {
-    let text = Text::from_vec(Vec::from_slice(alloc, text)?);
+    let text = Text::from_vec(alloc, Vec::from_slice(alloc, text)?)?;
     respond(alloc, &Value::Wrong(text), limits)
 }

@@ -232,7 +232,10 @@ fn vector_asked(alloc: Global, vector: &Vector) -> Result<Asked, NoMemory>
 {
     match vector.column() {
         Column::Bytes(kind, bytes) => match kind {
-            ByteKind::Character => Ok(Asked::Text(Text::from_vec(Vec::from_slice(alloc, bytes)?))),
+            ByteKind::Character => {
+                let text = Text::from_vec(alloc, Vec::from_slice(alloc, bytes)?)?;
+                Ok(Asked::Text(text))
+            }
             ByteKind::Byte => Ok(Asked::Other),
         },
         Column::Symbols(symbols) => call_of_symbols(alloc, symbols),
@@ -255,7 +258,7 @@ fn atom_asked(alloc: Global, atom: &Atom) -> Result<Asked, NoMemory>
     ensures { IfOk result (Asks (atom_request (character_of atom.now))) }
 {
     match character_in(atom) {
-        Some(byte) => Ok(Asked::Text(Text::from_vec(vec![in alloc; byte]?))),
+        Some(byte) => Ok(Asked::Text(Text::from_vec(alloc, vec![in alloc; byte]?)?)),
         None => Ok(Asked::Other),
     }
 }

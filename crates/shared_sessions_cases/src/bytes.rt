@@ -59,7 +59,8 @@ const LONG: &[u8] = b"\x01\x02\0\0\x11\0\0\0\xf9";
 pub(crate) fn link_of(alloc: Global, reads: &[&[u8]]) -> Result<MemLink, NoMemory> {
     let mut pieces = Pieces::new(alloc);
     for bytes in reads {
-        pieces.push(Piece::Bytes(Text::from_vec(Vec::from_slice(alloc, bytes)?)))?;
+        let text = Text::from_vec(alloc, Vec::from_slice(alloc, bytes)?)?;
+        pieces.push(Piece::Bytes(text))?;
     }
     Ok(MemLink::script(alloc, pieces, Takings::new(alloc)))
 }

@@ -23,7 +23,7 @@ type Served = Finished<MemLink, MemClock, MemRecorder>;
 
 // The clock of each session: always the same moment.
 fn clock(alloc: Global) -> Result<Option<MemClock>, NoMemory> {
-    let moments = Sequence::from_vec(Vec::from_slice(alloc, &[NOW])?);
+    let moments = Sequence::from_vec(alloc, Vec::from_slice(alloc, &[NOW])?)?;
     if moments.len() == 0 {
         return Ok(None);
     }

@@ -80,7 +80,8 @@ impl Script {
     fn push_updates(&mut self, rt: &impl Abort, alloc: Global, feed: Feed, from: u32, to: u32) {
         for number in from..to {
             let update = update_of(rt, alloc, feed, number);
-            self.push(rt, Piece::Bytes(Text::from_vec(update)));
+            let text = Text::from_vec(alloc, update).expect(rt, "memory");
+            self.push(rt, Piece::Bytes(text));
         }
     }
 
@@ -94,7 +95,8 @@ impl Script {
         match part {
             Part::Sends(bytes) => {
                 let bytes = Vec::from_slice(alloc, bytes).expect(rt, "memory");
-                self.push(rt, Piece::Bytes(Text::from_vec(bytes)));
+                let text = Text::from_vec(alloc, bytes).expect(rt, "memory");
+                self.push(rt, Piece::Bytes(text));
             }
             Part::Feeds { feed, from, to } => self.push_updates(rt, alloc, feed, from, to),
             Part::Idles(count) => self.push_idles(rt, count),
@@ -117,7 +119,7 @@ fn script_of(rt: &impl Abort, alloc: Global, parts: &[Part]) -> Script {
 fn clock_of(rt: &impl Abort, alloc: Global, client: &Client<'_>) -> MemClock {
     let mut moments = vec![in alloc; NOW; client.early as usize].expect(rt, "memory");
     moments.push(client.late).expect(rt, "memory");
-    let moments = Sequence::from_vec(moments);
+    let moments = Sequence::from_vec(alloc, moments).expect(rt, "memory");
     assert!(rt; moments.len() > 0);
     MemClock::new(moments)
 }

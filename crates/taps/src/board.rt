@@ -101,6 +101,7 @@ impl Board {
         let count = self.seats.len();
         let mut staying = Vec::with_capacity(alloc, count)?;
         let mut dropped = Vec::with_capacity(alloc, count)?;
+        let mut numbers = Box::new(alloc, Vec::new(alloc))?;
         let messages = messages.as_slice();
         let seats = std::mem::replace(&mut self.seats, Vec::new(alloc));
         for mut seat in seats {
@@ -111,6 +112,7 @@ impl Board {
             }
         }
         self.seats = staying;
-        Ok(Ids::from_vec(dropped))
+        *numbers = dropped;
+        Ok(Ids::from_box(alloc, numbers))
     }
 }

@@ -8,6 +8,10 @@
 //! prices 1, 2 and 3    the first tap noted 10203, the second 1 and was dropped
 //! ```
 //!
+//! Which messages an update makes is tested in `pubsub_cases` and `publications_cases`. Subscribers of a plant that sessions
+//! share are in `shared_sessions_cases`.
+//!
+//!
 //! They are a crate of their own, since a crate with tests in it is proved twice.
 #![tactic(auto)]
 

@@ -10,6 +10,9 @@
 //! shown       a column of one date
 //! ```
 //!
+//! A row of `trade` is a tuple: a time in nanoseconds, a symbol, a price and a size. `one_failing` is the plan of a disk of
+//! which one call fails, for tests of what a plant does then.
+//!
 //! Several crates of tests stand on it, so that this is proved once. It checks nothing itself.
 #![tactic(auto)]
 

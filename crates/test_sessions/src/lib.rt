@@ -11,6 +11,8 @@
 //! link_of     a link whose reads and writes go as listed
 //! ```
 //!
+//! A script may also have a read that times out, and one that fails.
+//!
 //! Several crates of tests stand on it, so that this is proved once. It checks nothing itself.
 #![tactic(auto)]
 

@@ -95,7 +95,7 @@ fn serve<R: Wait>(
 
 /// A clock that gives these readings, if there are any.
 pub fn clock_of(alloc: Global, readings: &[i64]) -> Result<Option<MemClock>, NoMemory> {
-    let moments = Sequence::from_vec(Vec::from_slice(alloc, readings)?);
+    let moments = Sequence::from_vec(alloc, Vec::from_slice(alloc, readings)?)?;
     if moments.len() == 0 {
         return Ok(None);
     }
@@ -244,7 +244,10 @@ pub enum Read<'a> {
 
 fn piece_of(alloc: Global, read: Read) -> Result<Piece, NoMemory> {
     match read {
-        Read::Bytes(bytes) => Ok(Piece::Bytes(Text::from_vec(Vec::from_slice(alloc, bytes)?))),
+        Read::Bytes(bytes) => {
+            let text = Text::from_vec(alloc, Vec::from_slice(alloc, bytes)?)?;
+            Ok(Piece::Bytes(text))
+        }
         Read::Idle => Ok(Piece::Idle),
         Read::Fault => Ok(Piece::Fault),
     }

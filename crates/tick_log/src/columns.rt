@@ -1,53 +1,11 @@
 //! Whether columns are those of an update that a log can hold.
-ghost use Rattle.std.specs.Prelude.{◌≡◌, ◌↔◌, length, map, All, true, nat_lt};
+ghost use Rattle.std.specs.Prelude.{◌≡◌, ◌↔◌, length, true, nat_lt};
 ghost use Rattle.std.specs.List.{AllByRecursion, list_any};
-ghost use Rattle.q_values.specs.Table.{rows_of};
 ghost use Rattle.tick_log.specs.Chunk.{AreLoggable, HasShortSymbols, is_long};
 
 use crate::layout::LONGEST_SYMBOL;
+use day_rows::{have_equal_lengths, have_kinds};
 use q_values::{Column, Kind, Symbols, Vector};
-
-fn is_of_kind(column: &Vector, kind: &Kind) -> bool
-    ensures { (result ≡ true) ↔ (column.now.kind ≡ kind.now) }
-{
-    column.kind() == *kind
-}
-
-fn have_kinds(columns: &[Vector], kinds: &[Kind]) -> bool
-    ensures { (result ≡ true) ↔ (map (λ c. c.kind) columns.now ≡ kinds.now) }
-{
-    if columns.len() != kinds.len() {
-        return false;
-    }
-    for i in 0..columns.len() {
-        if !is_of_kind(&columns[i], &kinds[i]) {
-            return false;
-        }
-    }
-    true
-}
-
-/// The number of rows of columns: that of the first.
-pub fn row_count(columns: &[Vector]) -> usize
-    ensures { result ≡ rows_of columns.now }
-{
-    match columns {
-        [first, ..] => first.len(),
-        _ => 0,
-    }
-}
-
-fn have_equal_lengths(columns: &[Vector]) -> bool
-    ensures { (result ≡ true) ↔ All (λ c. length c.atoms ≡ rows_of columns.now) columns.now }
-{
-    let rows = row_count(columns);
-    for column in columns {
-        if column.len() != rows {
-            return false;
-        }
-    }
-    true
-}
 
 // Whether one of the symbols has more than 256 bytes.
 fn has_long_symbol(symbols: &Symbols) -> bool

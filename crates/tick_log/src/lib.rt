@@ -10,7 +10,7 @@
 //! - [`replay`] gives the updates of a log's records, or [`ReplayRefusal::Corrupt`] with the offset of the first record that
 //!   is no chunk. [`replay_into`] adds them to a day as they are read, so that no list of them is kept, and counts them
 //!   ([`Replayed`]).
-//! - [`count_valid`] tells how many chunks of a file are good, and whether a fault follows them.
+//! - [`count_valid`] reports how many chunks of a file are good, and whether a fault follows them.
 //!
 //! ```text
 //! let chunk = chunk_of(alloc, &schema, &entry)?;

@@ -10,10 +10,10 @@ ghost use Rattle.ipc_codec.specs.Written.{head};
 ghost use Rattle.tick_log.specs.Chunk.{IsChunk};
 ghost use Rattle.tick_log.specs.Reading.{IfNoChunk, BeginsWithPass, BeginsWithTable, AreVectors, AreLogged};
 
-use crate::columns::{are_loggable, row_count};
+use crate::columns::are_loggable;
 use crate::layout::{MOST_ROWS, NO_PASS, OPENING};
 use crate::refusal::ChunkFault;
-use day_rows::{Entry, Schema};
+use day_rows::{Entry, Schema, row_count};
 use ipc_codec::decode_vector;
 use q_values::{Columns, Kind};
 use std::alloc::Global;

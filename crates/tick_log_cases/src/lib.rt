@@ -8,6 +8,11 @@
 //! ("another word", 15, b"upx"),        // the chunk with these bytes at this offset is refused
 //! ```
 //!
+//! Each test makes its journals anew, on a disk that it has for itself.
+//!
+//! Updates are rows of the built-in table `trade`. What a crash leaves of a file is tested below, in `journal_stops`, and a
+//! plant that is loaded again above, in `plant_core_cases`.
+//!
 //! Expected bytes and offsets are worked by hand from the layout, and come from no output of `tick_log`.
 #![tactic(auto)]
 

@@ -23,5 +23,5 @@ decreases-dictionary_in l = 4 * l.room + 1
 abbrev pub invariant-items_in-loop-i : goal.invariant-items_in-loop-i
 invariant-items_in-loop-i l = record {
   found : behind_items (trees l.items) (items_at (object_at l.room l.order) (l.count - l.i) l.rest) ≡ items_at (object_at l.room l.order) l.count l.bytes;
-  few : l.budget.left + 56 * values_among (items_of (trees l.items)) + 56 * (l.places - l.i) ≤ l.fn.budget.left;
+  few : l.budget.left + 40 * values_among (items_of (trees l.items)) + 40 * (l.places - l.i) ≤ l.fn.budget.left;
 }

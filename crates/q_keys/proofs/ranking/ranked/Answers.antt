@@ -7,6 +7,6 @@ use Rattle.q_keys.proofs.ranking.ranked.Goals as goal
 
 pub returns : goal.returns
 returns c =
-    let placed = rw c.sorted.ensures at c.in_ok-places.ensures.places in
+    let placed = rw c.sorted.ensures at c.in_ok-places.ensures.ranks in
     let h = ranks_of_groups atom_cmp atom_total c.args.column.now.atoms c.in_ok-groups.groups c.in_ok-places.places.items (a.Boolean false) c.in_ok-groups.ensures placed in
     rw (c.replaced-ranks.ensures, c.in_ok-firsts.ensures, c.deref.ensures.value, c.into_codes.ensures, c.firsts.ensures, c.sorted-2.ensures) h

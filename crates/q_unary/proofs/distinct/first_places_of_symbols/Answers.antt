@@ -13,8 +13,8 @@ returns-in_ok-texts-in-Long-clause-items c =
     let eq : Bor (List ℕ) → Bor (List ℕ) → Bool = λ x y. pointwise nat_eq x.now y.now in
     let bytes : Bor (List ℕ) → List ℕ = λ t. t.now in
     let texts = c.in_ok-texts-in-Long.texts.items in
-    let xs = c.deref-in-Long.result.now in
-    let same : map bytes texts ≡ c.args.symbols.now = c.in_ok-texts-in-Long.ensures ∙ c.deref-symbols.ensures ∙ ap symbols_in (sym c.in-Long.is) ∙ c.form.ensures in
+    let xs = c.deref.result.now in
+    let same : map bytes texts ≡ c.args.symbols.now = c.in_ok-texts-in-Long.ensures ∙ ap symbols_in (sym c.in-Long.is) ∙ c.form.ensures in
     IfOk-weaker c.first_places-in-Long.result (λ v. gathered xs v.items ≡ distinct eq xs) (λ v. gathered c.args.symbols.now v.items ≡ distinct (pointwise nat_eq) c.args.symbols.now)
-    (λ v found. rw (← same) (read_distinct (pointwise nat_eq) eq bytes texts xs v.items (λ x y. refl) c.deref-in-Long.ensures.value found))
+    (λ v found. rw (← same) (read_distinct (pointwise nat_eq) eq bytes texts xs v.items (λ x y. refl) c.deref.ensures.value found))
     c.first_places-in-Long.ensures.items

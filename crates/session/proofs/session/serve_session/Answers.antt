@@ -10,7 +10,7 @@ returns-in-Ok g c =
     ends_as g.A.Access.shown g.L.Link.shown g.C.Clock.readings g.N.Recorder.noted c.args.limits.now _ c.serve_all-end.result left.link.now _ left.clock.now _ left.recorder.now _ left.access.now _
     (search rules) (search rules) (search rules) (search rules)
     (whole_session c.args.limits.now _ (world_of g.A.Access.shown g.L.Link.shown g.C.Clock.readings g.N.Recorder.noted left) c.serve_all-end.result
-    (rw (made.access.value, made.link.value, made.clock.value, made.recorder.value, made.limits, made.reader, made.idles_left, made.subscriber, c.in-Ok.ensures) at c.serve_all-end.ensures.converses))
+    (rw (made.access.value, made.link.value, made.clock.value, made.recorder.value, made.limits, made.client, made.idles_left, c.in-Ok.ensures) at c.serve_all-end.ensures.converses))
 
 pub returns-in-Err : goal.returns-in-Err
 returns-in-Err g c = no_session c.args.limits.now _ _ _ _

@@ -5,5 +5,5 @@ use Rattle.session_replies.proofs.reply.respond_wrong.Goals as goal
 
 pub respond-requires-clause-plain : goal.respond-requires-clause-plain
 respond-requires-clause-plain c =
-    let clean = subst HasNoNul (sym (c.from_vec-text.ensures ∙ c.in_ok-from_slice.ensures.items)) c.requires.no_nul in
-    rw (tree-wrong c.from_vec-text.result) (λ within. wrong_plain c.from_vec-text.result clean)
+    let clean = subst HasNoNul (sym (c.in_ok-text.ensures ∙ c.in_ok-from_slice.ensures.items)) c.requires.no_nul in
+    rw (tree-wrong c.in_ok-text.text) (λ within. wrong_plain c.in_ok-text.text clean)

@@ -12,4 +12,4 @@ returns c =
     let K = subst (λ (d : Day). IsOrder atom_cmp (map symbol_of (arrived d c.args.table)) order) c.self.view_is
     (kept-order _ c.self.inside.orders.items c.args.table order c.self.invariant.1 (rw (← c.self.view_is) at (c.requires)) c.index-order.ensures) in
     let day : IsDay c.args.self.now = subst IsDay c.self.view_is c.self.invariant.0 in
-    c.from_vec.ensures ∙ c.in_ok-part.ensures ∙ part-all c.len.result order c.len.ensures ∙ arrivals-settled c.args.self.now c.args.table order day K
+    c.in_ok-arrivals.ensures ∙ c.in_ok-part.ensures ∙ part-all c.len.result order c.len.ensures ∙ arrivals-settled c.args.self.now c.args.table order day K

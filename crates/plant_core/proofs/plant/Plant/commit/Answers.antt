@@ -52,7 +52,7 @@ returns-in-Err-clause-left g c =
     let entries = ap (λ (m : MemoryView). m.entries) c.note_fault.ensures.after in
     let left = update-left c.self.inside.memory c.note_fault.new.self c.self.inside.logs c.append.new.self (g.D.Disk.shown c.self.inside.disk) (g.D.Disk.shown c.append.new.disk) (g.D.Disk.shown c.self.inside.origin.value) (kinds_of c.args.update.frame.schema) c.args.update.entry c.chunk.result.now.bytes frame c.chunk.ensures.update fit
     c.by.result entries c.in-Err.ensures.failed in
-    elim c.match-update-2.branch [ in-Some-1 w ↦ rw (← c.self.view_is, w.self-is) left | in-None-2 w ↦ rw (← c.self.view_is, w.self-is) left ]
+    elim c.match-update-3.branch [ in-Some-1 w ↦ rw (← c.self.view_is, w.self-is) left | in-None-2 w ↦ rw (← c.self.view_is, w.self-is) left ]
 
 pub returns-in-Err-clause-any_moment : goal.returns-in-Err-clause-any_moment
 returns-in-Err-clause-any_moment g c =
@@ -60,4 +60,4 @@ returns-in-Err-clause-any_moment g c =
     let frame = ap (λ (m : MemoryView). m.frame) c.note_fault.ensures.after in
     let along = update-along c.self.inside.memory c.note_fault.new.self c.self.inside.logs c.append.new.self (g.D.Disk.shown c.self.inside.disk) (g.D.Disk.shown c.append.new.disk) (g.D.Disk.shown c.self.inside.origin.value) (kinds_of c.args.update.frame.schema) c.args.update.entry c.chunk.result.now.bytes frame c.chunk.ensures.update fit
     c.append.ensures.any_moment in
-    elim c.match-update-2.branch [ in-Some-1 w ↦ rw (← c.self.view_is, w.self-is) along | in-None-2 w ↦ rw (← c.self.view_is, w.self-is) along ]
+    elim c.match-update-3.branch [ in-Some-1 w ↦ rw (← c.self.view_is, w.self-is) along | in-None-2 w ↦ rw (← c.self.view_is, w.self-is) along ]

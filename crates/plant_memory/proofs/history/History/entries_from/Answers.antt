@@ -44,4 +44,4 @@ returns c =
     let own : today c.args.self.now.entries ≡ current = rw (← c.self.view_is) (today-chronicle _ _ _ _ c.self.inside.faults.marks c.self.invariant.follow) in
     let now = c.loop-date.invariant in
     let done : c.loop-date.date ≡ length pasts = omega (arith, c.loop-date-test.false, c.loop-date.auto.date-end, c.len-date-end.ensures, c.self.inside.ended.ok, c.date_with-first.ensures.date, ap length c.deref.ensures.value) in
-    c.from_vec.ensures ∙ c.in_ok-add_today.ensures ∙ (λ j. now.so_far j ++ drop (now.skip j) (own j)) ∙ sym (chronicle-dropped pasts current c.loop-date.date c.args.from done) ∙ ap (λ (h : HistoryView). drop c.args.from h.entries) c.self.view_is
+    c.in_ok-found.ensures ∙ c.in_ok-add_today.ensures ∙ (λ j. now.so_far j ++ drop (now.skip j) (own j)) ∙ sym (chronicle-dropped pasts current c.loop-date.date c.args.from done) ∙ ap (λ (h : HistoryView). drop c.args.from h.entries) c.self.view_is
