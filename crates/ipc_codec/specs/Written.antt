@@ -45,7 +45,8 @@ vector_bytes v = head (type_number v.kind) (length v.atoms) ++ flat_map element_
 
 unfoldable pub grid_bytes : Grid → List ℕ
 grid_bytes grid =
-    98 ∷ 0 ∷ 99 ∷ (head symbols_byte (length grid.names) ++ flat_map text_bytes grid.names) ++ (head 0 (length grid.columns) ++ flat_map vector_bytes grid.columns)
+    98 ∷ 0 ∷ 99 ∷ (head symbols_byte (length grid.names) ++ flat_map text_bytes grid.names)
+    ++ (head 0 (length grid.columns) ++ flat_map vector_bytes grid.columns)
 
 -- the bytes of a value
 unfoldable mutual

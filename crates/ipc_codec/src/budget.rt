@@ -5,7 +5,8 @@
 //! takes exactly that, and its own six bytes pay for its block of memory. So a list is read, however many items it has, of
 //! atoms, vectors, tables, keyed tables and lists of these. Refused, where there are more than a few, are errors of one to
 //! three bytes, and dictionaries whose two sides have at most five bytes together, as two booleans. A block of memory has at
-//! least 32 bytes, so these do take more.
+//! least 32 bytes, so these do take more. No kdb+ process sends them: the sides of its dictionaries are lists or tables, of
+//! at least six bytes each, and its error is a response of its own, in no list.
 ghost use Rattle.std.specs.Prelude.{◌≡◌, ◌+◌, ◌<◌, OnOk, OnErr, IfErr, min};
 ghost use Rattle.ipc_codec.specs.Memory.{memory_for};
 
@@ -30,8 +31,8 @@ pub const SIDES: usize = 2 * VALUE + HEADER;
 /// The most bytes that the C library adds to any block of memory.
 const BLOCK: usize = 32;
 
-/// The most bytes of the block that holds the head of a list's or of symbols' memory: a vector, or an arena.
-const HEAD: usize = 64;
+/// The most bytes of the block in which a list or symbols keep their owner: a `Vec`, or an arena.
+const OWNER_BLOCK: usize = 64;
 
 /// The most bytes of memory for each byte of a table. An empty name and a column of one empty symbol have eight bytes, and
 /// take the most for each: a symbol's 16, a vector's 32, and 64 for the two blocks that the column keeps.
@@ -72,13 +73,13 @@ impl Budget {
 fn symbols_memory(symbols: &Symbols, length: usize) -> usize {
     match symbols.form() {
         // Eight bytes for each.
-        Form::Short(items) => items.len().saturating_mul(8).saturating_add(HEAD),
+        Form::Short(items) => items.len().saturating_mul(8).saturating_add(OWNER_BLOCK),
         // An offset of four for each, and the bytes, in two blocks that have grown.
         Form::Long(arena) => arena
             .len()
             .saturating_mul(12)
             .saturating_add(length.saturating_mul(2))
-            .saturating_add(HEAD + 2 * BLOCK),
+            .saturating_add(OWNER_BLOCK + 2 * BLOCK),
     }
 }
 

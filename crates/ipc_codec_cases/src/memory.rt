@@ -8,7 +8,7 @@ use std::process::Abort;
 // A name, an object, how many of it a general list has, and whether the list is read.
 type Row = (&'static str, &'static [u8], u32, bool);
 
-const ROWS: [Row; 19] = [
+const ROWS: [Row; 20] = [
     ("ints", b"\xfa\x01\0\0\0", 200_000, true),
     ("empty symbols", b"\xf5\0", 100_000, true),
     ("symbols of one byte", b"\xf5a\0", 100_000, true),
@@ -36,6 +36,12 @@ const ROWS: [Row; 19] = [
     (
         "tables of one row",
         b"b\0c\x0b\0\x01\0\0\0a\0\0\0\x01\0\0\0\x06\0\x01\0\0\0\x01\0\0\0",
+        100_000,
+        true,
+    ),
+    (
+        "dictionaries of two empty vectors, the smallest of kdb+",
+        b"c\x01\0\0\0\0\0\x01\0\0\0\0\0",
         100_000,
         true,
     ),

@@ -177,3 +177,18 @@ fn many_long_symbols(rt: HostRuntime) {
     assert_eq!(&rt; sorted.bytes_len(), 1_250_000);
     assert!(&rt; ascend(&sorted));
 }
+
+/// Forty different bytes.
+const FORTY: &[u8; 40] = b"abcdefghijklmnopqrstuvwxyzABCDEFGHIJKLMN";
+
+/// Symbols of no bytes to forty, over and over, so that some are pushed where there is room, and some where there is none.
+#[test]
+fn symbols_of_each_length_to_forty(rt: HostRuntime) {
+    let alloc = rt.alloc();
+    let mut some = symbols(&rt, alloc, &[b"ninebytes"]);
+    for i in 0..41_000usize {
+        push(&rt, &mut some, alloc, &FORTY[..i % 41]);
+    }
+    assert_eq!(&rt; some.len(), 41_001);
+    assert!(&rt; (0..41_000usize).all(|i| some.get(i + 1) == Some(&FORTY[..i % 41])));
+}
