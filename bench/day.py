@@ -47,7 +47,8 @@ def memory(program, state, rows, size, runs):
 
 
 def show_times(measured):
-    print(f"{'rows':>11} {'update':>7} {'make ns':>8} {'log ns':>7} {'loop ns':>8} {'copy us':>8} {'roll ms':>8} {'symbols':>8} {'sort':>7} {'loop sort':>10}", end=" ")
+    print(f"{'rows':>11} {'update':>7} {'make ns':>8} {'log ns':>7} {'loop ns':>8} {'copy us':>8}", end=" ")
+    print(f"{'roll ms':>8} {'symbols':>8} {'sort':>7} {'loop sort':>10}", end=" ")
     print(f"{'read ms':>8} {'copy ms':>8} {'ratio':>6} {'parts ms':>9} {'ratio':>6} {'ended ms':>9}")
     for (rows, size), best in measured.items():
         roll = best["day", "order"] + best["day", "close"]

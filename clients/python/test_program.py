@@ -173,7 +173,8 @@ class Folders(unittest.TestCase):
                 plant.query("select from trade")
         with self.once("--schema", schema) as plant:
             self.assertEqual(plant.query("exec mark from marks"), [7])
-        self.refuses(["once", "--dir", self.folder, "--clock", CLOCK], f"plant: {self.folder}: it was formatted with another schema, which differs in the table fills")
+        said = f"plant: {self.folder}: it was formatted with another schema, which differs in the table fills"
+        self.refuses(["once", "--dir", self.folder, "--clock", CLOCK], said)
 
     def test_schema_with_a_fault(self):
         schema = self.write("faulty.q", b"t:")
