@@ -118,21 +118,25 @@ take-filled zero (b ∷ text) short = absurd (omega (arith, short))
 take-filled (suc k) [] short = refl
 take-filled (suc k) (b ∷ text) short = ap (λ l. b ∷ l) (take-filled k text (omega (arith, short)))
 
+-- bytes that begin with a text are written, and then a 0 after its own
+pub text-more : (block wide text : List ℕ) (end k n : ℕ) → n ≡ length text → n ≤ k → end + n < length block → end + k ≤ length block → length wide ≡ k → take n wide ≡ text
+    → take (end + n + 1) (set (put_mid end k block wide) (end + n) 0) ≡ take end block ++ text_bytes text
+text-more block wide text end k n n_is short room inside wide_is text_is =
+    let whole = put_mid end k block wide in
+    let back = drop k (drop end block) in
+    let front_size : length (take end block) ≡ end = omega (arith, length-take end block, inside) in
+    let zero_in : end + n < length whole =
+    omega (arith, length-append (take end block) (wide ++ back), length-append wide back, length-drop k (drop end block), length-drop end block, front_size, wide_is, inside, room) in
+    let kept : take (end + n) whole ≡ take end block ++ text =
+    ap (λ i. take (i + n) whole) (sym front_size) ∙ take-append-add (take end block) (wide ++ back) n ∙ ap (λ l. take end block ++ l) (take-append-le n wide back (omega (arith, short, wide_is)) ∙ text_is) in
+    take-set_at whole (end + n) (end + n + 1) 0 (omega arith) zero_in ∙ ap (λ l. l ++ 0 ∷ []) kept ∙ append_assoc (take end block) text (0 ∷ [])
+
 -- a text is written as eight bytes, and then a 0 after its own
 pub block-more : (block eight text : List ℕ) (end k n : ℕ) → end + 9 ≤ length block → k ≡ 8 → eight ≡ filled 8 text → length text ≤ 8 → n ≡ length text
     → take (end + n + 1) (set (put_mid end k block eight) (end + n) 0) ≡ take end block ++ text_bytes text
 block-more block eight text end k n room k_is eight_is short n_is =
-    let whole = put_mid end k block eight in
-    let back = drop k (drop end block) in
-    let size : length eight ≡ 8 = ap length eight_is ∙ length-filled 8 text in
-    let front_size : length (take end block) ≡ end = omega (arith, length-take end block, room) in
-    let inside : end + n < length whole =
-    omega (arith, length-append (take end block) (eight ++ back), length-append eight back, length-drop k (drop end block), length-drop end block, front_size, size, k_is, room, short, n_is) in
-    let text_is : take n (eight ++ back) ≡ text =
-    take-append-le n eight back (omega (arith, size, short, n_is)) ∙ ap (take n) eight_is ∙ rw n_is (take-filled 8 text short) in
-    let kept : take (end + n) whole ≡ take end block ++ text =
-    ap (λ i. take (i + n) whole) (sym front_size) ∙ take-append-add (take end block) (eight ++ back) n ∙ ap (λ l. take end block ++ l) text_is in
-    take-set_at whole (end + n) (end + n + 1) 0 (omega arith) inside ∙ ap (λ l. l ++ 0 ∷ []) kept ∙ append_assoc (take end block) text (0 ∷ [])
+    text-more block eight text end k n n_is (omega (arith, k_is, short, n_is)) (omega (arith, room, short, n_is)) (omega (arith, room, k_is)) (ap length eight_is ∙ length-filled 8 text ∙ sym k_is)
+    (ap (take n) eight_is ∙ rw n_is (take-filled 8 text short))
 
 -- as many more items as a part has
 pub flat_map-part : {X : Type 0} (f : X → List ℕ) (xs : List X) (at count k : ℕ) (initial old new : List ℕ) → k ≡ count → new ≡ old ++ flat_map f (take k (drop at xs)) → old ≡ initial ++ flat_map f (take at xs) → new ≡ initial ++ flat_map f (take (at + count) xs)

@@ -14,13 +14,13 @@ use crate::lengths::encoded_length;
 use byteorder::{ByteOrder, LittleEndian};
 use q_values::{
     Arena, Atom, Column, Element, Form, Kind, NoMemory, ShortSymbol, Sym, Symbols, TableValue,
-    Value, Values, Vector,
+    Value, Values, Vector, copy_to_front,
 };
 
 // How many short symbols are written at a time.
 const SYMBOLS_AT_ONCE: usize = 64;
 
-// The most bytes that they take: eight and a 0 for each.
+// How many bytes of symbols are written at a time: so many short ones take eight bytes and a 0 each.
 const BYTES_AT_ONCE: usize = 576;
 
 /// A type byte, the attribute byte 0 and a count.
@@ -133,13 +133,47 @@ fn put_short_symbols(out: &mut Vec<u8>, symbols: &[ShortSymbol]) -> Result<(), N
     Ok(())
 }
 
+// Writes the symbols from the index `from` on at the front of the block, each with the 0 that ends it, as many as it holds.
+// Returns the index of the next one, and how many bytes they take.
+fn fill_with_texts(block: &mut [u8; BYTES_AT_ONCE], symbols: &Arena, from: usize) -> (usize, usize)
+    requires { from ≤ length symbols.now }
+    ensures next { from ≤ result.0 × result.0 ≤ length symbols.now }
+    ensures within { result.1 ≤ 576 }
+    ensures value { flat_map text_bytes (take result.0 symbols.now)
+        ≡ flat_map text_bytes (take from symbols.now) ++ take result.1 block.new }
+{
+    let mut next = from;
+    let mut end = 0;
+    while next < symbols.len() {
+        let text = symbols.at(next);
+        if text.len() >= BYTES_AT_ONCE - end {
+            break;
+        }
+        copy_to_front(&mut block[end..], text);
+        end += text.len();
+        block[end] = 0;
+        end += 1;
+        next += 1;
+    }
+    (next, end)
+}
+
 #[tactic(auto, using(crate::proofs::WritingLemmas::begins))]
 fn put_texts(out: &mut Vec<u8>, symbols: &Arena) -> Result<(), NoMemory>
     ensures ok { OnOk result (out.new.items ≡ out.old.items ++ flat_map text_bytes symbols.now) }
     ensures err { OnErr result (Begins out.old.items out.new.items) }
 {
-    for i in 0..symbols.len() {
-        put_text(out, symbols.at(i))?;
+    let mut block = [0u8; BYTES_AT_ONCE];
+    let mut at = 0;
+    while at < symbols.len() {
+        let (next, end) = fill_with_texts(&mut block, symbols, at);
+        if next > at {
+            out.extend_from_slice(&block[..end])?;
+            at = next;
+        } else {
+            put_text(out, symbols.at(at))?;
+            at += 1;
+        }
     }
     Ok(())
 }

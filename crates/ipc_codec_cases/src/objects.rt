@@ -108,3 +108,20 @@ fn many_symbols(rt: HostRuntime) {
     assert!(rt; symbols_are_kept(&rt, rt.alloc(), b"ninebytes\0"));
     assert!(rt; symbols_are_kept(&rt, rt.alloc(), b"more than eight bytes\0"));
 }
+
+// A text of this many bytes, and the 0 that ends it.
+fn ended_text(rt: &impl Abort, alloc: Global, count: usize) -> Vec<u8> {
+    let mut out = Vec::new(alloc);
+    out.resize(count, b'x').expect(rt, "memory");
+    out.push(0).expect(rt, "memory");
+    out
+}
+
+// Symbols are written a block of 576 bytes at a time, and one that no block holds is written alone.
+#[test]
+fn symbols_as_long_as_a_block(rt: HostRuntime) {
+    for count in 573..579 {
+        let last = ended_text(&rt, rt.alloc(), count);
+        assert!(rt; symbols_are_kept(&rt, rt.alloc(), &last));
+    }
+}

@@ -10,7 +10,7 @@ ghost use Rattle.std.specs.Ordering.{nat_cmp};
 ghost use Rattle.std.specs.Cmp.Lexicographic.{slice_cmp};
 ghost use Rattle.q_values.specs.Arena.{EndsAscend, IsPiece, IsPart, start_of, moved, lowered, with_head};
 
-use crate::copies::{LEAST_IN_PIECES, MOST_IN_PIECES, append_in_pieces};
+use crate::copies::{MOST_OF_SHORT, append_short};
 use crate::order::order_of_items;
 use crate::refusal::NoMemory;
 use crate::short::{ShortSymbol, bytes_in};
@@ -102,20 +102,18 @@ impl Arena {
         ensures err { OnErr result (self.new ≡ self.old) }
     {
         let start = self.bytes.len();
-        let is_usual = symbol.len() >= LEAST_IN_PIECES
-            && symbol.len() <= MOST_IN_PIECES
-            && start <= u32::MAX as usize - MOST_IN_PIECES;
-        let has_room = symbol.len() <= self.bytes.capacity() - start
+        let is_usual = symbol.len() <= MOST_OF_SHORT && start <= u32::MAX as usize - MOST_OF_SHORT;
+        let has_room = MOST_OF_SHORT <= self.bytes.capacity() - start
             && self.ends.len() < self.ends.capacity();
         if !(is_usual && has_room) {
             return self.push_growing(symbol);
         }
-        append_in_pieces(&mut self.bytes, symbol);
+        append_short(&mut self.bytes, symbol);
         self.ends.push_reserved((start + symbol.len()) as u32);
         Ok(())
     }
 
-    // A push that makes room first, or that is of a symbol of an unusual length.
+    // A push that makes room first, or of a symbol of more than 32 bytes.
     #[cold]
     #[inline(never)]
     fn push_growing(&mut self, symbol: &[u8]) -> Result<(), NoMemory>

@@ -40,6 +40,7 @@ mod vector;
 pub use arena::Arena;
 pub use atom::{Atom, Element};
 pub use column::Column;
+pub use copies::copy_to_front;
 pub use kind::{ByteKind, IntegerKind, Kind, LongKind, Storage};
 pub use limits::Limits;
 pub use refusal::{NoMemory, VectorRefusal};
